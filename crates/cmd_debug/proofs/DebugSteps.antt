@@ -1,5 +1,5 @@
 -- A command that holds a session performs its program, since its parts do.
-use Rattle.std.proofs.Common.{◌≡◌, ℕ, List, Result, Ok, Err, sym, subst}
+use Rattle.std.proofs.Common.{◌≡◌, ℕ, List, Result, Ok, Err, subst}
 use Rattle.std.specs.Prelude.{None}
 use Rattle.m36_world.specs.Seen.{Seen}
 use Rattle.m36_model.specs.Store.{State}
@@ -10,7 +10,7 @@ use Rattle.m36_super.specs.SuperFields.{SuperFields}
 use Rattle.m36_reading.specs.declared.status.Status.{Status}
 use Rattle.m36_reading.specs.declared.status.Status.TheVariants.{NoMemory}
 use Rattle.m36_program.specs.Performs.{Performs}
-use Rattle.m36_program.specs.Program.{some, wants}
+use Rattle.m36_program.specs.Program.{wants}
 use Rattle.m36_program.proofs.Performing.{performs_some, performs_wants, performs_no_memory, performs_then, performs_stop}
 use Rattle.m36_booted.specs.Folder.{FolderFields}
 use Rattle.m36_booted.specs.Systems.{IsFresh}

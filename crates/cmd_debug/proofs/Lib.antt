@@ -1,3 +1,4 @@
-pub mod SessionEnds
 pub mod DebugSteps
-pub mod Bridge
+pub mod DebugCalls
+pub mod FolderText
+pub mod DebugText

@@ -1,3 +1,4 @@
 pub mod Held
-pub mod Sessions
 pub mod DebugProgram
+pub mod Needs
+pub mod Sessions

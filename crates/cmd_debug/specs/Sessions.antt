@@ -1,170 +1,162 @@
--- Which answers a session may give, and what is written of it for each way in which it ends.
-use Rattle.std.specs.Prelude.{ℕ, ◌≡◌, ⊤, ◌⊎◌, List, ◌++◌, None, Result, Ok, Err}
-use Rattle.m36_outside.specs.SinkState.{SinkState}
+-- What a call of `debug FILE` and of `debug` is: it reads the image or the folder, and then holds a
+-- session over the machine. And that calls over the same files and the same bytes of input have one
+-- text.
+use Rattle.std.specs.Prelude.{ℕ, ◌≡◌, ◌⊎◌, List, ◌++◌, None, Some, Result, Err}
+use Rattle.std.specs.List.{flat_map}
+use Rattle.m36_outside.specs.Files.{Files}
+use Rattle.m36_outside.specs.Passing.{joined}
+use Rattle.m36_outside.specs.Written.{GrewWithin}
+use Rattle.m36_world.specs.Logs.{read_of}
+use Rattle.m36_world.specs.Seen.{Seen}
+use Rattle.m36_world.specs.declared.event.Event.{Event}
 use Rattle.m36_model.specs.Store.{State}
-use Rattle.m36_reading.specs.declared.status.Code.TheVariants.{S1}
+use Rattle.m36_super.specs.BootSays.{IsBooted}
+use Rattle.m36_super.specs.SuperFields.{SuperFields}
+use Rattle.m36_super.specs.TurnLaws.{IsPlainTurn}
 use Rattle.m36_reading.specs.declared.status.Status.{Status}
-use Rattle.m36_reading.specs.declared.status.Status.TheVariants.{Done}
-use Rattle.m36_reading.specs.declared.status.Status.TheVariants as status
-use Rattle.m36_reading.specs.Answers.{Answer, answer_with, status_of}
-use Rattle.m36_reading.specs.Reading.{Reading, Early}
-use Rattle.m36_reading.specs.Readers.{refused}
-use Rattle.m36_reading.specs.Asking.{Asked, Came, Comes}
-use Rattle.m36_reading.specs.Puts.{IsNotPut}
-use Rattle.m36_reading.specs.Outside.{Outside, IsIdle}
-use Rattle.m36_reading.specs.Ends.{End, Answered, Cut, Unread, Starved, Unasked}
-use Rattle.m36_reading.specs.Doing.{Kind, IsWrittenBy}
-use Rattle.m36_ran.specs.Ran.{state_reads}
-use Rattle.m36_booted.specs.Folder.{FolderFields, folder_reads}
-use Rattle.m36_debug.specs.declared.fault.SessionFault.{SessionFault}
-use Rattle.m36_debug.specs.declared.fault.SessionFault.TheVariants as fault
-use Rattle.m36_debug.specs.SessionProgram.{stdin_name}
-use Rattle.m36_debug.specs.SessionSays.{WroteBy}
-use Rattle.cmd_debug.specs.Held.{Talk, IsUntaken, HoldsImage, HoldsFolder}
+use Rattle.m36_reading.specs.declared.status.Status.TheVariants.{NoMemory}
+use Rattle.m36_program.specs.Alike.{IsEnd, OneText}
+use Rattle.m36_program.specs.Goes.{Goes}
+use Rattle.m36_program.specs.Objects.{PerformsOver}
+use Rattle.m36_program.specs.Performs.{Performs}
+use Rattle.m36_program.specs.Program.{Program}
+use Rattle.m36_program.specs.Reader.{ReadBy}
+use Rattle.m36_program.specs.Trail.{FilesKept, InputKept, output_of, pieces_of}
+use Rattle.m36_booted.specs.Folder.{FolderFields}
+use Rattle.m36_debug.specs.LinesTaken.{IsFirstPart}
+use Rattle.m36_debug.specs.Session.{Turning}
+use Rattle.m36_debug.specs.SessionProgram.{talking}
+use Rattle.m36_debug.specs.SessionText.{IsHeld, EachTurn}
+use Rattle.cmd_image.specs.ImageProgram.{image_state}
+use Rattle.cmd_folder.specs.FolderProgram.{folder_given}
+use Rattle.cmd_debug.specs.DebugProgram.{debug_image, debug_folder}
+use Rattle.cmd_debug.specs.Held.{new_history, past_turning, super_turning}
 
--- A property of the result of a session and of the lines that its events write.
-abbrev pub Told : Type 1
-Told = Result (Unit {0}) SessionFault → List (List ℕ) → Type 0
+-- No file changed, no input was requested, and nothing was put.
+pub record NothingDone (old new : Seen) : Type 0 where
+  pub files : FilesKept old new
+  pub input : InputKept old new
+  pub output : output_of new ≡ output_of old
 
--- ---- answers
+-- ---- a session, after what was read
 
--- S1: there is more input than a session takes
-abbrev pub too_long : List ℕ → Status
-too_long name = status_of (refused name S1 0)
+-- Memory ran out before the session.
+pub record IsNotHeld (result : Result (Unit {0}) Status) (old new : Seen) : Type 0 where
+  pub result_is : result ≡ Err NoMemory
+  pub nothing : NothingDone old new
 
--- the status of the command for each result of a session; the second argument is the name of the
--- standard input
-abbrev pub session_status : Result (Unit {0}) SessionFault → List ℕ → Status
-session_status (Ok done) name = Done
-session_status (Err fault.ReadFault) name = status.ReadFault
-session_status (Err fault.WriteFault) name = status.WriteFault
-session_status (Err fault.TooLong) name = too_long name
-session_status (Err fault.NoMemory) name = status.NoMemory
+-- A session over a machine was held, or memory ran out before it.
+abbrev pub IsHeldOver :
+    {M : Type 0} → Turning M → M → Result (Unit {0}) Status → Seen → Seen → Type 0
+IsHeldOver o m result old new = IsHeld o m result old new ⊎ IsNotHeld result old new
 
--- An answer is that of a session with this result: its lines, each in one piece, and the status.
-pub record IsAnswerOf (Holds : Told) (ended : Result (Unit {0}) SessionFault) (status : Status)
-    (due : Answer) : Type 0 where
-  pub lines : List (List ℕ)
-  pub holds : Holds ended lines
-  pub answer : due ≡ answer_with lines status
+-- over the machine of an image
+abbrev pub HoldsImage : State (List ℕ) → Result (Unit {0}) Status → Seen → Seen → Type 0
+HoldsImage state result old new = IsHeldOver past_turning (new_history state) result old new
 
--- An answer of a complete session: it reached `quit` or the end of its input; or the input was too
--- long, and no whole line within the maximum is `quit`.
-abbrev pub IsSessionDue : Told → Answer → Type 0
-IsSessionDue Holds due =
-    IsAnswerOf Holds (Ok tt) (session_status (Ok tt) stdin_name) due
-    ⊎ IsAnswerOf Holds (Err fault.TooLong) (session_status (Err fault.TooLong) stdin_name) due
-
--- An answer of a session whose output could not be written.
-abbrev pub IsSessionBegun : Told → Answer → Type 0
-IsSessionBegun Holds due =
-    IsAnswerOf Holds (Err fault.WriteFault) (session_status (Err fault.WriteFault) stdin_name) due
-
--- All lines of a session with this result are written. The status of the call is left open.
-abbrev pub IsWritten : Told → Result (Unit {0}) SessionFault → Outside → Outside → Type 0
-IsWritten Holds ended old new =
-    IsWrittenBy (IsAnswerOf Holds ended (session_status ended stdin_name)) old new
-
--- Memory ran out before the session: nothing was taken or written.
-pub record IsNotHeld (talk : Talk) (old new : Outside) : Type 0 where
-  pub idle : IsIdle old new
-  pub untaken : IsUntaken talk
-
--- Memory ran out before the session, or in it. Then the answers given until then are written.
-abbrev pub SessionWants : Told → Talk → Outside → Outside → Type 0
-SessionWants Holds talk old new =
-    IsNotHeld talk old new ⊎ IsWritten Holds (Err fault.NoMemory) old new
-
--- The input could not be read. The answers given until then are written.
-abbrev pub SessionFails : Told → Outside → Outside → Type 0
-SessionFails Holds old new = IsWritten Holds (Err fault.ReadFault) old new
-
--- The kind of a session over an object d of any type. `Holds d` is what holds of a session over d.
-abbrev pub session_kind : {D : Type 0} → (D → Told) → Talk → Kind D
-session_kind Holds talk = record {
-  IsDue = λ d. IsSessionDue (Holds d);
-  IsBegun = λ d. IsSessionBegun (Holds d);
-  Wants = λ d. SessionWants (Holds d) talk;
-  Fails = λ d. SessionFails (Holds d);
-}
-
-abbrev pub image_kind : Talk → Kind (State (List ℕ))
-image_kind talk = session_kind (HoldsImage talk) talk
-
-abbrev pub folder_kind : Talk → Kind FolderFields
-folder_kind talk = session_kind (λ given. HoldsFolder talk given.lib) talk
-
--- The count of input faults is unchanged, unless the input could not be read.
-abbrev pub InputStands : End → Talk → Type 0
-InputStands Unread talk = ⊤
-InputStands Answered talk = talk.after.faults ≡ talk.before.faults
-InputStands Cut talk = talk.after.faults ≡ talk.before.faults
-InputStands Starved talk = talk.after.faults ≡ talk.before.faults
-InputStands Unasked talk = talk.after.faults ≡ talk.before.faults
-
--- ---- what is put
-
--- The lines of a session with this result are put, or a prefix of them if the output failed.
-pub record PutsSession (Holds : Told) (ended : Result (Unit {0}) SessionFault) (old new : SinkState)
+-- Over the system that a folder boots to, of which there is at most one. Which page is evicted from
+-- a frame is left open.
+pub record HoldsFolder (given : FolderFields) (result : Result (Unit {0}) Status) (old new : Seen)
     : Type 0 where
-  pub lines : List (List ℕ)
-  pub holds : Holds ended lines
-  pub puts : WroteBy ended old new lines
+  pub system : SuperFields
+  pub booted : IsBooted given.lib system
+  pub held : IsHeldOver super_turning system result old new
 
--- They are put, and the call returns this status.
-pub record PutsWith (Holds : Told) (ended : Result (Unit {0}) SessionFault) (status : Status)
-    (result : Status) (old new : SinkState) : Type 0 where
-  pub is : result ≡ status
-  pub puts : PutsSession Holds ended old new
+-- ---- a call
 
--- Nothing was taken or put.
-pub record PutsNone (talk : Talk) (old new : SinkState) : Type 0 where
-  pub none_put : IsNotPut old new
-  pub untaken : IsUntaken talk
+-- A value was read, and the call continued with it as `Holds` says. The session began at `between`,
+-- where files, input and output were as at the beginning of the call.
+pub record ReadAndHeld {A : Type 0} (reader : Program talking A)
+    (Holds : A → Result (Unit {0}) Status → Seen → Seen → Type 0)
+    (result : Result (Unit {0}) Status) (old new : Seen) : Type 0 where
+  pub value : A
+  pub read : ReadBy reader value old new
+  pub between : Seen
+  pub nothing : NothingDone old between
+  pub held : Holds value result between new
 
--- what is put, for each way to end
-abbrev pub PutsBy : Told → End → Status → Talk → SinkState → SinkState → Type 0
-PutsBy Holds Answered result talk old new =
-    PutsWith Holds (Ok tt) (session_status (Ok tt) stdin_name) result old new
-    ⊎ PutsWith Holds (Err fault.TooLong) (session_status (Err fault.TooLong) stdin_name) result old
-    new
-PutsBy Holds Cut result talk old new = PutsSession Holds (Err fault.WriteFault) old new
-PutsBy Holds Unread result talk old new = PutsSession Holds (Err fault.ReadFault) old new
-PutsBy Holds Starved result talk old new =
-    PutsNone talk old new ⊎ PutsSession Holds (Err fault.NoMemory) old new
-PutsBy Holds Unasked result talk old new = ⊥
+-- The reader ended the call: it refused a file or could not read it, or memory ran out. Its reads
+-- are those of the call.
+pub record IsNotRead {A : Type 0} (reader : Program talking A) (result : Result (Unit {0}) Status)
+    (old new : Seen) : Type 0 where
+  pub status : Status
+  pub result_is : result ≡ Err status
+  pub events : List Event
+  pub goes : Goes reader events (Err status)
+  pub logged : new.reads ≡ old.reads ++ flat_map read_of events
+  pub nothing : NothingDone old new
 
--- ---- what takes input
+-- one of the two
+abbrev pub IsDebugCall :
+    {A : Type 0} → Program talking A → (A → Result (Unit {0}) Status → Seen → Seen → Type 0)
+    → Result (Unit {0}) Status → Seen → Seen → Type 0
+IsDebugCall reader Holds result old new =
+    ReadAndHeld reader Holds result old new ⊎ IsNotRead reader result old new
 
--- A session ended, and the call returns the status of its result.
-pub record IsSessionEnd (Holds : Told) (result : Status) : Type 0 where
-  pub ended : Result (Unit {0}) SessionFault
-  pub lines : List (List ℕ)
-  pub holds : Holds ended lines
-  pub status : result ≡ session_status ended stdin_name
+abbrev pub IsImageCall : List ℕ → Result (Unit {0}) Status → Seen → Seen → Type 0
+IsImageCall name result old new = IsDebugCall (image_state name) HoldsImage result old new
 
--- A session was held over the value that the reading yields by the answers of the folder.
-pub record IsSessionOver {D : Type 0} (Holds : D → Told) (p : Reading (Early D)) (result : Status)
-    (before after : List Asked) : Type 0 where
-  pub asked : List Asked
-  pub passed : after ≡ before ++ asked
-  pub given : D
-  pub came : Comes p asked (Came (Ok given))
-  pub session : IsSessionEnd (Holds given) result
+abbrev pub IsFolderCall : Result (Unit {0}) Status → Seen → Seen → Type 0
+IsFolderCall result old new = IsDebugCall (folder_given None) HoldsFolder result old new
 
--- Only such a session takes input. None is taken if a file is refused or cannot be read, or if
--- memory runs out before the session.
-abbrev pub TakesInput :
-    {D : Type 0} → (D → Told) → Reading (Early D) → Status → Talk → List Asked → List Asked
-    → Type 0
-TakesInput Holds p result talk before after =
-    IsUntaken talk ⊎ IsSessionOver Holds p result before after
+-- Each call that performs the program of a command is such a call, over a world and over a folder,
+-- an input and an output. So the lines that were answered are those of the bytes that were taken,
+-- and only a session takes input or puts output.
+pub record DebugLaw : Type 0 where
+  pub image :
+      (name : List ℕ) (result : Result (Unit {0}) Status) (old new : Seen)
+      → Performs (debug_image name) result old new → IsImageCall name result old new
+  pub folder :
+      (result : Result (Unit {0}) Status) (old new : Seen)
+      → Performs debug_folder result old new → IsFolderCall result old new
+  pub image_over :
+      (name : List ℕ) (result : Result (Unit {0}) Status) (old new : Seen)
+      → PerformsOver (debug_image name) result old new → IsImageCall name result old new
+  pub folder_over :
+      (result : Result (Unit {0}) Status) (old new : Seen)
+      → PerformsOver debug_folder result old new → IsFolderCall result old new
 
-abbrev pub ImageTakes : List ℕ → Status → Talk → List Asked → List Asked → Type 0
-ImageTakes name result talk before after =
-    TakesInput (HoldsImage talk) (state_reads name) result talk before after
+-- ---- one text
 
-abbrev pub FolderTakes : Status → Talk → List Asked → List Asked → Type 0
-FolderTakes result talk before after =
-    TakesInput (λ (given : FolderFields). HoldsFolder talk given.lib) (folder_reads None) result
-    talk before after
+-- A call of `debug` in whose session each turn is plain: it executes no ABSA and no LDBR, and does
+-- not run out of memory.
+pub record IsPlainCall (result : Result (Unit {0}) Status) (old new : Seen) : Type 0 where
+  pub given : FolderFields
+  pub read : ReadBy {may = talking} (folder_given None) given old new
+  pub between : Seen
+  pub nothing : NothingDone old between
+  pub system : SuperFields
+  pub booted : IsBooted given.lib system
+  pub held : IsHeld super_turning system result between new
+  pub plain : EachTurn IsPlainTurn held.says.session.events
+
+-- Two calls of `debug FILE` over the same files and the same bytes of input, whatever the pieces in
+-- which these come. The second ends as the program says (`IsEnd`). The pieces that the first puts
+-- are a prefix of those of the second, and what is written grows by a prefix of their bytes. If the
+-- first also ends as the program says, the pieces and the results are equal.
+pub record DebugTextLaw : Type 0 where
+  pub one_text :
+      (name : List ℕ) (files : Files) (bytes : List ℕ) (result end : Result (Unit {0}) Status)
+      (old new old' new' : Seen)
+      → IsEnd end → old.files ≡ Some files → old'.files ≡ Some files
+      → old.left ≡ Some bytes → old'.left ≡ Some bytes
+      → (one : Performs (debug_image name) result old new)
+      (other : Performs (debug_image name) end old' new')
+      → OneText (pieces_of one.events) (pieces_of other.events) result end
+  pub written :
+      (name : List ℕ) (files : Files) (bytes : List ℕ) (result end : Result (Unit {0}) Status)
+      (old new old' new' : Seen)
+      → IsEnd end → old.files ≡ Some files → old'.files ≡ Some files
+      → old.left ≡ Some bytes → old'.left ≡ Some bytes
+      → Performs (debug_image name) result old new
+      → (other : Performs (debug_image name) end old' new')
+      → GrewWithin old.written new.written (joined (pieces_of other.events))
+  -- The same of `debug` over a folder, if each turn of the session of the second call is plain:
+  -- what the first puts is a prefix of what this session writes.
+  pub folder :
+      (files : Files) (bytes : List ℕ) (result end : Result (Unit {0}) Status)
+      (old new old' new' : Seen)
+      → IsEnd end → old.files ≡ Some files → old'.files ≡ Some files
+      → old.left ≡ Some bytes → old'.left ≡ Some bytes
+      → (one : Performs debug_folder result old new) (other : IsPlainCall end old' new')
+      → IsFirstPart (pieces_of one.events) other.held.says.lines

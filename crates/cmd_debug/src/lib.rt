@@ -17,20 +17,24 @@
 //! have the order of the events: a reader of a pipe sees each answer before the program waits for
 //! more input.
 //!
-//! [`image_session`] and [`folder_session`] perform them over a folder, an input and an output of
-//! the caller. These have no common clock, so these contracts do not say whether an answer was put
-//! before the next piece was taken. The same calls satisfy `Does` by the reading and the kind of
-//! the command. Only the session takes input: none is taken if a file is refused or cannot be read,
-//! or if memory runs out before the session (clauses `takes`).
+//! [`law_debug`] says what each call is that performs one of the programs (`specs/Sessions.antt`).
+//! The reader gives a value, and a session is held over its machine: the lines that are answered
+//! are those of the bytes that were taken, and what is put is what the events of the session write.
+//! No input is taken and nothing is put if a file is refused or cannot be read, or if memory runs
+//! out before the session.
 //!
-//! `specs/Held.antt` says what a session is held over, and `specs/Sessions.antt` which answers a
-//! session may give. Sessions are this simulator's own; the machine is that of the Multics
-//! Processor Manual AL39.
+//! [`law_debug_text`] says that the text of `debug FILE` follows from the files and from the bytes
+//! of the input, whatever the pieces in which these come. That of `debug` over a folder does so
+//! until an ABSA or LDBR is executed. `specs/Needs.antt` says what a session needs to end with
+//! Done.
+//!
+//! `specs/Held.antt` says what a session is held over. Sessions are this simulator's own; the
+//! machine is that of the Multics Processor Manual AL39.
 #![tactic(auto)]
 
 pub mod answering;
-pub mod calling;
 mod ending;
+pub mod laws;
 
 pub use answering::{debug_folder, debug_image};
-pub use calling::{folder_session, image_session};
+pub use laws::{law_debug, law_debug_text};

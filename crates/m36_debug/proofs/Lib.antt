@@ -12,5 +12,8 @@ pub mod SessionSteps
 pub mod SessionLaws
 pub mod Replied
 pub mod SessionBridge
+pub mod FirstLines
+pub mod TextLaws
+pub mod SessionText
 pub mod HeldLaws
 pub mod Unreading

@@ -407,12 +407,13 @@ tells o m before (suc left) (suc taken) rest m1 begun sitting written events res
 -- ---- a call
 
 -- A session ended, and what its events say was written, or a prefix of it.
-pub record Held {M : Type 0} (o : Turning M) (m : M) (result : Result (Unit {0}) Status) (old new : Seen) : Type 0 where
+pub record Held {M : Type 0} (o : Turning M) (m : M) (result : Result (Unit {0}) Status) (old new : Seen) (events : List Event) : Type 0 where
   pub ended : Result (Unit {0}) SessionFault
   pub result_is : result ≡ ended_by ended
   pub later : M
   pub lines : List (List ℕ)
   pub session : IsSession o ended m later (input_by old) (input_by new) lines
+  pub puts : Puts (last_put_of ended) [] events lines
   pub wrote : WroteBy ended (output_of old) (output_of new) lines
 
 wrote_so :
@@ -427,7 +428,7 @@ wrote_so Failed events lines old new puts put =
 
 pub session_held :
     {M : Type 0} (o : Turning M) (m : M) (result : Result (Unit {0}) Status) (old new : Seen)
-    → Performs (session o m) result old new → Held o m result old new
+    → (performs : Performs (session o m) result old new) → Held o m result old new performs.events
 unfolding session
 session_held o m result old new performs =
     let ended = tells o m (input_by old) bytes_limit 0 bytes_limit m [] new_sitting [] performs.events result old new refl
@@ -438,6 +439,7 @@ session_held o m result old new performs =
       later = ended.later;
       lines = ended.lines;
       session = ended.session;
+      puts = ended.puts;
       wrote = wrote_so (last_put_of ended.ended) performs.events ended.lines (output_of old) (output_of new) ended.puts
           (performs_text (session o m) result old new performs);
     }

@@ -13,3 +13,4 @@ pub mod Taking
 pub mod Replies
 pub mod SessionProgram
 pub mod StepLimit
+pub mod SessionText

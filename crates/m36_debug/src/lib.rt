@@ -24,9 +24,14 @@
 //! - `says`: the session as a whole (`specs/SessionSays.antt`). There is a list of session events
 //!   (`specs/Session.antt`) that leads from the machine before the call to the machine after it.
 //!   Its lines are lines of the bytes that were taken, and what was put is the texts of its events,
-//!   or a prefix of them if the output failed. By `proofs/SessionBridge.antt` each call that
-//!   performs the program is such a session, up to some machine.
+//!   or a prefix of them if the output failed.
 //! - `limit`: how many steps each line takes in such events.
+//!
+//! [`law_session`] states two laws of all calls that perform the program
+//! (`specs/SessionText.antt`). Each is a session as in `says`, up to some machine after it. And if
+//! each state of the machine has one turn and one answer to going back, the text of a session
+//! follows from the bytes of the input, whatever the pieces in which they come: a call puts a
+//! prefix of what any call with the same bytes puts that ends as the program says.
 //!
 //! A session event is a line that is taken, a turn of the machine, or going back. Each may follow
 //! the one before: a line is taken if the session waits for one, a turn is made if a command runs,
@@ -61,5 +66,5 @@ mod texts;
 pub mod turning;
 
 pub use fault::SessionFault;
-pub use laws::step_limit;
+pub use laws::{law_session, step_limit};
 pub use session::debug;

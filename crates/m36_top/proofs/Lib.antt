@@ -1,9 +1,5 @@
-pub mod WordLaws
-pub mod Performing
+pub mod Subjects
+pub mod TopCalls
 pub mod Programs
-pub mod NoSets
-pub mod Inputs
-pub mod YesPasses
-pub mod TopEnds
-pub mod ComesDone
-pub mod DueLaw
+pub mod CommandLaws
+pub mod WordLaws

@@ -1,58 +1,126 @@
--- The reading of each command: what it reads, and what it then has to do.
-use Rattle.std.specs.Prelude.{Bool, true, false, None}
-use Rattle.m36_reading.specs.Reading.{Reading, Early, mapped}
-use Rattle.m36_told.specs.Telling.{print_reads, alm_reads}
-use Rattle.m36_told.specs.Binding.{bind_reads}
-use Rattle.m36_told.specs.Accesses.{user_reads}
-use Rattle.m36_ran.specs.Ran.{state_reads}
-use Rattle.cmd_procs.specs.Scheduled.{procs_reads}
-use Rattle.m36_booted.specs.Folder.{folder_reads}
-use Rattle.cmd_make.specs.Making.{make_reads}
+-- The commands, one line each: what each may do, what it reads, what it needs to end with Done, and
+-- what its line `audit yes` promises.
+use Rattle.std.specs.Prelude.{ℕ, ⊤, List, ◌++◌, Option, Some, None, Result, Ok, Err}
+use Rattle.m36_model.specs.Store.{State}
+use Rattle.m36_procs.specs.ProcsFields.{ProcsFields}
+use Rattle.m36_reading.specs.declared.refusal.Refusal.{Refusal}
+use Rattle.m36_reading.specs.declared.setting.Set.{Set}
+use Rattle.m36_program.specs.Program.{May, quiet, Program}
+use Rattle.m36_files.specs.Deciding.{decides}
+use Rattle.m36_files.specs.Writing.{writing}
+use Rattle.m36_told.specs.Told.{ToldFields}
 use Rattle.m36_ran.specs.declared.command.ImageCommand.TheVariants as image
+use Rattle.m36_ran.specs.AuditText.{yes_line}
+use Rattle.m36_ran.specs.Ran.{PassesAudit}
+use Rattle.m36_booted.specs.Folder.{FolderFields}
+use Rattle.m36_booted.specs.Promise.{PassesBooted}
+use Rattle.m36_debug.specs.SessionProgram.{talking}
+use Rattle.cmd_image.specs.ImageProgram.{image_state}
+use Rattle.cmd_image.specs.Needs.{ImageNeeds}
+use Rattle.cmd_tools.specs.ToolPrograms.{print_report, access_report, alm_report, bind_report}
+use Rattle.cmd_folder.specs.FolderProgram.{folder_given}
+use Rattle.cmd_folder.specs.Needs.{FolderNeeds}
+use Rattle.cmd_procs.specs.ProcsProgram.{procs_of}
+use Rattle.cmd_procs.specs.Needs.{ScheduleNeeds}
+use Rattle.cmd_procs.specs.Scheduled.{PassesJoint}
+use Rattle.cmd_make.specs.Making.{sets_of}
+use Rattle.cmd_make.specs.Made.{PassesMade, head_of}
+use Rattle.cmd_make.specs.Needs.{MadeNeeds}
+use Rattle.cmd_debug.specs.Needs.{SessionNeeds}
 use Rattle.m36_top.specs.declared.command.Command.{Command}
 use Rattle.m36_top.specs.declared.command.Command.TheVariants.{Bare, Audit, Booted, Procs}
 use Rattle.m36_top.specs.declared.command.Command.TheVariants.{Access, Print, Alm, Bind}
 use Rattle.m36_top.specs.declared.command.Command.TheVariants.{DebugFolder, DebugImage, Make}
-use Rattle.m36_top.specs.Dues.{Due, Told, ImageSession, FolderSession, Made}
-use Rattle.m36_top.specs.Dues.{on_image, on_folder, on_procs}
 
-unfoldable pub reads : Command → Reading (Early Due)
-reads (Bare file run) = mapped (on_image (image.Bare run)) (state_reads file)
-reads (Audit file) = mapped (on_image image.Audit) (state_reads file)
-reads (Booted command user) = mapped (on_folder command) (folder_reads user)
-reads (Procs file unaudited) = mapped (on_procs unaudited) (procs_reads file)
-reads (Access user) = mapped Told (user_reads user)
-reads (Print name) = mapped Told (print_reads name)
-reads (Alm files) = mapped Told (alm_reads files)
-reads (Bind files) = mapped Told (bind_reads files)
-reads DebugFolder = mapped FolderSession (folder_reads None)
-reads (DebugImage file) = mapped ImageSession (state_reads file)
-reads (Make seed) = mapped Made (make_reads seed)
+-- Only `alm`, `bind` and `make` write files. Only sessions take input.
+abbrev pub may_of : Command → May
+may_of (Bare file run) = quiet
+may_of (Audit file) = quiet
+may_of (Booted command user) = quiet
+may_of (Procs file unaudited) = quiet
+may_of (Access user) = quiet
+may_of (Print name) = quiet
+may_of (Alm files) = writing
+may_of (Bind files) = writing
+may_of DebugFolder = talking
+may_of (DebugImage file) = talking
+may_of (Make seed) = writing
 
--- Only `alm`, `bind` and `make` write files.
-abbrev pub writes_files : Command → Bool
-writes_files (Bare file run) = false
-writes_files (Audit file) = false
-writes_files (Booted command user) = false
-writes_files (Procs file unaudited) = false
-writes_files (Access user) = false
-writes_files (Print name) = false
-writes_files (Alm files) = true
-writes_files (Bind files) = true
-writes_files DebugFolder = false
-writes_files (DebugImage file) = false
-writes_files (Make seed) = true
+-- What a command makes of the files that it reads: a machine, a folder with which a system boots,
+-- processes with their schedule, or a report. `make` reads none: it makes files from the seed.
+abbrev pub Subject : Command → Type 0
+Subject (Bare file run) = State (List ℕ)
+Subject (Audit file) = State (List ℕ)
+Subject (Booted command user) = FolderFields
+Subject (Procs file unaudited) = ProcsFields
+Subject (Access user) = ToldFields
+Subject (Print name) = ToldFields
+Subject (Alm files) = ToldFields
+Subject (Bind files) = ToldFields
+Subject DebugFolder = FolderFields
+Subject (DebugImage file) = State (List ℕ)
+Subject (Make seed) = List Set
 
--- Only sessions take input.
-abbrev pub takes_input : Command → Bool
-takes_input (Bare file run) = false
-takes_input (Audit file) = false
-takes_input (Booted command user) = false
-takes_input (Procs file unaudited) = false
-takes_input (Access user) = false
-takes_input (Print name) = false
-takes_input (Alm files) = false
-takes_input (Bind files) = false
-takes_input DebugFolder = true
-takes_input (DebugImage file) = true
-takes_input (Make seed) = false
+-- the first part of each command, which reads files and yields its subject, or refuses a file
+abbrev pub reader_of : (command : Command) → Program (may_of command) (Subject command)
+reader_of (Bare file run) = image_state file
+reader_of (Audit file) = image_state file
+reader_of (Booted command user) = folder_given user
+reader_of (Procs file unaudited) = procs_of file
+reader_of (Access user) = access_report user
+reader_of (Print name) = print_report name
+reader_of (Alm files) = alm_report files
+reader_of (Bind files) = bind_report files
+reader_of DebugFolder = folder_given None
+reader_of (DebugImage file) = image_state file
+reader_of (Make seed) = decides (sets_of seed)
+
+-- What must hold of the subject for the command to end with Done, and for a session of the bytes
+-- that are left of the input, if these are known. Reports need nothing.
+abbrev pub Needs : (command : Command) → Option (List ℕ) → Subject command → Type 0
+Needs (Bare file run) left state = ImageNeeds (image.Bare run) state
+Needs (Audit file) left state = ImageNeeds image.Audit state
+Needs (Booted command user) left given = FolderNeeds command given
+Needs (Procs file unaudited) left procs = ScheduleNeeds unaudited procs
+Needs (Access user) left report = ⊤
+Needs (Print name) left report = ⊤
+Needs (Alm files) left report = ⊤
+Needs (Bind files) left report = ⊤
+Needs DebugFolder left given = SessionNeeds left
+Needs (DebugImage file) left state = SessionNeeds left
+Needs (Make seed) left sets = MadeNeeds sets
+
+-- ---- what `audit yes` promises
+
+-- what it promises of the subject; nothing if the command audits nothing
+abbrev pub Promised : (command : Command) → Subject command → Type 0
+Promised (Bare file run) state = PassesAudit state
+Promised (Audit file) state = PassesAudit state
+Promised (Booted command user) given = PassesBooted given.lib
+Promised (Procs file unaudited) procs = PassesJoint procs.state
+Promised (Access user) report = ⊤
+Promised (Print name) report = ⊤
+Promised (Alm files) report = ⊤
+Promised (Bind files) report = ⊤
+Promised DebugFolder given = ⊤
+Promised (DebugImage file) state = ⊤
+Promised (Make seed) sets = PassesMade sets
+
+-- The line `audit yes` of `make` follows the count of segments.
+abbrev pub yes_by : Result (List Set) Refusal → List ℕ
+yes_by (Ok sets) = head_of sets ++ yes_line
+yes_by (Err refusal) = yes_line
+
+-- the beginning of the output with which that is promised
+abbrev pub yes_of : Command → List ℕ
+yes_of (Bare file run) = yes_line
+yes_of (Audit file) = yes_line
+yes_of (Booted command user) = yes_line
+yes_of (Procs file unaudited) = yes_line
+yes_of (Access user) = yes_line
+yes_of (Print name) = yes_line
+yes_of (Alm files) = yes_line
+yes_of (Bind files) = yes_line
+yes_of DebugFolder = yes_line
+yes_of (DebugImage file) = yes_line
+yes_of (Make seed) = yes_by (sets_of seed)

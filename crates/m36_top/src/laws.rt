@@ -1,29 +1,22 @@
-//! Laws of required answers: how many there can be, and that some commands have one text.
+//! Laws of the commands.
 
-ghost use Rattle.m36_top.specs.DueLaw.{DueLaw};
-ghost use Rattle.cmd_image.specs.OneText.{ImageTextLaw};
-ghost use Rattle.cmd_procs.specs.OneText.{ProcsTextLaw};
-ghost use Rattle.cmd_tools.specs.OneText.{ToolTextLaw};
+ghost use Rattle.m36_top.specs.CommandLaws.{CommandLaws};
 
-/// How many answers can be required of words and files.
+/// What each command does with what it reads.
 ///
-/// If they boot or make no folder and hold no session, at most one answer is required, and it is
-/// not possible that none is. If all conditions of the audit hold of an image, it is the answer
-/// without findings, and otherwise one with some findings; the same holds of processes and the
-/// joint audit.
+/// If a file is refused, the command prints nothing and ends with that refusal, unless a call fails
+/// or memory runs out. An image has one list of findings, and so have processes. It is empty
+/// exactly if all conditions of the audit hold, and what is printed follows from it. A folder boots
+/// at most one system, and its runs make the same turns up to the first that executes ABSA or LDBR;
+/// if one run executes neither and ends with DIS, each run does. What `make` prints of a folder
+/// follows from the audit of the system that it boots. `debug` takes input only in a session over
+/// what it read.
 ///
-/// A folder boots at most one system, and its runs make the same turns up to the first that
-/// executes ABSA or LDBR. If one run executes neither and ends with DIS, each run does. What `make`
-/// prints of a folder follows from the audit of the system that it boots.
-pub fn law_due()
-    ensures { DueLaw }
-{}
-
-/// `bare FILE`, `audit FILE`, `procs FILE`, `print`, `access`, `alm` and `bind` have one text each:
-/// over the same files, what a call prints, however it ends, is a first part of what any call
-/// prints that ends as the program says, without a fault and without running out of memory.
-pub fn law_one_text()
-    ensures images { ImageTextLaw }
-    ensures processes { ProcsTextLaw }
-    ensures tools { ToolTextLaw }
+/// `bare FILE`, `audit FILE`, `audit`, `procs FILE`, `print`, `access`, `alm` and `bind` have one
+/// text each: over the same files, what a call prints, however it ends, is a first part of what any
+/// call prints that ends as the program says, without a fault and without running out of memory. So
+/// have `run` and `trace` if a run executes neither ABSA nor LDBR, and `debug FILE` over the same
+/// bytes of input.
+pub fn law_commands()
+    ensures { CommandLaws }
 {}

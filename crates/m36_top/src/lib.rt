@@ -26,57 +26,57 @@
 //!
 //! # What the call promises
 //!
-//! The names are those of the clauses of [`m36`]. They hold for all arguments: for every folder,
-//! input and output, those of the system too. Clauses by the files of the folder hold if the folder
-//! shows its files to the contract, as a folder in memory does.
+//! The clause `call` of [`m36`] is the record `TopCall` (`specs/TopCall.antt`); these are its parts
+//! and the other clauses. They hold for all arguments: for every folder, input and output, those of
+//! the system too.
 //!
-//! - `through`, `output`: only the files that the command asks for are read, one after another.
-//!   What is written and printed is a required answer, or a first part of one if the output or the
-//!   write of a file fails. It is the whole answer if the status is Done, BadFile, AuditNo,
-//!   MachineStop or Steps. Each line is printed as one piece. What may end the command is decided
-//!   in this order: words, files, image, audit, run.
-//! - The required answers are defined by the machine. Each trace line is the line of the defined
-//!   step of the state that the step before left, beginning with the state of the image. In a
-//!   booted folder each link service gives the pair of the search rules or its code, and each
-//!   console service the characters that the rules of access let it read.
-//! - `isolated`, `isolated_by_answers`: if the output of the call begins with the line `audit yes`
-//!   (with `make`, after its count of segments), all six conditions of the audit hold of the image,
-//!   and its tables isolate each ring from 1. That is: whatever programs run in that ring and
-//!   above, until a fault, a stop or a gate call no word outside the ring's write brackets changes,
-//!   and no word outside its read brackets affects a step. Of a booted folder the same holds in
-//!   every state of every run until an LDBR is executed, absent pages included. Of processes all
-//!   conditions of the joint audit hold, and they are isolated over every schedule.
-//! - `complete`, `read_cause`, `write_cause`, `sure`: ReadFault and WriteFault occur only after a
-//!   failure outside. Without one, a required answer is given, or memory runs out.
-//! - Memory may run out before anything is written or printed, while a file is written, after the
-//!   files of `make`, in a link service, or in a session. What was written and printed before
-//!   stays.
-//! - `done`: if also the files are accepted, and the command's needs are met (`specs/Done.antt`),
-//!   the status is Done, or memory ran out. An audit needs to pass, for example, and a run to end
-//!   with DIS.
-//! - `files`, `input`, `takes`: only `alm`, `bind` and `make` write files, and only a session takes
-//!   input.
-//! - `performs`: the command does what its program says, with this status.
+//! - `performs`: the command does what its program says, with this status. Only the files that the
+//!   program reads are read, one after another. What is written and printed is what it writes and
+//!   prints, up to a call that fails; a piece that is printed only in part is the last. What may
+//!   end the command is decided in this order: words, files, image, audit, run.
+//! - Programs are defined by the machine. Each trace line is the line of the defined step of the
+//!   state that the step before left, beginning with the state of the image. In a booted folder
+//!   each link service gives the pair of the search rules or its code, and each console service the
+//!   characters that the rules of access let it read.
+//! - `isolated`: if the output of the call begins with the line `audit yes` (with `make`, after its
+//!   count of segments), all six conditions of the audit hold of the image, and its tables isolate
+//!   each ring from 1. That is: whatever programs run in that ring and above, until a fault, a stop
+//!   or a gate call no word outside the ring's write brackets changes, and no word outside its read
+//!   brackets affects a step. Of a booted folder the same holds in every state of every run until
+//!   an LDBR is executed, absent pages included. Of processes all conditions of the joint audit
+//!   hold, and they are isolated over every schedule. The image, the folder or the processes are
+//!   those that the command read: by the answers of the folder and, if the folder shows its files
+//!   to the contract, as a folder in memory does, by these files.
+//! - `cause`: the status is ReadFault or WriteFault only after a failure outside, of exactly one
+//!   call. Without a failure the command ends as its program says, or memory runs out.
+//! - `done`: if nothing fails outside, the folder shows its files, they are accepted, and the
+//!   command's needs are met, the status is Done, or memory ran out. An audit needs to pass, for
+//!   example, and a run to end with DIS.
+//! - `files`, `input`: only `alm`, `bind` and `make` write files, and only a session takes input.
+//! - `sure`: over objects that never fail ReadFault and WriteFault never occur.
 //! - `usage` and the clauses after it: words that are no command change nothing.
+//!
+//! Memory may run out before anything is written or printed, while a file is written, after the
+//! files of `make`, in a link service, or in a session. What was written and printed before stays.
 //!
 //! # How a command is defined
 //!
 //! A command is a program (`m36_program`): a value that says, step by step, which files the command
-//! reads and writes, what it prints and takes, and where memory may run out. `specs/Programs.antt`
-//! names the program of each command; the programs and the calls that perform them are in the
-//! crates `cmd_image`, `cmd_folder`, `cmd_procs`, `cmd_tools`, `cmd_make` and `cmd_debug`.
-//! `performs` is stated by them. It says of the folder, the input and the output together that
-//! their calls are the events of the program in some common order, but not which order that was:
-//! the three have no common clock.
+//! reads and writes, what it prints and takes, and where memory may run out. The programs and the
+//! calls that perform them are in the crates `cmd_image`, `cmd_folder`, `cmd_procs`, `cmd_tools`,
+//! `cmd_make` and `cmd_debug`. `specs/Programs.antt` names the program of each command, and
+//! `specs/Commands.antt` has the rest that is said of each: whether it may write files or take
+//! input, what it reads first, what this needs for the status Done, and what `audit yes` promises
+//! of it. `specs/Words.antt` has the words of the commands.
 //!
-//! The clauses about answers are stated by a second definition: a command is a reading, which asks
-//! the folder for files and yields a refusal or what the command has to do, and a kind, which says
-//! which answers are required then (`m36_reading`).
+//! [`m36_in`] performs the command over a world, whose calls have one order: a session, for
+//! example, prints the answers to all whole lines before it takes more input. [`m36`] calls it over
+//! the three objects. They have no common clock, so `performs` of [`m36`] says that their calls are
+//! the events of the program in some common order, but not which order that was.
 //!
-//! `specs/Words.antt` has the words of the commands, `specs/Commands.antt` the reading of each,
-//! `specs/Dues.antt` the kinds, and `specs/TopCall.antt` and `specs/Done.antt` the clauses of the
-//! call. [`law_due`] says how many answers may be required, and [`law_one_text`] that the calls of
-//! some commands all print first parts of one text.
+//! [`law_commands`] has the laws of the programs: what a command does if a file is refused, what
+//! follows from the findings of an audit, which commands have one text, and which always have a
+//! call that ends.
 //!
 //! Files, texts and statuses are this simulator's own; the machine is that of the Multics Processor
 //! Manual AL39.
@@ -91,12 +91,12 @@ pub mod top;
 pub mod words;
 
 pub use command::Command;
-pub use laws::{law_due, law_one_text};
+pub use laws::law_commands;
 pub use m36_booted::{FolderCommand, FolderRun};
 pub use m36_image::{Image, ImageFault, read_image};
 pub use m36_ran::BareRun;
 pub use m36_reading::{Bad, Code, Status};
 pub use m36_told::{AlmFiles, BindFiles};
 pub use status_report::report;
-pub use top::m36;
+pub use top::{m36, m36_in};
 pub use words::command_of;

@@ -1,31 +1,35 @@
--- Where nothing fails outside.
-use Rattle.m36_reading.specs.Outside.{outside_of}
-use Rattle.cmd_debug.specs.Held.{talk_of}
+-- The world still holds the three references, so what it has seen is what the objects have seen.
+use Rattle.std.proofs.Common.{rules, ap, get_or}
+use Rattle.m36_program.specs.Objects.{objects}
+use Rattle.m36_program.proofs.Objects.{same_now}
 use Rattle.m36_top.specs.Words.{command_of}
-use Rattle.m36_top.proofs.TopEnds.{top_complete}
-use Rattle.m36_top.proofs.ComesDone.{top_done, no_fault}
+use Rattle.m36_top.proofs.TopCalls.{call_over, same_references, no_fault}
 use Rattle.m36_top.proofs.top.m36.Goals as goal
 
-pub returns-clause-complete : goal.returns-clause-complete
-returns-clause-complete g c =
-    let outside = outside_of g.F.Folder.files g.F.Folder.wrote g.F.Folder.read_faults g.F.Folder.write_faults g.S.Sink.written g.S.Sink.taken g.S.Sink.faults in
-    let talk = talk_of g.L.Lines.left g.L.Lines.given g.L.Lines.faults c.args.lines.now c.answer.new.lines in
-    top_complete talk (command_of c.args.words.now) c.answer.result (outside c.args.folder.now c.args.out.now) (outside c.answer.new.folder c.answer.new.out) (g.F.Folder.asked c.args.folder.now) (g.F.Folder.asked c.answer.new.folder) c.answer.ensures.through
-
-pub returns-clause-done : goal.returns-clause-done
-returns-clause-done g c =
-    let outside = outside_of g.F.Folder.files g.F.Folder.wrote g.F.Folder.read_faults g.F.Folder.write_faults g.S.Sink.written g.S.Sink.taken g.S.Sink.faults in
-    let talk = talk_of g.L.Lines.left g.L.Lines.given g.L.Lines.faults c.args.lines.now c.answer.new.lines in
-    top_done talk (command_of c.args.words.now) c.answer.result (outside c.args.folder.now c.args.out.now) (outside c.answer.new.folder c.answer.new.out) (g.F.Folder.asked c.args.folder.now) (g.F.Folder.asked c.answer.new.folder) c.answer.ensures.through
+pub returns-clause-call : goal.returns-clause-call
+returns-clause-call g c =
+    let asked = command_of c.args.words.now in
+    let all = same_references asked c.m36_in.result _ _ c.m36_in.ensures.performs in
+    let in_folder = ap (λ l. get_or l 0 0) all in
+    let in_lines = ap (λ l. get_or l 1 0) all in
+    let in_out = ap (λ l. get_or l 2 0) all in
+    let begun = c.new-world.ensures in
+    let f = g.F.Folder in
+    let l = g.L.Lines in
+    let s = g.S.Sink in
+    call_over asked c.m36_in.result _ _ _ _ begun.events
+    (same_now f.asked f.wrote f.files f.read_faults f.write_faults l.given l.left l.faults s.taken s.written s.faults
+    _ _ _ _ _ _ _ _ begun.folder begun.input begun.output)
+    (same_now f.asked f.wrote f.files f.read_faults f.write_faults l.given l.left l.faults s.taken s.written s.faults
+    _ _ _ _ _ _ _ _ (search rules) (search rules) (search rules))
+    c.m36_in.ensures.usage c.m36_in.ensures.performs
 
 pub returns-clause-sure : goal.returns-clause-sure
-returns-clause-sure g c =
-    let outside = outside_of g.F.Folder.files g.F.Folder.wrote g.F.Folder.read_faults g.F.Folder.write_faults g.S.Sink.written g.S.Sink.taken g.S.Sink.faults in
-    let talk = talk_of g.L.Lines.left g.L.Lines.given g.L.Lines.faults c.args.lines.now c.answer.new.lines in
-    λ never. no_fault talk (command_of c.args.words.now) c.answer.result (outside c.args.folder.now c.args.out.now) (outside c.answer.new.folder c.answer.new.out) (g.F.Folder.asked c.args.folder.now) (g.F.Folder.asked c.answer.new.folder) c.answer.ensures.through
-    (record {
-      reads = (never.read_faults c.args.folder.now, never.read_faults c.answer.new.folder);
-      writes = (never.write_faults c.args.folder.now, never.write_faults c.answer.new.folder);
-      inputs = (never.input_faults c.args.lines.now, never.input_faults c.answer.new.lines);
-      puts = (never.put_faults c.args.out.now, never.put_faults c.answer.new.out);
+returns-clause-sure g c = λ never.
+    let call = returns-clause-call g c in
+    no_fault c.m36_in.result _ _ call.cause (record {
+      reads = (never.read_faults _, never.read_faults _);
+      writes = (never.write_faults _, never.write_faults _);
+      outputs = (never.put_faults _, never.put_faults _);
+      inputs = (never.input_faults _, never.input_faults _);
     })

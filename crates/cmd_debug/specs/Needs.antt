@@ -1,0 +1,10 @@
+-- What `debug FILE` and `debug` need of the input to end with Done: that its bytes are known, and
+-- that they are not too many.
+use Rattle.std.specs.Prelude.{ℕ, ◌≡◌, List, Option, Some}
+pub use Rattle.m36_debug.specs.SessionText.{IsTooLong}
+
+-- It is over the bytes that are left at the beginning of the session.
+pub record SessionNeeds (left : Option (List ℕ)) : Type 0 where
+  pub bytes : List ℕ
+  pub known : left ≡ Some bytes
+  pub short : ¬ IsTooLong bytes
