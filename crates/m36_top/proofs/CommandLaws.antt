@@ -1,7 +1,6 @@
 -- What a command does if a file is refused; and the laws of each kind of command.
-use Rattle.std.proofs.Common.{◌≡◌, ◌⊎◌, List, [], Option, Some, Result, Ok, Err, inl, inr, sym, ap, subst, ◌∙◌}
+use Rattle.std.proofs.Common.{◌≡◌, Option, Some, Result, Ok, Err, inl, inr, sym, ap, subst, ◌∙◌}
 use Rattle.m36_outside.specs.Files.{Files}
-use Rattle.m36_world.specs.declared.event.Event.{Event}
 use Rattle.m36_world.specs.Seen.{Seen}
 use Rattle.m36_world.proofs.Following.{follow_split}
 use Rattle.m36_world.specs.Follow.{Follow}
@@ -11,7 +10,6 @@ use Rattle.m36_program.specs.Goes.{Goes}
 use Rattle.m36_program.specs.Performs.{Performs}
 use Rattle.m36_program.specs.Program.{May, Program, then_with}
 use Rattle.m36_program.specs.Reader.{IsReader, outcome_in}
-use Rattle.m36_program.specs.Trail.{pieces_of}
 use Rattle.m36_program.proofs.ReaderLaws.{reader_split, reader_outcome, reader_pieces}
 use Rattle.m36_booted.proofs.OneRunLaws.{booted_law}
 use Rattle.cmd_image.proofs.ImageEnded.{image_end_law}

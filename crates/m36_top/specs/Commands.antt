@@ -1,6 +1,6 @@
 -- The commands, one line each: what each may do, what it reads, what it needs to end with Done, and
 -- what its line `audit yes` promises.
-use Rattle.std.specs.Prelude.{ℕ, ⊤, List, ◌++◌, Option, Some, None, Result, Ok, Err}
+use Rattle.std.specs.Prelude.{ℕ, ⊤, List, ◌++◌, Option, None, Result, Ok, Err}
 use Rattle.m36_model.specs.Store.{State}
 use Rattle.m36_procs.specs.ProcsFields.{ProcsFields}
 use Rattle.m36_reading.specs.declared.refusal.Refusal.{Refusal}

@@ -1,6 +1,6 @@
 -- What the top call promises, by the command that its words ask for (None: no command) and by what
 -- the folder, the input and the output record before the call and after it.
-use Rattle.std.specs.Prelude.{ℕ, ◌≡◌, ◌≢◌, ◌⊎◌, ⊤, false, List, Option, Some, None, Ok}
+use Rattle.std.specs.Prelude.{ℕ, ◌≡◌, ◌≢◌, ◌⊎◌, ⊤, false, Option, Some, None, Ok}
 use Rattle.m36_outside.specs.Files.{Files}
 use Rattle.m36_world.specs.Seen.{Seen}
 use Rattle.m36_reading.specs.declared.status.Status.{Status}

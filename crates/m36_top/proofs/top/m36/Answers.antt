@@ -1,6 +1,5 @@
 -- The world still holds the three references, so what it has seen is what the objects have seen.
 use Rattle.std.proofs.Common.{rules, ap, get_or}
-use Rattle.m36_program.specs.Objects.{objects}
 use Rattle.m36_program.proofs.Objects.{same_now}
 use Rattle.m36_top.specs.Words.{command_of}
 use Rattle.m36_top.proofs.TopCalls.{call_over, same_references, no_fault}
