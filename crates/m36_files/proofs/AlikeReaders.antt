@@ -7,7 +7,7 @@ use Rattle.m36_acl.specs.AccessLists.{lists_of}
 use Rattle.m36_catalog.specs.Catalogs.{boot_name, catalog_by, acl_name, lists_by, as_given, for_user}
 use Rattle.m36_reading.specs.declared.refusal.Refusal.{Refusal}
 use Rattle.m36_reading.specs.declared.refusal.Refusal.TheVariants.{BadFile, ReadFault, NoMemory}
-use Rattle.m36_reading.specs.Readers.{words_by, object_by}
+use Rattle.m36_reading.specs.Rules.{words_by, object_by}
 use Rattle.m36_program.specs.Alike.{Alike}
 use Rattle.m36_program.specs.Program.{May, Program, done, then_with}
 use Rattle.m36_program.specs.Readers.{file_bytes}

@@ -4,7 +4,7 @@ use Rattle.m36_reading.specs.declared.refusal.Refusal.{Refusal}
 use Rattle.m36_reading.specs.declared.refusal.Refusal.TheVariants.{BadFile, ReadFault, NoMemory}
 use Rattle.m36_reading.specs.declared.status.Status.{Status}
 use Rattle.m36_reading.specs.declared.status.Status.TheVariants as status
-use Rattle.m36_reading.specs.Answers.{status_of}
+use Rattle.m36_reading.specs.Refusing.{status_of}
 use Rattle.m36_program.specs.Program.{May, Program, done, stops, some, wants}
 
 -- a program that cannot continue or end

@@ -1,7 +1,7 @@
-//! Why a command ends while it reads its files.
+//! Why a command ends before it has what its files give.
 
 ghost use Rattle.std.specs.Prelude.{◌≡◌};
-ghost use Rattle.m36_reading.specs.Answers.{status_of};
+ghost use Rattle.m36_reading.specs.Refusing.{status_of};
 ghost use Rattle.m36_reading.specs.declared.refusal.Refusal.TheVariants as refusal;
 
 use crate::status::{Bad, Status};
