@@ -1,5 +1,5 @@
 -- Files that are written one after another, and a text that is put line by line.
-use Rattle.std.proofs.Common.{◌≡◌, ℕ, ◌+◌, ◌-◌, ◌<◌, ◌≤◌, List, [], ◌∷◌, ◌++◌, length, take, drop, get_or, Result, Ok, Err, refl, sym, ap, subst, ◌∙◌, arith}
+use Rattle.std.proofs.Common.{◌≡◌, ℕ, ◌+◌, ◌-◌, ◌<◌, ◌≤◌, List, [], ◌∷◌, length, take, drop, get_or, Result, Ok, Err, refl, sym, ap, subst, ◌∙◌, arith}
 use Rattle.std.proofs.lemmas.List.{drop_more, drop_all}
 use Rattle.m36_text.proofs.Splitting.{rest_whole}
 use Rattle.m36_world.specs.Seen.{Seen}
@@ -8,7 +8,7 @@ use Rattle.m36_reading.specs.declared.status.Status.{Status}
 use Rattle.m36_told.specs.LinesIn.{lines_in}
 use Rattle.m36_told.specs.Told.{ToldFields}
 use Rattle.m36_program.specs.Performs.{Performs, Leads}
-use Rattle.m36_program.specs.Program.{May, quiet, Program, done, puts, puts_all, writes, then_with}
+use Rattle.m36_program.specs.Program.{May, Program, done, puts, puts_all, writes, then_with}
 use Rattle.m36_program.specs.Readers.{put_one, write_one}
 use Rattle.m36_program.proofs.LeadLaws.{leads_start, leads_as, leads_then, leads_stop, leads_ends, leads_put, leads_unput}
 use Rattle.m36_program.proofs.Performing.{goes_done, performs_none, performs_then, performs_stop}

@@ -1,5 +1,5 @@
 -- Each command performs its program, since its parts do.
-use Rattle.std.proofs.Common.{◌≡◌, ℕ, List, [], Result, Ok, Err, refl, sym, subst}
+use Rattle.std.proofs.Common.{◌≡◌, ℕ, List, [], Result, Ok, Err, refl, subst}
 use Rattle.m36_dir.specs.Catalog.{CatalogFields}
 use Rattle.m36_acl.specs.Fields.{AclSegmentFields}
 use Rattle.obj36_parts.specs.PartsFields.{PartsFields}

@@ -1,12 +1,10 @@
 -- The commands read a report, and then end with Done unless a call fails or memory runs out.
-use Rattle.std.proofs.Common.{◌≡◌, ℕ, false, List, [], ◌∷◌, Some, Result, Ok, Err, refl, subst, inl, inr}
-use Rattle.m36_outside.specs.Files.{Files}
+use Rattle.std.proofs.Common.{◌≡◌, ℕ, false, List, [], ◌∷◌, Result, Ok, Err, refl, subst, inl, inr}
 use Rattle.m36_outside.specs.declared.folder.WriteAnswer.{WriteAnswer}
 use Rattle.m36_outside.specs.declared.folder.WriteAnswer.TheVariants as write
 use Rattle.m36_dir.specs.Catalog.{CatalogFields}
 use Rattle.m36_bindfile.specs.BindFile.{bind_lines, names_by}
 use Rattle.m36_bind.specs.Bound.{bound_of}
-use Rattle.m36_world.specs.Seen.{Seen}
 use Rattle.m36_world.specs.declared.event.Event.{Event}
 use Rattle.m36_reading.specs.declared.setting.Set.{Set}
 use Rattle.m36_reading.specs.declared.status.Status.{Status}
@@ -19,13 +17,12 @@ use Rattle.m36_told.specs.Binding.{names_told, bind_told}
 use Rattle.m36_told.specs.LinesIn.{lines_in}
 use Rattle.m36_told.specs.Telling.{printed, told_by}
 use Rattle.m36_told.specs.Told.{ToldFields}
+use Rattle.m36_told.proofs.LineLaws.{lines_joined}
 use Rattle.m36_program.specs.Alike.{Alike, IsEnd}
-use Rattle.m36_program.specs.Ended.{NoneRose, IsDoneOrNoMemory}
 use Rattle.m36_program.specs.Goes.{AfterWrite, Goes}
 use Rattle.m36_program.specs.Lives.{Lives}
-use Rattle.m36_program.specs.Performs.{Performs}
 use Rattle.m36_program.specs.Program.{May, quiet, Program, done, puts, puts_all, then_with}
-use Rattle.m36_program.specs.Reader.{IsReader, outcome_in}
+use Rattle.m36_program.specs.Reader.{IsReader}
 use Rattle.m36_program.specs.Readers.{file_bytes}
 use Rattle.m36_program.proofs.AlikeLaws.{has_one_text}
 use Rattle.m36_program.proofs.GoesLaws.{goes_failed}
@@ -186,4 +183,10 @@ unfolding bind_program
 bind_law files = law_of (bind_report files) write_report refl (bind_reader files) report_lives report_done (bind_alike files)
 
 pub tool_laws : ToolLaws
-tool_laws = record { print = print_law; access = access_law; alm = alm_law; bind = bind_law }
+tool_laws = record {
+  lines = lines_joined;
+  print = print_law;
+  access = access_law;
+  alm = alm_law;
+  bind = bind_law;
+}

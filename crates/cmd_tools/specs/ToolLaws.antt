@@ -1,10 +1,12 @@
 -- Laws of `print NAME`, `access USER`, `alm NAME` and `bind NAME`.
 use Rattle.std.specs.Prelude.{ℕ, ◌≡◌, List, Some, Result, Ok}
 use Rattle.m36_outside.specs.Files.{Files}
+use Rattle.m36_outside.specs.Passing.{joined}
 use Rattle.m36_world.specs.Seen.{Seen}
 use Rattle.m36_reading.specs.declared.status.Status.{Status}
 use Rattle.m36_told.specs.declared.assembling.AlmFiles.{AlmFiles}
 use Rattle.m36_told.specs.declared.binding.BindFiles.{BindFiles}
+use Rattle.m36_told.specs.LinesIn.{lines_in}
 use Rattle.m36_told.specs.Told.{ToldFields}
 use Rattle.m36_program.specs.Ended.{HasEnd, NoneRose, IsDoneOrNoMemory}
 use Rattle.m36_program.specs.OneText.{HasOneText}
@@ -37,6 +39,8 @@ pub record ToolLaw {may : May} (report : Program may ToldFields)
 
 -- each of the four commands
 pub record ToolLaws : Type 0 where
+  -- The lines in which a text is put, one after another, are the text.
+  pub lines : (text : List ℕ) → joined (lines_in text) ≡ text
   pub print :
       (name : List ℕ)
       → ToolLaw (print_report name) (λ told. put_text told.text) (print_program name)
