@@ -1,4 +1,4 @@
-//! Why a command ends before it has what its files give.
+//! Why a rule has no value.
 
 ghost use Rattle.std.specs.Prelude.{◌≡◌};
 ghost use Rattle.m36_reading.specs.Refusing.{status_of};
@@ -7,13 +7,11 @@ ghost use Rattle.m36_reading.specs.declared.refusal.Refusal.TheVariants as refus
 use crate::status::{Bad, Status};
 use m36_word::NoMemory;
 
-/// Why a command ends while it reads its files.
+/// Why a rule has no value.
 #[derive(Drop)]
 pub enum Refusal {
     /// A file is refused.
     BadFile(Bad),
-    /// A file could not be read.
-    ReadFault,
     /// Memory ran out.
     NoMemory,
 }
@@ -34,7 +32,6 @@ impl Refusal {
     {
         match self {
             Refusal::BadFile(bad) => Status::BadFile(bad),
-            Refusal::ReadFault => Status::ReadFault,
             Refusal::NoMemory => Status::NoMemory,
         }
     }
