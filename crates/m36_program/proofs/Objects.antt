@@ -42,9 +42,6 @@ same_seen seen other same =
     rw (sym reads, sym writes, sym outputs, sym inputs, sym files, sym written, sym left, sym read_faults, sym write_faults, sym output_faults, sym input_faults)
     refl
 
-seen_at : (seen : Seen) (references : List ℕ) → seen.references ≡ references → seen ≡ record seen { references = references }
-seen_at seen references is = ap (λ (l : List ℕ). record seen { references = l }) is
-
 -- The records of a world of three references are those of its objects.
 pub same_now :
     {F L S : Type 0} (asked : F → List Asked) (wrote : F → List Wrote) (files : F → Option Files)
