@@ -8,7 +8,7 @@ use Rattle.m36_bind.specs.Bound.{bound_of}
 use Rattle.m36_world.specs.Seen.{Seen}
 use Rattle.m36_reading.specs.declared.refusal.Refusal.{Refusal}
 use Rattle.m36_reading.specs.declared.status.Status.{Status}
-use Rattle.m36_reading.specs.Asking.{Gives}
+use Rattle.m36_reading.specs.Refusing.{Gives}
 use Rattle.m36_told.specs.declared.assembling.AlmFiles.{AlmFiles}
 use Rattle.m36_told.specs.declared.binding.BindFiles.{BindFiles}
 use Rattle.m36_told.specs.Accesses.{access_told}

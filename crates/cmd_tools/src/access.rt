@@ -1,7 +1,7 @@
 //! Performs the command `access USER` over any world.
 
 ghost use Rattle.std.specs.Prelude.{Ok};
-ghost use Rattle.m36_reading.specs.Asking.{Gives};
+ghost use Rattle.m36_reading.specs.Refusing.{Gives};
 ghost use Rattle.m36_told.specs.Accesses.{access_told};
 ghost use Rattle.m36_program.specs.Performs.{Performs};
 ghost use Rattle.m36_program.specs.Program.{quiet};

@@ -3,7 +3,7 @@
 ghost use Rattle.std.specs.Prelude.{◌≤◌, length, Ok};
 ghost use Rattle.m36_outside.specs.ReadAnswer.{file_limit};
 ghost use Rattle.alm_asm.specs.Assembly.{assembled};
-ghost use Rattle.m36_reading.specs.Asking.{Gives};
+ghost use Rattle.m36_reading.specs.Refusing.{Gives};
 ghost use Rattle.m36_told.specs.Assemblies.{with_parts, assembly_of};
 ghost use Rattle.m36_told.specs.Telling.{told_by, MadeSays};
 ghost use Rattle.m36_program.specs.Performs.{Performs};

@@ -4,7 +4,7 @@ ghost use Rattle.std.specs.Prelude.{◌≡◌, ◌≤◌, ◌∷◌, ◌++◌, [
 ghost use Rattle.m36_outside.specs.ReadAnswer.{file_limit};
 ghost use Rattle.m36_bindfile.specs.BindFile.{bind_lines, names_by, BindResult};
 ghost use Rattle.m36_bind.specs.Bound.{bound_of};
-ghost use Rattle.m36_reading.specs.Asking.{Gives, Refuses};
+ghost use Rattle.m36_reading.specs.Refusing.{Gives, Refuses};
 ghost use Rattle.m36_told.specs.Binding.{bind_refused, names_told, bound_told, bind_told};
 ghost use Rattle.m36_program.specs.Performs.{Performs};
 ghost use Rattle.m36_files.specs.EachFile.{read_onto, each_onto};

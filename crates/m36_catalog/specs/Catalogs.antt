@@ -1,14 +1,14 @@
--- What is read of a folder before the files of its segments: the boot text, which describes a
--- catalog, and for a user the access lists, by which the segments get their rights.
+-- What the texts of a folder mean: the boot text, which describes a catalog, and for a user the
+-- access lists, by which the segments get their rights.
 use Rattle.std.specs.Prelude.{ℕ, List, [], codes, Option, Some, None, Result, Ok, Err}
 pub use Rattle.m36_text.specs.FileNames.{boot_name}
-use Rattle.m36_dir.specs.Catalog.{CatalogFields, catalog_of}
+use Rattle.m36_dir.specs.Catalog.{CatalogFields}
 use Rattle.m36_dir.specs.declared.fault.CatalogFault.{CatalogFault}
 use Rattle.m36_dir.specs.declared.fault.CatalogFault.TheVariants as catalog
 use Rattle.m36_acl.specs.declared.fault.AclFault.{AclFault}
 use Rattle.m36_acl.specs.declared.fault.AclFault.TheVariants as acl
 use Rattle.m36_acl.specs.Fields.{AclSegmentFields}
-use Rattle.m36_acl.specs.AccessLists.{Lists, lists_of}
+use Rattle.m36_acl.specs.AccessLists.{Lists}
 use Rattle.m36_acl.specs.Granted.{first_unknown, granted}
 use Rattle.m36_acl.specs.AccessText.{denied_lines}
 use Rattle.m36_catalog.specs.declared.access.Access.{Access}
@@ -16,8 +16,8 @@ use Rattle.m36_reading.specs.declared.status.Code.{Code}
 use Rattle.m36_reading.specs.declared.status.Code.TheVariants as code
 use Rattle.m36_reading.specs.declared.refusal.Refusal.{Refusal}
 use Rattle.m36_reading.specs.declared.refusal.Refusal.TheVariants.{NoMemory}
-use Rattle.m36_reading.specs.Reading.{Reading, decided, Early, then_with, mapped}
-use Rattle.m36_reading.specs.Readers.{refused, file_bytes}
+use Rattle.m36_reading.specs.Refusing.{Early}
+use Rattle.m36_reading.specs.Rules.{refused}
 
 -- ---- the boot text: D1 to D6 at its line
 
@@ -37,11 +37,6 @@ catalog_refused catalog.NoMemory = NoMemory
 abbrev pub catalog_by : Result CatalogFields CatalogFault → Early CatalogFields
 catalog_by (Ok catalog) = Ok catalog
 catalog_by (Err fault) = Err (catalog_refused fault)
-
--- the reading of the boot text
-unfoldable pub catalog_reads : Reading (Early CatalogFields)
-catalog_reads =
-    then_with (file_bytes boot_name) (λ text. decided (catalog_by (catalog_of text)))
 
 -- ---- the access lists: C1 and C2 at the first line that has one, and then C3 at the first line of
 -- a segment that the boot text does not have
@@ -67,11 +62,6 @@ abbrev pub lists_by : CatalogFields → Result (List AclSegmentFields) AclFault
 lists_by catalog (Ok lists) = known_by lists (first_unknown catalog lists)
 lists_by catalog (Err fault) = Err (lists_refused fault)
 
--- the reading of the access lists for a catalog
-unfoldable pub lists_reads : CatalogFields → Reading (Early (List AclSegmentFields))
-lists_reads catalog =
-    then_with (file_bytes acl_name) (λ text. decided (lists_by catalog (lists_of text)))
-
 -- ---- the catalog with the rights of a user
 
 -- a catalog with the rights of its boot text, without lines `denied`
@@ -84,11 +74,3 @@ for_user user catalog lists = record {
   catalog = granted lists user catalog;
   denied = denied_lines lists user catalog;
 }
-
-unfoldable pub rights_read : Option (List ℕ) → CatalogFields → Reading (Early Access)
-rights_read None catalog = decided (Ok (as_given catalog))
-rights_read (Some user) catalog = mapped (for_user user catalog) (lists_reads catalog)
-
--- the boot text, and then for a user the access lists
-unfoldable pub access_reads : Option (List ℕ) → Reading (Early Access)
-access_reads user = then_with catalog_reads (λ catalog. rights_read user catalog)

@@ -6,8 +6,8 @@ use Rattle.m36_dir.specs.Catalog.{CatalogFields, catalog_of}
 use Rattle.m36_acl.specs.AccessLists.{lists_of}
 use Rattle.m36_catalog.specs.Catalogs.{boot_name, catalog_by, acl_name, lists_by, as_given, for_user}
 use Rattle.m36_reading.specs.declared.refusal.Refusal.{Refusal}
-use Rattle.m36_reading.specs.declared.refusal.Refusal.TheVariants.{BadFile, ReadFault, NoMemory}
-use Rattle.m36_reading.specs.Readers.{words_by, object_by}
+use Rattle.m36_reading.specs.declared.refusal.Refusal.TheVariants.{BadFile, NoMemory}
+use Rattle.m36_reading.specs.Rules.{words_by, object_by}
 use Rattle.m36_program.specs.Alike.{Alike}
 use Rattle.m36_program.specs.Program.{May, Program, done, then_with}
 use Rattle.m36_program.specs.Readers.{file_bytes}
@@ -21,7 +21,6 @@ decided_alike : (may : May) {A : Type 0} (rule : Result A Refusal) → Alike {ma
 unfolding Alike
 decided_alike may (Ok a) = refl
 decided_alike may (Err (BadFile bad)) = refl
-decided_alike may (Err ReadFault) = λ b is. absurd b
 decided_alike may (Err NoMemory) = λ b is. absurd b
 
 pub decides_alike : (may : May) {A : Type 0} (rule : Result A Refusal) → Alike {may = may} (decides rule) (decides rule)

@@ -6,8 +6,8 @@ use Rattle.m36_dir.specs.Catalog.{CatalogFields, catalog_of}
 use Rattle.m36_acl.specs.AccessLists.{lists_of}
 use Rattle.m36_catalog.specs.Catalogs.{boot_name, catalog_by, acl_name, lists_by, as_given, for_user}
 use Rattle.m36_reading.specs.declared.refusal.Refusal.{Refusal}
-use Rattle.m36_reading.specs.declared.refusal.Refusal.TheVariants.{BadFile, ReadFault, NoMemory}
-use Rattle.m36_reading.specs.Readers.{words_by, object_by}
+use Rattle.m36_reading.specs.declared.refusal.Refusal.TheVariants.{BadFile, NoMemory}
+use Rattle.m36_reading.specs.Rules.{words_by, object_by}
 use Rattle.m36_program.specs.Program.{May, Program, then_with}
 use Rattle.m36_program.specs.Reader.{IsReader}
 use Rattle.m36_program.specs.Readers.{file_bytes}
@@ -23,7 +23,6 @@ decided_reads : (may : May) {A : Type 0} (rule : Result A Refusal) → IsReader 
 unfolding IsReader
 decided_reads may (Ok a) = tt
 decided_reads may (Err (BadFile bad)) = tt
-decided_reads may (Err ReadFault) = λ b is. b
 decided_reads may (Err NoMemory) = λ b is. b
 
 pub reader_decides : (may : May) {A : Type 0} (rule : Result A Refusal) → IsReader {may = may} (decides rule)

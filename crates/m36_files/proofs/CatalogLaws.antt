@@ -6,7 +6,7 @@ use Rattle.m36_acl.specs.AccessLists.{lists_of}
 use Rattle.m36_world.specs.Seen.{Seen}
 use Rattle.m36_reading.specs.declared.refusal.Refusal.{Refusal}
 use Rattle.m36_reading.specs.declared.status.Status.{Status}
-use Rattle.m36_reading.specs.Asking.{Gives}
+use Rattle.m36_reading.specs.Refusing.{Gives}
 use Rattle.m36_catalog.specs.declared.access.Access.{Access}
 use Rattle.m36_catalog.specs.Catalogs.{boot_name, catalog_by, acl_name, lists_by, as_given, for_user}
 use Rattle.m36_program.specs.Performs.{Performs}

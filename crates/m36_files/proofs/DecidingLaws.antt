@@ -1,12 +1,11 @@
 -- A call that computes a rule performs the program of the rule.
-use Rattle.std.proofs.Common.{◌≡◌, List, [], Result, Ok, Err, refl, sym, subst, inl, inr}
+use Rattle.std.proofs.Common.{◌≡◌, [], Result, Ok, Err, refl, sym, subst, inl, inr}
 use Rattle.m36_world.specs.Seen.{Seen}
 use Rattle.m36_reading.specs.declared.refusal.Refusal.{Refusal}
-use Rattle.m36_reading.specs.declared.refusal.Refusal.TheVariants.{BadFile, ReadFault, NoMemory}
+use Rattle.m36_reading.specs.declared.refusal.Refusal.TheVariants.{BadFile, NoMemory}
 use Rattle.m36_reading.specs.declared.status.Status.{Status}
 use Rattle.m36_reading.specs.declared.status.Status.TheVariants as status
-use Rattle.m36_reading.specs.Reading.{Early}
-use Rattle.m36_reading.specs.Asking.{Gives}
+use Rattle.m36_reading.specs.Refusing.{Early, Gives}
 use Rattle.m36_program.specs.Goes.{Goes}
 use Rattle.m36_program.specs.Performs.{Performs}
 use Rattle.m36_program.specs.Program.{May, Program, then_with}
@@ -22,7 +21,6 @@ goes_given may {A} (Ok a) rule is =
 goes_given may {A} (Err (BadFile bad)) rule is =
     inl (subst (λ (e : Early A). Goes {may = may} (decided e) [] (by_refusal {A = A} (Err (BadFile bad)))) (sym is)
     (goes_stops may A (status.BadFile bad) tt))
-goes_given may (Err ReadFault) rule is = absurd is
 goes_given may (Err NoMemory) rule is = inr (record { none = refl; result_is = refl })
 
 -- the answer of a rule

@@ -1,15 +1,15 @@
 -- Laws of a loop that reads something for each item of a list.
-use Rattle.std.proofs.Common.{◌≡◌, ℕ, ◌+◌, ◌<◌, ◌≤◌, List, [], ◌∷◌, ◌++◌, length, drop, get_or, Result, Ok, Err, refl, sym, ap, subst, ◌∙◌}
+use Rattle.std.proofs.Common.{◌≡◌, ℕ, ◌+◌, ◌<◌, ◌≤◌, List, [], ◌∷◌, ◌++◌, length, drop, get_or, Result, Ok, Err, refl, sym, ap, ◌∙◌}
 use Rattle.std.proofs.lemmas.List.{drop_more, drop_all}
 use Rattle.m36_world.specs.Seen.{Seen}
 use Rattle.m36_reading.specs.declared.refusal.Refusal.{Refusal}
 use Rattle.m36_reading.specs.declared.status.Status.{Status}
-use Rattle.m36_reading.specs.Asking.{Gives}
+use Rattle.m36_reading.specs.Refusing.{Gives}
 use Rattle.m36_program.specs.Performs.{Performs, Leads}
 use Rattle.m36_program.specs.Program.{May, Program, done, then_with}
 use Rattle.m36_program.proofs.LeadLaws.{leads_start, leads_as, leads_then, leads_stop, leads_ends}
 use Rattle.m36_program.proofs.Performing.{goes_done, performs_none}
-use Rattle.m36_files.specs.Deciding.{decides, by_refusal}
+use Rattle.m36_files.specs.Deciding.{by_refusal}
 use Rattle.m36_files.specs.EachFile.{read_onto, each_onto}
 use Rattle.m36_files.proofs.DecidingLaws.{rule_after, rule_never}
 

@@ -6,8 +6,8 @@ use Rattle.obj36.specs.ObjectOf.{object_of}
 use Rattle.m36_world.specs.Seen.{Seen}
 use Rattle.m36_reading.specs.declared.refusal.Refusal.{Refusal}
 use Rattle.m36_reading.specs.declared.status.Status.{Status}
-use Rattle.m36_reading.specs.Asking.{Gives}
-use Rattle.m36_reading.specs.Readers.{words_by, object_by}
+use Rattle.m36_reading.specs.Refusing.{Gives}
+use Rattle.m36_reading.specs.Rules.{words_by, object_by}
 use Rattle.m36_program.specs.Performs.{Performs}
 use Rattle.m36_program.specs.Program.{May}
 use Rattle.m36_program.specs.Readers.{file_bytes}

@@ -1,22 +1,20 @@
 -- Rules: what is computed from files that were read, a value or the refusal of a file.
 use Rattle.std.specs.Prelude.{⊤, Result, Ok, Err}
 use Rattle.m36_reading.specs.declared.refusal.Refusal.{Refusal}
-use Rattle.m36_reading.specs.declared.refusal.Refusal.TheVariants.{BadFile, ReadFault, NoMemory}
+use Rattle.m36_reading.specs.declared.refusal.Refusal.TheVariants.{BadFile, NoMemory}
 use Rattle.m36_reading.specs.declared.status.Status.{Status}
 use Rattle.m36_reading.specs.declared.status.Status.TheVariants as status
-use Rattle.m36_reading.specs.Answers.{status_of}
+use Rattle.m36_reading.specs.Refusing.{status_of}
 use Rattle.m36_program.specs.Program.{May, Program, done, stops, some, wants}
 
 -- a program that cannot continue or end
 abbrev pub never : {may : May} {A : Type 0} → Program may A
 never = some {B = ⊥} (λ b. ⊤) (λ b. absurd b)
 
--- Ends with the value, or with the status of the refusal. A rule yields neither ReadFault nor
--- NoMemory.
+-- Ends with the value, or with the status of the refusal. A rule does not yield NoMemory.
 abbrev pub decided : {may : May} {A : Type 0} → Result A Refusal → Program may A
 decided (Ok a) = done a
 decided (Err (BadFile bad)) = stops (status.BadFile bad) tt
-decided (Err ReadFault) = never
 decided (Err NoMemory) = never
 
 -- the program of a rule: memory may run out first

@@ -5,7 +5,7 @@ ghost use Rattle.m36_outside.specs.ReadAnswer.{file_limit};
 ghost use Rattle.m36_dir.specs.Catalog.{catalog_of};
 ghost use Rattle.m36_acl.specs.AccessLists.{lists_of};
 ghost use Rattle.m36_acl.specs.Granted.{first_unknown};
-ghost use Rattle.m36_reading.specs.Asking.{Gives, Refuses};
+ghost use Rattle.m36_reading.specs.Refusing.{Gives, Refuses};
 ghost use Rattle.m36_catalog.specs.Catalogs.{catalog_refused, catalog_by, acl_refused, lists_refused, known_by, lists_by, for_user};
 ghost use Rattle.m36_program.specs.Performs.{Performs};
 ghost use Rattle.m36_program.specs.Program.{May};

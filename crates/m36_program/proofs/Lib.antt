@@ -1,12 +1,10 @@
 pub mod AlikeLaws
-pub mod Answering
 pub mod CauseLaws
 pub mod Gathered
 pub mod GoesLaws
 pub mod KeptLaws
 pub mod LeadLaws
 pub mod LiveLaws
-pub mod Matching
 pub mod Objects
 pub mod OneText
 pub mod Performing

@@ -9,15 +9,13 @@ use Rattle.m36_world.specs.Seen.{Seen}
 use Rattle.m36_world.proofs.Following.{follow_logs}
 use Rattle.m36_reading.specs.declared.status.Status.{Status}
 use Rattle.m36_reading.specs.declared.status.Status.TheVariants as status
-use Rattle.m36_reading.specs.Doing.{Kind, Does}
-use Rattle.m36_reading.specs.Reading.{Reading, Early}
 use Rattle.m36_program.specs.Early.{early, status_by}
 use Rattle.m36_program.specs.Goes.{Goes}
 use Rattle.m36_program.specs.Performs.{Performs}
 use Rattle.m36_program.specs.Program.{May, Program}
 use Rattle.m36_program.specs.Trail.{NoneFailed, HasCause, FilesKept, InputKept}
 use Rattle.m36_program.proofs.ProgramLaws.{early_given, performs_given, performs_cause, performs_files, performs_input}
-use Rattle.m36_program.specs.Objects.{objects, PerformsOver, outside_by}
+use Rattle.m36_program.specs.Objects.{objects, PerformsOver}
 
 -- The two states have the same records of the objects.
 pub record SameObjects (seen other : Seen) : Type 0 where
@@ -43,9 +41,6 @@ same_seen seen other same =
     let output_faults = same.output_faults in let input_faults = same.input_faults in
     rw (sym reads, sym writes, sym outputs, sym inputs, sym files, sym written, sym left, sym read_faults, sym write_faults, sym output_faults, sym input_faults)
     refl
-
-seen_at : (seen : Seen) (references : List ℕ) → seen.references ≡ references → seen ≡ record seen { references = references }
-seen_at seen references is = ap (λ (l : List ℕ). record seen { references = l }) is
 
 -- The records of a world of three references are those of its objects.
 pub same_now :
@@ -93,36 +88,6 @@ performs_over program result status old new old' new' status_is none same_old sa
       goes =
           subst (λ r. Goes program performs.events r)
           (sym (ap early status_is ∙ early_given result (performs_given program result old new performs))) performs.goes;
-    }
-
-same_outside : (seen other : Seen) → SameObjects seen other → outside_by seen ≡ outside_by other
-same_outside seen other same = ap outside_by (same_seen seen other same)
-
--- If each call of the program over a world satisfies `Does`, the call over the three objects does.
-pub does_over :
-    {may : May} {D : Type 0} (kind : Kind D) (p : Reading (Early D)) (program : Program may (Unit {0}))
-    (result : Result (Unit {0}) Status) (status : Status) (old new old' new' : Seen)
-    → status ≡ status_by result → SameObjects old old' → SameObjects new new' → Performs program result old new
-    → ((seen seen' : Seen) → Performs program result seen seen'
-    → Does kind p (status_by result) (outside_by seen) (outside_by seen') seen.reads seen'.reads)
-    → Does kind p status (outside_by old') (outside_by new') old'.reads new'.reads
-does_over kind p program result status old new old' new' status_is same_old same_new performs each =
-    let s = status_by result in
-    subst (λ t. Does kind p t (outside_by old') (outside_by new') old'.reads new'.reads) (sym status_is)
-    (subst (λ r. Does kind p s (outside_by old') (outside_by new') old'.reads r) same_new.reads
-    (subst (λ r. Does kind p s (outside_by old') (outside_by new') r new.reads) same_old.reads
-    (subst (λ o. Does kind p s (outside_by old') o old.reads new.reads) (same_outside new new' same_new)
-    (subst (λ o. Does kind p s o (outside_by new) old.reads new.reads) (same_outside old old' same_old) (each old new performs)))))
-
-pub untaken_over :
-    {may : May} (program : Program may (Unit {0})) (result : Result (Unit {0}) Status) (old new old' new' : Seen)
-    → may.takes ≡ false → SameObjects old old' → SameObjects new new' → Performs program result old new
-    → InputKept old' new'
-untaken_over program result old new old' new' never same_old same_new performs =
-    let kept = performs_input program result old new never performs in record {
-      left = sym same_new.left ∙ kept.left ∙ same_old.left;
-      inputs = sym same_new.inputs ∙ kept.inputs ∙ same_old.inputs;
-      faults = sym same_new.input_faults ∙ kept.faults ∙ same_old.input_faults;
     }
 
 -- ---- what a call over the three objects does, as a call over a world

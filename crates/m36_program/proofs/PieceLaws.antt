@@ -1,11 +1,8 @@
 -- The events of pieces that are put one after another.
-use Rattle.std.proofs.Common.{◌≡◌, ◌⊎◌, ℕ, false, List, [], ◌∷◌, ◌++◌, Option, Result, Err, refl, sym}
+use Rattle.std.proofs.Common.{◌≡◌, ◌⊎◌, ℕ, List, [], ◌∷◌, ◌++◌, Result, Err, refl, sym}
 use Rattle.std.proofs.Common.{ap, subst, ◌∙◌, inl, inr}
 use Rattle.std.specs.List.{flat_map}
-use Rattle.std.specs.Prelude.{IfSome}
-use Rattle.m36_outside.specs.Files.{Files}
 use Rattle.m36_outside.specs.Passing.{joined}
-use Rattle.m36_outside.specs.ReadAnswer.{ReadResult}
 use Rattle.m36_outside.specs.Putting.{PutsText, PutsPieces}
 use Rattle.m36_outside.specs.SinkState.{SinkState}
 use Rattle.m36_outside.specs.declared.folder.ReadAnswer.{ReadAnswer}
@@ -13,24 +10,17 @@ use Rattle.m36_outside.specs.declared.sink.Put.TheVariants.{Done, Failed}
 use Rattle.std.proofs.lemmas.List.Folds.{concat-append as joined_both}
 use Rattle.m36_outside.proofs.Grown.{grew_longer}
 use Rattle.m36_outside.proofs.LinesTaken.{takes_lines_longer}
-use Rattle.m36_world.specs.Seen.{Seen}
-use Rattle.m36_world.specs.Happened.{IsFileRead, IsOutput, IsInput}
-use Rattle.m36_world.specs.Follow.{Follow, outputs}
+use Rattle.m36_world.specs.Follow.{outputs}
 use Rattle.m36_world.specs.Logs.{read_of}
 use Rattle.m36_world.specs.declared.event.Event.{Event}
-use Rattle.m36_world.specs.declared.event.Event.TheVariants.{FileRead, FileWrite, Output, OutputFailed, Input}
-use Rattle.m36_world.specs.declared.event.Event.TheVariants.{InputFailed}
+use Rattle.m36_world.specs.declared.event.Event.TheVariants.{Output, OutputFailed}
 use Rattle.m36_reading.specs.declared.status.Status.{Status}
 use Rattle.m36_reading.specs.declared.status.Status.TheVariants as status
 use Rattle.m36_reading.specs.declared.status.Status.TheVariants.{WriteFault}
-use Rattle.m36_reading.specs.Asking.{AreTold}
 use Rattle.m36_program.specs.Program.{May, Program, puts_all}
 use Rattle.m36_program.specs.Goes.{FailsWith, Goes}
 use Rattle.m36_program.specs.Early.{early, MayEnd, ends}
-use Rattle.m36_program.specs.Performs.{Performs}
-use Rattle.m36_program.specs.Trail.{Trail, pieces_of, put_of}
-use Rattle.m36_program.proofs.KeptLaws.{after_read, false_true}
-use Rattle.m36_program.proofs.TrailLaws.{goes_trail}
+use Rattle.m36_program.specs.Trail.{pieces_of, put_of}
 
 -- ---- pieces, reads and events
 
@@ -177,40 +167,3 @@ puts_longer pieces left old new put =
       pieces = takes_lines_longer old.taken new.taken pieces left put.pieces;
       faults = put.faults;
     })
-
--- ---- what was read
-
--- Each read was answered by the files, if they are known.
-pub trail_told :
-    {A : Type 0} (may : May) (events : List Event) (result : Result A Status) (old new : Seen) (files : Option Files)
-    → may.writes ≡ false → old.files ≡ files → Trail may events result → Follow events old new
-    → AreTold files (reads_of events)
-unfolding Follow
-trail_told may [] result old new files never same trail follow = tt
-trail_told may (FileRead name answer ∷ more) result old new files never same trail follow =
-    let did : IsFileRead name answer old follow.between = follow.begins in (
-      record { told = subst (λ t. IfSome t (λ f. ReadResult answer (f name))) same did.content; limit = did.limit },
-      after_read answer (Trail may more result) more result
-          (λ none. subst (λ e. AreTold files (reads_of e)) (sym none) tt)
-          (λ on. trail_told may more result follow.between new files never
-          (ap (λ s. s.files) did.rest ∙ same) on follow.goes_on) trail,
-    )
-trail_told may (FileWrite name content answer ∷ more) result old new files never same trail follow =
-    false_true may.writes never trail.0
-trail_told may (Output piece ∷ more) result old new files never same trail follow =
-    let did : IsOutput piece old follow.between = follow.begins in
-    trail_told may more result follow.between new files never (ap (λ s. s.files) did.rest ∙ same) trail follow.goes_on
-trail_told may (OutputFailed pieces ∷ more) result old new files never same trail follow =
-    subst (λ e. AreTold files (reads_of e)) (sym trail.none) tt
-trail_told may (Input piece ∷ more) result old new files never same trail follow =
-    let did : IsInput piece old follow.between = follow.begins in
-    trail_told may more result follow.between new files never (ap (λ s. s.files) did.rest ∙ same) trail.1 follow.goes_on
-trail_told may (InputFailed ∷ more) result old new files never same trail follow =
-    subst (λ e. AreTold files (reads_of e)) (sym trail.1.none) tt
-
-pub performs_told :
-    {may : May} {A : Type 0} (p : Program may A) (result : Result A Status) (old new : Seen)
-    → may.writes ≡ false → (performs : Performs p result old new) → AreTold old.files (reads_of performs.events)
-performs_told {may = may} p result old new never performs =
-    trail_told may performs.events result old new old.files never refl
-    (goes_trail p performs.events result performs.goes) performs.follow

@@ -1,5 +1,4 @@
--- What it means that a call over a folder, an input and an output performs a program; and what the
--- old layer observes of the three.
+-- What it means that a call over a folder, an input and an output performs a program.
 use Rattle.std.specs.Prelude.{ℕ, List, [], ◌++◌, Option, Result}
 use Rattle.m36_outside.specs.Files.{Files}
 use Rattle.m36_outside.specs.FolderCalls.{Asked, Wrote}
@@ -7,7 +6,6 @@ use Rattle.m36_world.specs.declared.event.Event.{Event}
 use Rattle.m36_world.specs.Seen.{Seen}
 use Rattle.m36_world.specs.Follow.{Follow}
 use Rattle.m36_reading.specs.declared.status.Status.{Status}
-use Rattle.m36_reading.specs.Outside.{Outside}
 use Rattle.m36_program.specs.Goes.{Goes}
 use Rattle.m36_program.specs.Program.{May, Program}
 
@@ -47,15 +45,3 @@ pub record PerformsOver {may : May} {A : Type 0} (program : Program may A)
       Follow events (record old { references = references })
       (record new { events = old.events ++ events; references = references })
   pub goes : Goes program events result
-
--- what the old layer observes of the folder and the output
-abbrev pub outside_by : Seen → Outside
-outside_by seen = record {
-  folder = record {
-    files = seen.files;
-    wrote = seen.writes;
-    read_faults = seen.read_faults;
-    write_faults = seen.write_faults;
-  };
-  sink = record { written = seen.written; taken = seen.outputs; faults = seen.output_faults };
-}

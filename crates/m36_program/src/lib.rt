@@ -69,8 +69,7 @@
 //! | `reader_comes_done` | when a program that begins with a reader ends with Done |
 //! | `reader_says_yes` | what the first bytes of its output say of what it read |
 //! | `over_cause`, `over_files`, `over_input` | the first three for calls over the three objects |
-//! | `performs_over`, `does_over` | what a call does over a world, it does over the three objects |
-//! | `idle_does` | a call that reads and then puts an answer satisfies `Does` of the old layer |
+//! | `performs_over` | what a call does over a world, it does over the three objects |
 //!
 //! The one text of `performs_written` is what a call that ends writes. The program has to be
 //! `Alike` to itself.

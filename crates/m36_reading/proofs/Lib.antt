@@ -1,6 +1,2 @@
-pub mod Comings
-pub mod ReadLaws
-pub mod EachLaws
-pub mod FileLaws
-pub mod EndLaws
-pub mod WriteLaws
+pub mod GivesLaws
+pub mod RuleLaws

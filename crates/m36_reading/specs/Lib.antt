@@ -1,11 +1,3 @@
 pub mod Names
-pub mod Reading
-pub mod EachRead
-pub mod Asking
-pub mod Readers
-pub mod Answers
-pub mod Puts
-pub mod Outside
-pub mod Setting
-pub mod Ends
-pub mod Doing
+pub mod Refusing
+pub mod Rules

@@ -1,19 +1,17 @@
-//! Why a command ends while it reads its files.
+//! Why a rule has no value.
 
 ghost use Rattle.std.specs.Prelude.{◌≡◌};
-ghost use Rattle.m36_reading.specs.Answers.{status_of};
+ghost use Rattle.m36_reading.specs.Refusing.{status_of};
 ghost use Rattle.m36_reading.specs.declared.refusal.Refusal.TheVariants as refusal;
 
 use crate::status::{Bad, Status};
 use m36_word::NoMemory;
 
-/// Why a command ends while it reads its files.
+/// Why a rule has no value.
 #[derive(Drop)]
 pub enum Refusal {
     /// A file is refused.
     BadFile(Bad),
-    /// A file could not be read.
-    ReadFault,
     /// Memory ran out.
     NoMemory,
 }
@@ -34,7 +32,6 @@ impl Refusal {
     {
         match self {
             Refusal::BadFile(bad) => Status::BadFile(bad),
-            Refusal::ReadFault => Status::ReadFault,
             Refusal::NoMemory => Status::NoMemory,
         }
     }

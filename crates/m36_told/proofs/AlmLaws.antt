@@ -7,8 +7,8 @@ use Rattle.alm_parse.specs.declared.fault.AlmFault.TheVariants as alm
 use Rattle.alm_asm.specs.Assembly.{assembled}
 use Rattle.obj36_parts.specs.PartsFields.{PartsFields}
 use Rattle.m36_reading.specs.declared.refusal.Refusal.{Refusal}
-use Rattle.m36_reading.specs.Asking as asking
-use Rattle.m36_reading.proofs.ReadLaws.{gives_by, memory_given}
+use Rattle.m36_reading.specs.Refusing as refusing
+use Rattle.m36_reading.proofs.GivesLaws.{gives_by, memory_given}
 use Rattle.m36_told.specs.declared.assembling.AlmFiles.{AlmFiles}
 use Rattle.m36_told.specs.Told.{ToldFields}
 use Rattle.m36_told.specs.Assemblies.{Assembly, with_parts, assembly_by, assembly_of, IsMadeOf}
@@ -58,19 +58,19 @@ read_refused bytes alm.NoMemory is = tt
 
 -- the object and the listing are made
 pub told_given :
-    (files : AlmFiles) (given : Result Assembly AlmFault) (told : ToldFields) → IsMadeOf (assembly_told files.object) told given → asking.Gives (Ok told) (told_by files given)
+    (files : AlmFiles) (given : Result Assembly AlmFault) (told : ToldFields) → IsMadeOf (assembly_told files.object) told given → refusing.Gives (Ok told) (told_by files given)
 told_given files given told is = ap (told_by files) is.is ∙ ap (λ (t : ToldFields). Ok t) (sym is.made_is)
 
 -- or the source is refused
 refused_by :
     (files : AlmFiles) (given : Result Assembly AlmFault) (f : AlmFault) (r : Refusal)
-    → given ≡ Err f → asking.Refuses r (source_refused files.source f) → asking.Gives (Err r) (told_by files given)
+    → given ≡ Err f → refusing.Refuses r (source_refused files.source f) → refusing.Gives (Err r) (told_by files given)
 refused_by files given f r is refuses =
     gives_by ToldFields r (source_refused files.source f) (told_by files given) (ap (told_by files) is) refuses
 
 pub told_refused :
     (files : AlmFiles) (given : Result Assembly AlmFault) (f : AlmFault) (r : Refusal)
-    → Refuses f given → asking.Refuses r (source_refused files.source f) → asking.Gives (Err r) (told_by files given)
+    → Refuses f given → refusing.Refuses r (source_refused files.source f) → refusing.Gives (Err r) (told_by files given)
 told_refused files given (alm.E1 line column) r is refuses = refused_by files given (alm.E1 line column) r is refuses
 told_refused files given (alm.E2 line column) r is refuses = refused_by files given (alm.E2 line column) r is refuses
 told_refused files given (alm.E3 line column) r is refuses = refused_by files given (alm.E3 line column) r is refuses

@@ -7,8 +7,8 @@ use Rattle.m36_bindfile.specs.declared.fault.BindFault.TheVariants as bind
 use Rattle.m36_reading.specs.declared.status.Code.TheVariants as code
 use Rattle.m36_reading.specs.declared.refusal.Refusal.{Refusal}
 use Rattle.m36_reading.specs.declared.refusal.Refusal.TheVariants.{NoMemory}
-use Rattle.m36_reading.specs.Reading.{Early}
-use Rattle.m36_reading.specs.Readers.{refused}
+use Rattle.m36_reading.specs.Refusing.{Early}
+use Rattle.m36_reading.specs.Rules.{refused}
 use Rattle.m36_told.specs.declared.binding.BindFiles.{BindFiles}
 use Rattle.m36_told.specs.Told.{ToldFields}
 use Rattle.m36_told.specs.Assemblies.{object_set}

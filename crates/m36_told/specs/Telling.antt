@@ -8,8 +8,8 @@ use Rattle.m36_list.specs.Listing.{listing_of}
 use Rattle.m36_reading.specs.declared.status.Code.TheVariants as code
 use Rattle.m36_reading.specs.declared.refusal.Refusal.{Refusal}
 use Rattle.m36_reading.specs.declared.refusal.Refusal.TheVariants.{NoMemory}
-use Rattle.m36_reading.specs.Reading.{Early}
-use Rattle.m36_reading.specs.Readers.{refused_at}
+use Rattle.m36_reading.specs.Refusing.{Early}
+use Rattle.m36_reading.specs.Rules.{refused_at}
 use Rattle.m36_told.specs.declared.assembling.AlmFiles.{AlmFiles}
 use Rattle.m36_told.specs.Told.{ToldFields}
 use Rattle.m36_told.specs.Assemblies.{Assembly, object_set, MakingSays}

@@ -1,6 +1,6 @@
 //! The files of `alm NAME`, and the refusal of its source.
 
-ghost use Rattle.m36_reading.specs.Asking.{Refuses};
+ghost use Rattle.m36_reading.specs.Refusing.{Refuses};
 ghost use Rattle.m36_told.specs.Telling.{source_refused};
 
 use alm_parse::AlmFault;

@@ -1,7 +1,5 @@
--- The readers of one file, each with all its refusals: its bytes (F1, F2), its words (T3, T4, F3),
--- its object (O1 to O8).
+-- The words of a file (T3, T4, F3), and its object (O1 to O8), or the refusal of the file.
 use Rattle.std.specs.Prelude.{ℕ, nat_lt, if◌then◌else◌, List, length, Result, Ok, Err}
-use Rattle.m36_text.specs.Packing.{unpacked}
 use Rattle.m36_text.specs.declared.packing.PackFault.{PackFault}
 use Rattle.m36_text.specs.declared.packing.PackFault.TheVariants as pack
 use Rattle.obj36_parts.specs.PartsFields.{PartsFields}
@@ -12,9 +10,7 @@ use Rattle.m36_reading.specs.declared.status.Code.{Code}
 use Rattle.m36_reading.specs.declared.status.Code.TheVariants as code
 use Rattle.m36_reading.specs.declared.refusal.Refusal.{Refusal}
 use Rattle.m36_reading.specs.declared.refusal.Refusal.TheVariants.{BadFile, NoMemory}
-use Rattle.m36_reading.specs.Reading.{Found, Content, Absent, TooLarge, Reading, decided, asks}
-use Rattle.m36_reading.specs.Reading.{Early, then_with}
-use Rattle.obj36.specs.ObjectOf.{object_of}
+use Rattle.m36_reading.specs.Refusing.{Early}
 
 -- the refusal of a file, by its name, a code, a place and a column
 abbrev pub refused_at : List ℕ → Code → ℕ → ℕ → Refusal
@@ -23,20 +19,6 @@ refused_at name code at column =
 
 abbrev pub refused : List ℕ → Code → ℕ → Refusal
 refused name code at = refused_at name code at 0
-
--- ---- bytes
-
--- the bytes of a file, or its refusal
-abbrev pub bytes_of : List ℕ → Found → Early (List ℕ)
-bytes_of name (Content bytes) = Ok bytes
-bytes_of name Absent = Err (refused name code.F1 0)
-bytes_of name TooLarge = Err (refused name code.F2 0)
-
-abbrev pub bytes_by : List ℕ → Found → Reading (Early (List ℕ))
-bytes_by name found = decided (bytes_of name found)
-
-unfoldable pub file_bytes : List ℕ → Reading (Early (List ℕ))
-file_bytes name = asks name (bytes_by name)
 
 -- ---- words
 
@@ -50,9 +32,6 @@ words_by name (Ok words) = sized name words
 words_by name (Err (pack.T3 count)) = Err (refused name code.T3 count)
 words_by name (Err (pack.T4 place)) = Err (refused name code.T4 place)
 words_by name (Err pack.NoMemory) = Err NoMemory
-
-unfoldable pub file_words : List ℕ → Reading (Early (List ℕ))
-file_words name = then_with (file_bytes name) (λ bytes. decided (words_by name (unpacked bytes)))
 
 -- ---- objects
 
@@ -71,6 +50,3 @@ object_refused name fault.NoMemory = NoMemory
 abbrev pub object_by : List ℕ → Result PartsFields ObjectFault → Early PartsFields
 object_by name (Ok parts) = Ok parts
 object_by name (Err fault) = Err (object_refused name fault)
-
-unfoldable pub file_object : List ℕ → Reading (Early PartsFields)
-file_object name = then_with (file_words name) (λ words. decided (object_by name (object_of words)))

@@ -8,12 +8,11 @@ use Rattle.obj36.specs.declared.fault.ObjectFault.{ObjectFault}
 use Rattle.obj36.specs.declared.fault.ObjectFault.TheVariants as fault
 use Rattle.m36_reading.specs.declared.status.Code.TheVariants as code
 use Rattle.m36_reading.specs.declared.refusal.Refusal.{Refusal}
-use Rattle.m36_reading.specs.declared.refusal.Refusal.TheVariants.{NoMemory}
-use Rattle.m36_reading.specs.Asking.{Gives, Refuses}
+use Rattle.m36_reading.specs.Refusing.{Gives, Refuses}
 use Rattle.obj36_parts.specs.ObjectSegment.{segment_limit}
 use Rattle.obj36.specs.ObjectOf.{object_of, IsObjectOf}
-use Rattle.m36_reading.specs.Readers.{refused, sized, words_by, object_refused, object_by}
-use Rattle.m36_reading.proofs.ReadLaws.{gives_by, memory_given}
+use Rattle.m36_reading.specs.Rules.{refused, sized, words_by, object_refused, object_by}
+use Rattle.m36_reading.proofs.GivesLaws.{gives_by, memory_given}
 
 -- more words than a segment can have, or not
 pub sized_over :

@@ -1,18 +1,16 @@
-//! The readers of one file, each with all its refusals.
+//! Refuses files, and computes the words and the object of the bytes of a file.
 
 ghost use Rattle.std.specs.Prelude.{◌≤◌, ◌<◌, ◌^◌, length, IfOk};
 ghost use Rattle.m36_outside.specs.ReadAnswer.{file_limit};
 ghost use Rattle.m36_text.specs.Packing.{unpacked};
-ghost use Rattle.m36_reading.specs.Asking.{Gives, Refuses};
 ghost use Rattle.obj36_parts.specs.ObjectSegment.{segment_limit};
 ghost use Rattle.obj36.specs.ObjectOf.{object_of};
-ghost use Rattle.m36_reading.specs.Readers.{refused, sized, refused_at, words_by, object_refused, object_by, file_bytes, file_words, file_object};
-ghost use Rattle.m36_reading.specs.Outside.{folder_of};
-ghost use Rattle.m36_reading.specs.Doing.{Reads};
+ghost use Rattle.m36_reading.specs.Refusing.{Gives, Refuses};
+ghost use Rattle.m36_reading.specs.Rules.{refused, sized, refused_at, words_by, object_refused, object_by};
 
 use crate::refusal::Refusal;
 use crate::status::{Bad, Code};
-use m36_outside::{Folder, ReadAnswer, Text};
+use m36_outside::Text;
 use m36_text::{PackFault, unpack};
 use m36_word::{Word, Words};
 use obj36::{Object, ObjectFault};
@@ -42,26 +40,8 @@ pub fn refuse(alloc: Global, name: &[u8], code: Code, at: u32) -> Refusal
     refuse_at(alloc, name, code, at, 0)
 }
 
-/// Reads the bytes of a file: F1 if it is absent, F2 if it has more than 16 MiB. A read that fails
-/// is ReadFault.
-pub fn read_bytes<F: Folder>(alloc: Global, name: &[u8], folder: &mut F) -> Result<Text, Refusal>
-    ensures reads { Reads (file_bytes name.now) result
-        (folder_of F.files F.wrote F.read_faults F.write_faults folder.old)
-        (folder_of F.files F.wrote F.read_faults F.write_faults folder.new)
-        (F.asked folder.old) (F.asked folder.new) }
-    ensures limit { IfOk result (λ text. length text ≤ file_limit) }
-{
-    match folder.read(alloc, name) {
-        ReadAnswer::Read(text) => Ok(text),
-        ReadAnswer::Absent => Err(refuse(alloc, name, Code::F1, 0)),
-        ReadAnswer::TooLarge => Err(refuse(alloc, name, Code::F2, 0)),
-        ReadAnswer::Failed => Err(Refusal::ReadFault),
-        ReadAnswer::NoMemory => Err(Refusal::NoMemory),
-    }
-}
-
 // F3 if there are more words than a segment can have.
-#[tactic(auto, using(crate::proofs::FileLaws::sizes))]
+#[tactic(auto, using(crate::proofs::RuleLaws::sizes))]
 fn sized(alloc: Global, name: &[u8], words: Words) -> Result<Words, Refusal>
     ensures gives { Gives result (sized name.now words) }
     ensures few { IfOk result (λ words. length words ≤ segment_limit) }
@@ -74,7 +54,7 @@ fn sized(alloc: Global, name: &[u8], words: Words) -> Result<Words, Refusal>
 
 /// Unpacks the bytes of a file, at most 16 MiB, into words: T3 or T4 if they are no packed words,
 /// F3 if there are more than 2^18 words.
-#[tactic(auto, using(crate::proofs::FileLaws::unpacking))]
+#[tactic(auto, using(crate::proofs::RuleLaws::unpacking))]
 pub fn words_in(alloc: Global, name: &[u8], bytes: &[u8]) -> Result<Words, Refusal>
     requires { length bytes.now ≤ file_limit }
     ensures gives { Gives result (words_by name.now (unpacked bytes.now)) }
@@ -86,18 +66,6 @@ pub fn words_in(alloc: Global, name: &[u8], bytes: &[u8]) -> Result<Words, Refus
         Err(PackFault::T4(place)) => Err(refuse(alloc, name, Code::T4, place as u32)),
         Err(PackFault::NoMemory) => Err(Refusal::NoMemory),
     }
-}
-
-/// Reads a file and unpacks its words, at most 2^18: F1, F2, then T3, T4, F3.
-pub fn read_words<F: Folder>(alloc: Global, name: &[u8], folder: &mut F) -> Result<Words, Refusal>
-    ensures reads { Reads (file_words name.now) result
-        (folder_of F.files F.wrote F.read_faults F.write_faults folder.old)
-        (folder_of F.files F.wrote F.read_faults F.write_faults folder.new)
-        (F.asked folder.old) (F.asked folder.new) }
-    ensures few { IfOk result (λ words. length words ≤ segment_limit) }
-{
-    let text = read_bytes(alloc, name, folder)?;
-    words_in(alloc, name, text.bytes())
 }
 
 // O1 to O8, for words that are no object.
@@ -126,15 +94,4 @@ pub fn object_in(alloc: Global, name: &[u8], words: &[Word]) -> Result<Object, R
         Ok(object) => Ok(object),
         Err(fault) => Err(refuse_object(alloc, name, fault)),
     }
-}
-
-/// Reads a file and decodes its object: F1, F2, then T3, T4, F3, then O1 to O8.
-pub fn read_object<F: Folder>(alloc: Global, name: &[u8], folder: &mut F) -> Result<Object, Refusal>
-    ensures { Reads (file_object name.now) result
-        (folder_of F.files F.wrote F.read_faults F.write_faults folder.old)
-        (folder_of F.files F.wrote F.read_faults F.write_faults folder.new)
-        (F.asked folder.old) (F.asked folder.new) }
-{
-    let words = read_words(alloc, name, folder)?;
-    object_in(alloc, name, words.slice())
 }

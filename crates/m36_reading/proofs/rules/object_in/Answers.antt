@@ -1,6 +1,6 @@
 -- The words are an object, or none.
-use Rattle.m36_reading.proofs.FileLaws.{object_given, object_none}
-use Rattle.m36_reading.proofs.reading.object_in.Goals as goal
+use Rattle.m36_reading.proofs.RuleLaws.{object_given, object_none}
+use Rattle.m36_reading.proofs.rules.object_in.Goals as goal
 
 pub returns-in-Ok : goal.returns-in-Ok
 returns-in-Ok c = object_given c.args.name.now c.args.words.now c.in-Ok.object c.in-Ok.ensures.object
