@@ -1,13 +1,11 @@
 -- Pieces that are gathered in a block before they are put.
 use Rattle.std.proofs.Common.{◌≡◌, ℕ, List, [], ◌∷◌, ◌++◌, refl, sym, ap, subst, ◌∙◌}
 use Rattle.std.proofs.lemmas.List.{append-nil, append_assoc}
-use Rattle.m36_outside.specs.declared.sink.Put.{Put}
-use Rattle.m36_outside.specs.declared.sink.Put.TheVariants.{Done, Failed}
 use Rattle.m36_world.specs.declared.event.Event.TheVariants.{Output}
 use Rattle.m36_world.specs.Seen.{Seen}
 use Rattle.m36_world.specs.Happened.{IsOutput, IsOutputFailed}
 use Rattle.m36_world.specs.Follow.{Follow, outputs}
-use Rattle.m36_program.specs.Gathered.{Gathers, Loses, Adds}
+use Rattle.m36_program.specs.Gathered.{Gathers, Loses}
 use Rattle.m36_world.proofs.Following.{follow_on, follow_none, follow_one}
 
 outputs_both : (first more : List (List ℕ)) → outputs (first ++ more) ≡ outputs first ++ outputs more
@@ -54,16 +52,6 @@ loses_after old now more before between after put none next = record {
   follow = follow_pieces old next.handed before between next.between put next.follow;
   fails = next.fails;
 }
-
-pub adds_after :
-    (answer : Put) (start old now new more : List (List ℕ)) (before between after : Seen)
-    → old ≡ start → Follow (outputs old) before between → now ≡ [] → Adds answer now new more between after
-    → Adds answer start new more before after
-adds_after Done start old now new more before between after same put none next =
-    subst (λ l. Gathers l new more before after) same
-    (gathers_after old now new more before between after put none next)
-adds_after Failed start old now new more before between after same put none next =
-    subst (λ l. Loses (l ++ more) before after) same (loses_after old now more before between after put none next)
 
 -- the pieces of the block could not be put
 pub loses_here :

@@ -6,14 +6,14 @@ use Rattle.m36_world.specs.Seen.{Seen}
 use Rattle.m36_world.specs.Follow.{Follow, outputs}
 use Rattle.m36_reading.specs.declared.status.Status.{Status}
 use Rattle.m36_reading.specs.declared.status.Status.TheVariants.{WriteFault}
-use Rattle.m36_program.specs.Program.{May, Program, then_with, puts, some, wants, puts_all}
+use Rattle.m36_program.specs.Program.{May, Program, then_with, puts, some, puts_all}
 use Rattle.m36_program.specs.Goes.{Goes}
 use Rattle.m36_program.specs.Performs.{Performs, Leads}
 use Rattle.m36_program.specs.Gathered.{Gathers, Loses}
 use Rattle.m36_program.specs.Readers.{put_one}
 use Rattle.m36_world.proofs.Following.{follow_on, follow_none}
 use Rattle.m36_program.proofs.GoesLaws.{goes_then, goes_stop}
-use Rattle.m36_program.proofs.Performing.{goes_some, goes_wants, puts_then, performs_unput}
+use Rattle.m36_program.proofs.Performing.{goes_some, puts_then, performs_unput}
 use Rattle.m36_program.proofs.PutLaws.{goes_puts, puts_both, puts_one, puts_none, loses_performs}
 
 -- the whole program is left
@@ -81,16 +81,6 @@ leads_some Is go b first old new is left = record {
   events = left.events;
   follow = left.follow;
   leads = λ more result goes. left.leads more result (goes_some Is go b more result is goes);
-}
-
--- memory did not run out
-pub leads_wants :
-    {may : May} {A : Type 0} (p first : Program may A) (old new : Seen) → Leads (wants p) first old new
-    → Leads p first old new
-leads_wants p first old new left = record {
-  events = left.events;
-  follow = left.follow;
-  leads = λ more result goes. left.leads more result (goes_wants p more result goes);
 }
 
 -- a piece was put

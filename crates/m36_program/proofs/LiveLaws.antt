@@ -5,30 +5,13 @@ use Rattle.m36_outside.specs.declared.folder.WriteAnswer.TheVariants as write
 use Rattle.m36_world.specs.declared.event.Event.{Event}
 use Rattle.m36_world.specs.declared.event.Event.TheVariants.{FileRead, FileWrite, Output, Input}
 use Rattle.m36_reading.specs.declared.status.Status.{Status}
-use Rattle.m36_program.specs.Program.{Found, Absent, May, Program, then_with, puts_all}
+use Rattle.m36_program.specs.Program.{Absent, May, Program, puts_all}
 use Rattle.m36_program.specs.Program.{done, stops, reads, writes, puts, takes, some, wants}
-use Rattle.m36_program.specs.Alike.{IsEnd}
 use Rattle.m36_program.specs.Ended.{HasEnd}
 use Rattle.m36_program.specs.Goes.{Goes}
 use Rattle.m36_program.specs.Lives.{Lives}
 
 -- ---- parts
-
-pub lives_then :
-    {may : May} {A B : Type 0} (p : Program may A) (next : A → Program may B) → Lives p → ((a : A) → Lives (next a))
-    → Lives (then_with p next)
-unfolding Lives then_with
-lives_then (done a) next live on = on a
-lives_then (stops s own) next live on = tt
-lives_then (reads name go) next live on = λ found. lives_then (go found) next (live found) on
-lives_then (writes allowed name content p) next live on = lives_then p next live on
-lives_then (puts piece p) next live on = lives_then p next live on
-lives_then (takes allowed go) next live on = λ piece. lives_then (go piece) next (live piece) on
-lives_then (some Is go) next live on = record {
-  value = live.value;
-  each = λ b is. lives_then (go b) next (live.each b is) on;
-}
-lives_then (wants p) next live on = lives_then p next live on
 
 pub lives_puts :
     {may : May} {A : Type 0} (pieces : List (List ℕ)) (p : Program may A) → Lives p → Lives (puts_all pieces p)

@@ -1,17 +1,14 @@
 -- The events of pieces that are put one after another.
 use Rattle.std.proofs.Common.{◌≡◌, ◌⊎◌, ℕ, List, [], ◌∷◌, ◌++◌, Result, Err, refl, sym}
 use Rattle.std.proofs.Common.{ap, subst, ◌∙◌, inl, inr}
-use Rattle.std.specs.List.{flat_map}
 use Rattle.m36_outside.specs.Passing.{joined}
 use Rattle.m36_outside.specs.Putting.{PutsText, PutsPieces}
 use Rattle.m36_outside.specs.SinkState.{SinkState}
-use Rattle.m36_outside.specs.declared.folder.ReadAnswer.{ReadAnswer}
 use Rattle.m36_outside.specs.declared.sink.Put.TheVariants.{Done, Failed}
 use Rattle.std.proofs.lemmas.List.Folds.{concat-append as joined_both}
 use Rattle.m36_outside.proofs.Grown.{grew_longer}
 use Rattle.m36_outside.proofs.LinesTaken.{takes_lines_longer}
 use Rattle.m36_world.specs.Follow.{outputs}
-use Rattle.m36_world.specs.Logs.{read_of}
 use Rattle.m36_world.specs.declared.event.Event.{Event}
 use Rattle.m36_world.specs.declared.event.Event.TheVariants.{Output, OutputFailed}
 use Rattle.m36_reading.specs.declared.status.Status.{Status}
@@ -32,14 +29,6 @@ pieces_put (piece ∷ pieces) more = ap (λ l. piece ∷ l) (pieces_put pieces m
 pub put_after : (pieces : List (List ℕ)) (more : List Event) → put_of (outputs pieces ++ more) ≡ put_of more
 put_after [] more = refl
 put_after (piece ∷ pieces) more = put_after pieces more
-
--- the reads of files, one after another
-abbrev pub reads_of : List Event → List (List ℕ × ReadAnswer)
-reads_of events = flat_map read_of events
-
-pub reads_after : (pieces : List (List ℕ)) (more : List Event) → reads_of (outputs pieces ++ more) ≡ reads_of more
-reads_after [] more = refl
-reads_after (piece ∷ pieces) more = reads_after pieces more
 
 -- ---- a program that puts pieces
 

@@ -1,13 +1,10 @@
 -- What holds for every call that performs a program.
-use Rattle.std.proofs.Common.{◌≡◌, ℕ, false, List, [], ◌∷◌, Result, Err, refl, sym, subst, inl, inr}
-use Rattle.m36_outside.specs.Counts.{Rose}
-use Rattle.m36_outside.proofs.Risen.{rose_never}
+use Rattle.std.proofs.Common.{◌≡◌, false, List, [], ◌∷◌, Result, Err, refl, sym, subst}
 use Rattle.m36_outside.specs.Putting.{PutsPieces}
 use Rattle.m36_outside.specs.declared.folder.ReadAnswer.{ReadAnswer}
 use Rattle.m36_outside.specs.declared.folder.ReadAnswer.TheVariants as read
 use Rattle.m36_outside.specs.declared.folder.WriteAnswer.{WriteAnswer}
 use Rattle.m36_outside.specs.declared.folder.WriteAnswer.TheVariants as write
-use Rattle.m36_outside.specs.declared.sink.Put.TheVariants.{Done}
 use Rattle.m36_world.specs.declared.event.Event.{Event}
 use Rattle.m36_world.specs.declared.event.Event.TheVariants.{FileRead, FileWrite, Output, OutputFailed, Input}
 use Rattle.m36_world.specs.declared.event.Event.TheVariants.{InputFailed}
@@ -22,7 +19,7 @@ use Rattle.m36_program.specs.Trail.{IsUnfailed, Trail, HasCause, FilesKept, Inpu
 use Rattle.m36_program.proofs.TrailLaws.{goes_trail}
 use Rattle.m36_program.proofs.CauseLaws.{trail_cause}
 use Rattle.m36_program.proofs.KeptLaws.{trail_files, trail_input}
-use Rattle.m36_program.proofs.TextLaws.{follow_text, trail_put}
+use Rattle.m36_program.proofs.TextLaws.{follow_text}
 
 pub performs_cause :
     {may : May} {A : Type 0} (p : Program may A) (result : Result A Status) (old new : Seen) → Performs p result old new
@@ -51,39 +48,7 @@ pub performs_text :
 performs_text {may = may} p result old new performs =
     follow_text may performs.events result old new (goes_trail p performs.events result performs.goes) performs.follow
 
-pub performs_whole :
-    {may : May} {A : Type 0} (p : Program may A) (result : Result A Status) (old new : Seen)
-    (performs : Performs p result old new)
-    → (result ≡ Err status.WriteFault → ⊥) → put_of performs.events ≡ Done
-performs_whole {may = may} p result old new performs whole =
-    trail_put may performs.events result whole (goes_trail p performs.events result performs.goes)
-
 -- ---- statuses that cannot occur
-
--- no count of faults ever rises, as for objects that never fail
-pub record NeverFailed (seen : Seen) : Type 0 where
-  pub reads : seen.read_faults ≡ 0
-  pub writes : seen.write_faults ≡ 0
-  pub outputs : seen.output_faults ≡ 0
-  pub inputs : seen.input_faults ≡ 0
-
-rose_at : {P : Type 0} (old new : ℕ) → old ≡ 0 → new ≡ 0 → Rose old new → P
-rose_at old new was is rose = rose_never (subst (λ n. Rose n 0) was (subst (λ n. Rose old n) is rose))
-
-cause_never :
-    {A : Type 0} (result : Result A Status) (old new : Seen)
-    → IsGiven result → NeverFailed old → NeverFailed new → HasCause result old new → IsUnfailed result
-cause_never (Err status.Done) old new given was is cause = absurd given
-cause_never (Err status.Usage) old new given was is cause = absurd given
-cause_never (Err status.ReadFault) old new given was is (inl cause) =
-    rose_at old.read_faults new.read_faults was.reads is.reads cause.reads
-cause_never (Err status.ReadFault) old new given was is (inr cause) =
-    rose_at old.input_faults new.input_faults was.inputs is.inputs cause.inputs
-cause_never (Err status.WriteFault) old new given was is (inl cause) =
-    rose_at old.write_faults new.write_faults was.writes is.writes cause.writes
-cause_never (Err status.WriteFault) old new given was is (inr cause) =
-    rose_at old.output_faults new.output_faults was.outputs is.outputs cause.outputs
-cause_never _ old new given was is cause = tt
 
 unfailed_given : {A : Type 0} (result : Result A Status) → IsUnfailed result → IsGiven result
 unfailed_given (Err status.Done) is = absurd is
@@ -133,14 +98,6 @@ pub performs_given :
     → IsGiven result
 performs_given {may = may} p result old new performs =
     trail_given may performs.events result (goes_trail p performs.events result performs.goes)
-
--- Over objects that never fail there is no fault.
-pub performs_never :
-    {may : May} {A : Type 0} (p : Program may A) (result : Result A Status) (old new : Seen)
-    → NeverFailed old → NeverFailed new → Performs p result old new → IsUnfailed result
-performs_never p result old new was is performs =
-    cause_never result old new (performs_given p result old new performs) was is
-    (performs_cause p result old new performs)
 
 -- ---- statuses and results
 

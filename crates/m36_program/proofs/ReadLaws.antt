@@ -3,10 +3,9 @@ use Rattle.std.proofs.Common.{◌≡◌, ℕ, true, List, [], ◌∷◌, Result,
 use Rattle.m36_outside.specs.declared.folder.ReadAnswer.{ReadAnswer}
 use Rattle.m36_outside.specs.declared.folder.ReadAnswer.TheVariants as read
 use Rattle.m36_outside.specs.declared.folder.WriteAnswer.TheVariants as write
-use Rattle.m36_world.specs.declared.event.Event.TheVariants.{FileRead, FileWrite, Output, OutputFailed, Input}
-use Rattle.m36_world.specs.declared.event.Event.TheVariants.{InputFailed}
+use Rattle.m36_world.specs.declared.event.Event.TheVariants.{FileRead, FileWrite, Output, OutputFailed}
 use Rattle.m36_world.specs.Seen.{Seen}
-use Rattle.m36_world.specs.Happened.{IsFileRead, IsFileWrite, IsOutput, IsOutputFailed, IsInput, IsInputFailed}
+use Rattle.m36_world.specs.Happened.{IsFileRead, IsFileWrite, IsOutput, IsOutputFailed}
 use Rattle.m36_reading.specs.declared.status.Bad.{Bad}
 use Rattle.m36_reading.specs.declared.status.Code.TheVariants as code
 use Rattle.m36_reading.specs.declared.status.Status.{Status}
@@ -16,7 +15,7 @@ use Rattle.m36_reading.specs.declared.status.Status.TheVariants.{NoMemory}
 use Rattle.m36_program.specs.Program.{Found, May, Program, reads}
 use Rattle.m36_program.specs.Goes.{AfterRead, Goes}
 use Rattle.m36_program.specs.Performs.{Performs}
-use Rattle.m36_program.specs.Readers.{refused, refuses, IsRefusal, file_bytes, put_one, write_one, take_one}
+use Rattle.m36_program.specs.Readers.{refused, refuses, IsRefusal, file_bytes, put_one, write_one}
 use Rattle.m36_world.proofs.Following.{follow_one}
 
 -- ---- a refusal
@@ -146,27 +145,3 @@ one_no_memory may allowed name content old new did = record {
 }
 
 pub ruleset writing = (one_written, one_unwritten, one_no_memory)
-
--- ---- a piece of input is taken
-
-pub one_taken :
-    (may : May) (allowed : may.takes ≡ true) (piece : List ℕ) (old new : Seen)
-    → IsInput piece old new → Performs {may = may} (take_one allowed) (Ok piece) old new
-unfolding Goes take_one
-one_taken may allowed piece old new did = record {
-  events = Input piece ∷ [];
-  follow = follow_one (Input piece) old new did;
-  goes = inl (record { piece = piece; more = []; first = refl; rest = record { none = refl; result_is = refl } });
-}
-
-pub one_untaken :
-    (may : May) (allowed : may.takes ≡ true) (old new : Seen)
-    → IsInputFailed old new → Performs {may = may} (take_one allowed) (Err ReadFault) old new
-unfolding Goes take_one
-one_untaken may allowed old new did = record {
-  events = InputFailed ∷ [];
-  follow = follow_one InputFailed old new did;
-  goes = inr (record { only = refl; result_is = refl });
-}
-
-pub ruleset taking = (one_taken, one_untaken)

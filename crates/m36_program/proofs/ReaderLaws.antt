@@ -28,7 +28,7 @@ use Rattle.m36_program.specs.Alike.{IsEnd}
 use Rattle.m36_program.specs.Early.{IsGiven}
 use Rattle.m36_program.specs.Ended.{NoneRose, IsDoneOrNoMemory, StartsWith, SaysYes, Audited}
 use Rattle.m36_program.specs.Found.{found_in}
-use Rattle.m36_program.specs.Goes.{AfterRead, Goes}
+use Rattle.m36_program.specs.Goes.{Goes}
 use Rattle.m36_program.specs.Performs.{Performs}
 use Rattle.m36_program.specs.Reader.{IsReader, outcome_in, ReadBy}
 use Rattle.m36_program.specs.Readers.{refuses, bytes_found, file_bytes}

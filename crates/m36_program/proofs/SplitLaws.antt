@@ -7,18 +7,15 @@ use Rattle.m36_outside.specs.declared.folder.ReadAnswer.{ReadAnswer}
 use Rattle.m36_outside.specs.declared.folder.ReadAnswer.TheVariants as read
 use Rattle.m36_outside.specs.declared.folder.WriteAnswer.{WriteAnswer}
 use Rattle.m36_outside.specs.declared.folder.WriteAnswer.TheVariants as write
-use Rattle.m36_world.specs.Seen.{Seen}
-use Rattle.m36_world.specs.Follow.{Next, Follow, outputs}
+use Rattle.m36_world.specs.Follow.{outputs}
 use Rattle.m36_world.specs.declared.event.Event.{Event}
 use Rattle.m36_world.specs.declared.event.Event.TheVariants.{FileRead, FileWrite, Output, OutputFailed, Input}
-use Rattle.m36_world.proofs.Following.{follow_split}
 use Rattle.m36_reading.specs.declared.status.Status.{Status}
 use Rattle.m36_reading.specs.declared.status.Status.TheVariants.{ReadFault, WriteFault, NoMemory}
 use Rattle.m36_program.specs.Program.{Found, Content, Absent, TooLarge, May, Program, then_with}
 use Rattle.m36_program.specs.Program.{done, stops, reads, writes, puts, takes, some, wants}
 use Rattle.m36_program.specs.Goes.{AfterRead, AfterWrite, FailsWith, Goes}
-use Rattle.m36_program.specs.Performs.{Performs}
-use Rattle.m36_program.specs.Split.{Split, BothPerform, FirstPerforms}
+use Rattle.m36_program.specs.Split.{Split}
 use Rattle.m36_program.proofs.GoesLaws.{goes_failed}
 
 -- ---- a failed output
@@ -276,30 +273,3 @@ goes_split (wants p) next events result (inl goes) =
 goes_split (wants p) next events result (inr ends) =
     split_ends (wants p) next NoMemory events result ends.result_is
     (inr (record { none = ends.none; result_is = refl }))
-
--- ---- calls
-
--- a call that performs both, if the output did not fail, is two calls
-pub performs_split :
-    {may : May} {A B : Type 0} (p : Program may A) (next : A → Program may B) (result : Result B Status)
-    (old new : Seen)
-    → (result ≡ Err WriteFault → ⊥) → Performs (then_with p next) result old new
-    → BothPerform p next result old new ⊎ FirstPerforms p result old new
-performs_split p next result old new whole performs =
-    elim (goes_split p next performs.events result performs.goes) [
-      | inl both ↦ inl (
-          let parts : Next (Follow both.first) (Follow both.more) old new =
-          follow_split both.first both.more old new (subst (λ events. Follow events old new) both.is performs.follow) in
-          record {
-            value = both.value;
-            between = parts.between;
-            begins = record { events = both.first; follow = parts.begins; goes = both.begins };
-            goes_on = record { events = both.more; follow = parts.goes_on; goes = both.goes_on };
-          })
-      | inr (inl ends) ↦ inr (record {
-        status = ends.status;
-        result_is = ends.result_is;
-        performs = record { events = performs.events; follow = performs.follow; goes = ends.goes };
-      })
-      | inr (inr across) ↦ absurd (whole (goes_failed (next across.value) across.rest result across.goes_on))
-    ]

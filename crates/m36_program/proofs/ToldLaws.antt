@@ -1,20 +1,17 @@
 -- What a call reads if the files are known.
-use Rattle.std.proofs.Common.{◌≡◌, ℕ, List, ◌∷◌, Some, Result, Ok, Err, ap, subst, ◌∙◌, inl, inr}
+use Rattle.std.proofs.Common.{◌≡◌, ℕ, List, ◌∷◌, Some, Result, ap, subst, ◌∙◌}
 use Rattle.m36_outside.specs.Files.{Files}
 use Rattle.m36_world.specs.Seen.{Seen}
 use Rattle.m36_world.specs.Happened.{IsFileRead}
 use Rattle.m36_world.specs.Follow.{Follow}
 use Rattle.m36_world.specs.declared.event.Event.{Event}
 use Rattle.m36_world.specs.declared.event.Event.TheVariants.{FileRead}
-use Rattle.m36_reading.specs.declared.status.Bad.{Bad}
 use Rattle.m36_reading.specs.declared.status.Status.{Status}
-use Rattle.m36_reading.specs.declared.status.Status.TheVariants.{BadFile}
-use Rattle.m36_program.specs.Program.{Found, Content, Absent, TooLarge, May, Program, reads}
+use Rattle.m36_program.specs.Program.{Found, May, Program, reads}
 use Rattle.m36_program.specs.Goes.{Goes}
 use Rattle.m36_program.specs.Performs.{Performs}
 use Rattle.m36_program.specs.Found.{found_in}
 use Rattle.m36_program.specs.Alike.{IsEnd}
-use Rattle.m36_program.specs.Readers.{refuses, bytes_found, file_bytes}
 use Rattle.m36_program.proofs.OneText.{found_or_ended, said}
 
 -- A call that reads a file continues by what the files have.
@@ -43,41 +40,3 @@ reads_told name go files result old new told ended performs =
       performs = record { events = goes.more; follow = same.goes_on; goes = rest };
     })
     (λ none fails. fails _ ended)
-
--- The bytes of a file are those that the files have under the name.
-bytes_are :
-    (may : May) (name bytes : List ℕ) (found : Found) (events : List Event)
-    → Goes {may = may} (bytes_found name found) events (Ok bytes) → found ≡ Content bytes
-unfolding Goes refuses
-bytes_are may name bytes (Content given) events goes = let is = goes.result_is in cc
-bytes_are may name bytes Absent events (inl goes) = absurd (let is = goes.result_is in cc)
-bytes_are may name bytes Absent events (inr ends) = absurd (let is = ends.result_is in cc)
-bytes_are may name bytes TooLarge events (inl goes) = absurd (let is = goes.result_is in cc)
-bytes_are may name bytes TooLarge events (inr ends) = absurd (let is = ends.result_is in cc)
-
-pub bytes_told :
-    {may : May} (name bytes : List ℕ) (files : Files) (old new : Seen)
-    → old.files ≡ Some files → Performs {may = may} (file_bytes name) (Ok bytes) old new
-    → found_in (files name) ≡ Content bytes
-unfolding file_bytes
-bytes_told {may} name bytes files old new told performs =
-    let on = reads_told name (bytes_found name) files (Ok bytes) old new told tt performs in
-    bytes_are may name bytes (found_in (files name)) on.performs.events on.performs.goes
-
--- A file that the files have is not refused.
-no_refusal :
-    (may : May) (name bytes : List ℕ) (bad : Bad) (found : Found) (events : List Event)
-    → found ≡ Content bytes → Goes {may = may} (bytes_found name found) events (Err (BadFile bad)) → ⊥
-unfolding Goes refuses
-no_refusal may name bytes bad (Content given) events is goes = let end = goes.result_is in cc
-no_refusal may name bytes bad Absent events is goes = cc
-no_refusal may name bytes bad TooLarge events is goes = cc
-
-pub bytes_accepted :
-    {may : May} (name bytes : List ℕ) (bad : Bad) (files : Files) (old new : Seen)
-    → old.files ≡ Some files → found_in (files name) ≡ Content bytes
-    → Performs {may = may} (file_bytes name) (Err (BadFile bad)) old new → ⊥
-unfolding file_bytes
-bytes_accepted {may} name bytes bad files old new told is performs =
-    let on = reads_told name (bytes_found name) files (Err (BadFile bad)) old new told tt performs in
-    no_refusal may name bytes bad (found_in (files name)) on.performs.events is on.performs.goes

@@ -1,5 +1,5 @@
 -- What it means that a program has one text over given files.
-use Rattle.std.specs.Prelude.{ℕ, ◌≡◌, List, Some, Result}
+use Rattle.std.specs.Prelude.{◌≡◌, Some, Result}
 use Rattle.m36_outside.specs.Files.{Files}
 use Rattle.m36_outside.specs.Passing.{joined}
 use Rattle.m36_outside.specs.Written.{GrewWithin}

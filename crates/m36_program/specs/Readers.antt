@@ -1,6 +1,6 @@
--- Programs that several commands share: to refuse a file, read the bytes of a file, put a piece,
--- write a file, and take a piece of input.
-use Rattle.std.specs.Prelude.{ℕ, ◌≡◌, true, ⊤, List, take, Result, Ok, Err}
+-- Programs that several commands share: to refuse a file, read the bytes of a file, put a piece, and
+-- write a file.
+use Rattle.std.specs.Prelude.{ℕ, ◌≡◌, true, ⊤, List}
 use Rattle.m36_reading.specs.declared.status.Bad.{Bad}
 use Rattle.m36_reading.specs.declared.status.Code.{Code}
 use Rattle.m36_reading.specs.declared.status.Code.TheVariants as code
@@ -9,7 +9,7 @@ use Rattle.m36_reading.specs.declared.status.Status.TheVariants.{Done, Usage, Re
 use Rattle.m36_reading.specs.declared.status.Status.TheVariants.{BadFile, AuditNo, MachineStop}
 use Rattle.m36_reading.specs.declared.status.Status.TheVariants.{Steps, NoMemory}
 use Rattle.m36_program.specs.Program.{Found, Content, Absent, TooLarge, May, Program}
-use Rattle.m36_program.specs.Program.{done, stops, reads, writes, puts, takes, wants}
+use Rattle.m36_program.specs.Program.{done, stops, reads, writes, puts, wants}
 
 -- a refused file: its name, a code, a place and a column
 abbrev pub refused_at : List ℕ → Code → ℕ → ℕ → Bad
@@ -53,12 +53,3 @@ put_one piece = puts piece (done tt)
 unfoldable pub write_one :
     {may : May} → may.writes ≡ true → List ℕ → List ℕ → Program may (Unit {0})
 write_one allowed name content = writes allowed name content (done tt)
-
--- takes a piece of input; the program has to be one that may take it
-unfoldable pub take_one : {may : May} → may.takes ≡ true → Program may (List ℕ)
-take_one allowed = takes allowed done
-
--- the piece, from its length and the buffer
-abbrev pub taken_by : Result ℕ Status → List ℕ → Result (List ℕ) Status
-taken_by (Ok count) into = Ok (take count into)
-taken_by (Err status) into = Err status

@@ -1,13 +1,11 @@
 -- What the events of two joined programs mean for each of the two.
 use Rattle.std.specs.Prelude.{ℕ, ◌≡◌, ◌⊎◌, List, [], ◌∷◌, ◌++◌, Result, Ok, Err}
-use Rattle.m36_world.specs.Seen.{Seen}
 use Rattle.m36_world.specs.Follow.{outputs}
 use Rattle.m36_world.specs.declared.event.Event.{Event}
 use Rattle.m36_world.specs.declared.event.Event.TheVariants.{OutputFailed}
 use Rattle.m36_reading.specs.declared.status.Status.{Status}
 use Rattle.m36_program.specs.Program.{May, Program}
 use Rattle.m36_program.specs.Goes.{Goes}
-use Rattle.m36_program.specs.Performs.{Performs}
 
 -- The first program ended with a value, and the second continued with it.
 pub record BothGo {may : May} {A B : Type 0} (p : Program may A) (next : A → Program may B)
@@ -44,20 +42,3 @@ abbrev pub Split :
     → Type 0
 Split p next events result =
     BothGo p next events result ⊎ FirstEnds p events result ⊎ FailsAcross p next events result
-
--- ---- calls
-
--- The first program was performed with a value, and then the second.
-pub record BothPerform {may : May} {A B : Type 0} (p : Program may A) (next : A → Program may B)
-    (result : Result B Status) (old new : Seen) : Type 0 where
-  pub value : A
-  pub between : Seen
-  pub begins : Performs p (Ok value) old between
-  pub goes_on : Performs (next value) result between new
-
--- The first program was performed and ended with a status.
-pub record FirstPerforms {may : May} {A B : Type 0} (p : Program may A) (result : Result B Status)
-    (old new : Seen) : Type 0 where
-  pub status : Status
-  pub result_is : result ≡ Err status
-  pub performs : Performs p (Err status) old new

@@ -5,8 +5,7 @@ ghost use Rattle.m36_outside.specs.Put.{OnFailed};
 ghost use Rattle.m36_world.specs.Answers.{PutBlockDid};
 ghost use Rattle.m36_program.specs.Gathered.{Adds, Puts};
 
-use m36_outside::spelled::SHORT;
-use m36_outside::{Block, Put, Spelled};
+use m36_outside::{Block, Put};
 use m36_world::World;
 
 /// Puts all pieces of a block, and removes them from it, even if the output fails.
@@ -34,33 +33,6 @@ pub fn add_piece<W: World>(block: &mut Block, piece: &[u8], world: &mut W) -> Pu
         Put::Done => add_first(block, piece, world),
         Put::Failed => Put::Failed,
     }
-}
-
-/// As `add_piece`, for a short text, which is spelled directly into the block.
-#[inline(always)]
-#[tactic(auto, using(crate::proofs::Gathered::gathering))]
-pub fn add_line<L: Spelled, W: World>(block: &mut Block, line: &L, world: &mut W) -> Put
-    ensures adds { Adds result block.old block.new (L.text line.now ∷ [])
-        (W.seen world.old) (W.seen world.new) }
-    ensures lost { OnFailed result (block.new ≡ []) }
-{
-    if block.push_line(line) {
-        Put::Done
-    } else {
-        add_copy(block, line, world)
-    }
-}
-
-// As `add_line`, if there is no room for the text.
-#[inline(never)]
-fn add_copy<L: Spelled, W: World>(block: &mut Block, line: &L, world: &mut W) -> Put
-    ensures adds { Adds result block.old block.new (L.text line.now ∷ [])
-        (W.seen world.old) (W.seen world.new) }
-    ensures lost { OnFailed result (block.new ≡ []) }
-{
-    let mut copy = [0; SHORT];
-    let count = line.spell(&mut copy);
-    add_piece(block, &copy[..count], world)
 }
 
 // Adds a piece to an empty block. A piece that is too long for a block is put directly.

@@ -59,7 +59,7 @@
 //! | Law in `proofs/` | What it says of each call that performs a program |
 //! |---|---|
 //! | `performs_then`, `performs_stop` | calls of two programs, in order, perform the two joined |
-//! | `performs_split` | the converse, if the output did not fail |
+//! | `goes_split`, `reader_split` | the converse, for events |
 //! | `performs_cause` | for a fault exactly one count rose; otherwise all counts are unchanged |
 //! | `performs_files`, `performs_input` | only a program that may write or take input does so |
 //! | `performs_text` | what is written grows by the pieces, or by a prefix of them |
@@ -74,19 +74,17 @@
 //! The one text of `performs_written` is what a call that ends writes. The program has to be
 //! `Alike` to itself.
 //!
-//! [`read_bytes`], [`write_file`], [`put_piece`] and [`take_piece`] perform programs of one step
-//! over any world, as part of any program that may take the step. [`add_piece`], [`add_line`],
-//! [`finish`] and [`hand_over`] gather pieces in a block.
+//! [`read_bytes`], [`write_file`] and [`put_piece`] perform programs of one step over any world, as
+//! part of any program that may take the step. [`add_piece`], [`finish`] and [`hand_over`] gather
+//! pieces in a block.
 #![tactic(auto)]
 
 pub mod ending;
 pub mod gathering;
 pub mod putting;
 pub mod reading;
-pub mod taking;
 
 pub use ending::{early, status_by};
-pub use gathering::{add_line, add_piece, finish, hand_over};
+pub use gathering::{add_piece, finish, hand_over};
 pub use putting::{put_piece, write_file};
 pub use reading::{read_bytes, refuse, refuse_at};
-pub use taking::take_piece;
