@@ -20,8 +20,7 @@
 //! | in a link service of a run | the audit's text, and what is written of the turns before it |
 //!
 //! [`folder_booted`] performs this program over any world, so its contract has the order of the
-//! events. [`folder_command`] performs it over a folder, an input and an output of the caller.
-//! These have no common clock, so its contract does not say which of two objects was called first.
+//! events. By its type the program writes no file and takes no input.
 //!
 //! [`law_folder`] says what the program means (`specs/FolderLaw.antt`):
 //!
@@ -44,14 +43,12 @@
 #![tactic(auto)]
 
 pub mod answering;
-pub mod calling;
 pub mod laws;
 mod lines;
 pub mod reading;
 pub mod running;
 
 pub use answering::folder_booted;
-pub use calling::folder_command;
 pub use laws::{law_booted, law_folder};
 pub use reading::read_system;
 pub use running::run;

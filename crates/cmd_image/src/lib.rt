@@ -13,10 +13,7 @@
 //! [`image_file`] performs this program over any world, so its contract has the order of the
 //! events. A step of the machine is no event: only its line is.
 //!
-//! [`image_command`] performs the program over a folder, an input and an output of the caller: the
-//! three records of the call are the parts of one list of events that the program allows
-//! (`PerformsOver`). The objects have no common clock, so this does not say which of two objects
-//! was called first. By its type the program writes no file and takes no input.
+//! By its type the program writes no file and takes no input.
 //!
 //! [`law_image_text`] says that over the same files every call puts a prefix of one text. A call
 //! that does not end by a fault or out of memory puts all of it. [`law_image_ends`] says what this
@@ -29,12 +26,10 @@
 #![tactic(auto)]
 
 pub mod answering;
-pub mod calling;
 pub mod findings;
 pub mod laws;
 pub mod reading;
 pub mod running;
 
 pub use answering::image_file;
-pub use calling::image_command;
 pub use laws::{law_image_ends, law_image_text};

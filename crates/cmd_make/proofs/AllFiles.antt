@@ -3,10 +3,9 @@ use Rattle.std.proofs.Common.{◌≡◌, ℕ, List, ◌++◌, map, Ok, Err, sym,
 use Rattle.m36_gen.specs.declared.files.File.{File}
 use Rattle.m36_gen.specs.Folder.{sources_of, other_files}
 use Rattle.m36_reading.specs.declared.refusal.Refusal.{Refusal}
-use Rattle.m36_reading.specs.declared.refusal.Refusal.TheVariants.{BadFile, ReadFault, NoMemory}
+use Rattle.m36_reading.specs.declared.refusal.Refusal.TheVariants.{BadFile, NoMemory}
 use Rattle.m36_reading.specs.declared.setting.Set.{Set}
-use Rattle.m36_reading.specs.Reading.{Early}
-use Rattle.m36_reading.specs.Asking.{Gives}
+use Rattle.m36_reading.specs.Refusing.{Early, Gives}
 use Rattle.m36_text.specs.Results.{and_then}
 use Rattle.cmd_make.specs.Making.{set_of, with_objects, and_others, sets_of}
 
@@ -32,7 +31,6 @@ refused_all :
     (r : Refusal) (objects : Early (List Set)) → Gives {A = List Set} (Err r) objects
     → Gives {A = List Set} (Err r) (and_then objects and_others)
 refused_all (BadFile bad) objects gives = ap (λ o. and_then o and_others) gives
-refused_all ReadFault objects gives = absurd gives
 refused_all NoMemory objects gives = tt
 
 pub made_refused :

@@ -18,12 +18,11 @@ use Rattle.m36_super.proofs.BootTurns.{start_next}
 use Rattle.m36_world.specs.Follow.{outputs}
 use Rattle.m36_world.specs.declared.event.Event.{Event}
 use Rattle.m36_reading.specs.declared.refusal.Refusal.{Refusal}
-use Rattle.m36_reading.specs.declared.refusal.Refusal.TheVariants.{BadFile, ReadFault, NoMemory}
+use Rattle.m36_reading.specs.declared.refusal.Refusal.TheVariants.{BadFile, NoMemory}
 use Rattle.m36_reading.specs.declared.setting.Set.{Set}
 use Rattle.m36_reading.specs.declared.status.Status.{Status}
 use Rattle.m36_reading.specs.declared.status.Status.TheVariants as status
-use Rattle.m36_reading.specs.Answers.{status_of}
-use Rattle.m36_reading.specs.Reading.{Early}
+use Rattle.m36_reading.specs.Refusing.{status_of, Early}
 use Rattle.m36_program.specs.Alike.{IsEnd}
 use Rattle.m36_program.specs.Early.{early, MayEnd, ends}
 use Rattle.m36_program.specs.Ended.{HasEnd}
@@ -395,8 +394,6 @@ unmade_rule :
 unfolding Goes then_with decides
 unmade_rule (BadFile bad) events result ended (inl goes) = (goes.none, goes.result_is)
 unmade_rule (BadFile bad) events result ended (inr ends) = no_memory events result ended ends
-unmade_rule ReadFault events result ended (inl goes) = absurd goes.value
-unmade_rule ReadFault events result ended (inr ends) = no_memory events result ended ends
 unmade_rule NoMemory events result ended (inl goes) = absurd goes.value
 unmade_rule NoMemory events result ended (inr ends) = no_memory events result ended ends
 

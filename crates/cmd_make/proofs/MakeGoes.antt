@@ -10,7 +10,7 @@ use Rattle.m36_super.specs.BootSays.{IsBooted}
 use Rattle.m36_reading.specs.declared.setting.Set.{Set}
 use Rattle.m36_reading.specs.declared.status.Status.{Status}
 use Rattle.m36_reading.specs.declared.status.Status.TheVariants.{WriteFault, NoMemory}
-use Rattle.m36_reading.specs.Reading.{Early}
+use Rattle.m36_reading.specs.Refusing.{Early}
 use Rattle.m36_program.specs.Alike.{IsEnd}
 use Rattle.m36_program.specs.Goes.{Ends, AfterWrite, Goes}
 use Rattle.m36_program.specs.Program.{quiet, Program, then_with}

@@ -4,8 +4,7 @@ use Rattle.m36_world.specs.Seen.{Seen}
 use Rattle.m36_reading.specs.declared.refusal.Refusal.{Refusal}
 use Rattle.m36_reading.specs.declared.setting.Set.{Set}
 use Rattle.m36_reading.specs.declared.status.Status.{Status}
-use Rattle.m36_reading.specs.Answers.{status_of}
-use Rattle.m36_reading.specs.Asking.{Gives}
+use Rattle.m36_reading.specs.Refusing.{status_of, Gives}
 use Rattle.m36_program.specs.Goes.{Goes}
 use Rattle.m36_program.specs.Performs.{Performs}
 use Rattle.m36_program.specs.Program.{May, Program, then_with}

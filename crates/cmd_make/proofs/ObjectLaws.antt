@@ -10,11 +10,11 @@ use Rattle.alm_asm.specs.Assembly.{assembled}
 use Rattle.obj36_parts.specs.PartsFields.{PartsFields}
 use Rattle.m36_gen.specs.declared.files.File.{File}
 use Rattle.m36_reading.specs.declared.refusal.Refusal.{Refusal}
-use Rattle.m36_reading.specs.declared.refusal.Refusal.TheVariants.{BadFile, ReadFault, NoMemory}
+use Rattle.m36_reading.specs.declared.refusal.Refusal.TheVariants.{BadFile, NoMemory}
 use Rattle.m36_reading.specs.declared.setting.Set.{Set}
-use Rattle.m36_reading.specs.Reading.{Early}
-use Rattle.m36_reading.specs.Asking as asking
-use Rattle.m36_reading.proofs.ReadLaws.{gives_by, memory_given}
+use Rattle.m36_reading.specs.Refusing.{Early}
+use Rattle.m36_reading.specs.Refusing as refusing
+use Rattle.m36_reading.proofs.GivesLaws.{gives_by, memory_given}
 use Rattle.m36_told.specs.Assemblies.{Assembly, with_parts, assembly_by, assembly_of, object_bytes, IsMadeOf}
 use Rattle.m36_told.specs.Telling.{source_refused}
 use Rattle.m36_told.proofs.AlmLaws.{made_refused, read_refused}
@@ -46,7 +46,7 @@ pub ruleset parsing = (content_read, read_refused)
 pub object_given :
     (source name content : List ℕ) (given : Result Assembly AlmFault)
     → name ≡ object_name source → IsMadeOf assembly_bytes content given
-    → asking.Gives (Ok (record { name = name; content = content })) (object_by source given)
+    → refusing.Gives (Ok (record { name = name; content = content })) (object_by source given)
 object_given source name content given named is =
     ap (object_by source) is.is
     ∙ (λ i. Ok (record { name = sym named i; content = sym is.made_is i }))
@@ -54,13 +54,13 @@ object_given source name content given named is =
 -- the source is refused
 refused_by :
     (source : List ℕ) (given : Result Assembly AlmFault) (f : AlmFault) (r : Refusal)
-    → given ≡ Err f → asking.Refuses r (source_refused source f) → asking.Gives (Err r) (object_by source given)
+    → given ≡ Err f → refusing.Refuses r (source_refused source f) → refusing.Gives (Err r) (object_by source given)
 refused_by source given f r is refuses =
     gives_by Set r (source_refused source f) (object_by source given) (ap (object_by source) is) refuses
 
 pub object_refused :
     (source : List ℕ) (given : Result Assembly AlmFault) (f : AlmFault) (r : Refusal)
-    → Refuses f given → asking.Refuses r (source_refused source f) → asking.Gives (Err r) (object_by source given)
+    → Refuses f given → refusing.Refuses r (source_refused source f) → refusing.Gives (Err r) (object_by source given)
 object_refused source given (alm.E1 line column) r is refuses =
     refused_by source given (alm.E1 line column) r is refuses
 object_refused source given (alm.E2 line column) r is refuses =
@@ -113,23 +113,22 @@ object_more sources i source object now next whole inside at is added so_far =
     ∙ sym (left_objects sources i source now inside at) ∙ so_far
 
 stopped :
-    (r : Refusal) (given : Early Set) (next : Set → Early (List Set)) → asking.Gives {A = Set} (Err r) given
-    → asking.Gives {A = List Set} (Err r) (and_then given next)
+    (r : Refusal) (given : Early Set) (next : Set → Early (List Set)) → refusing.Gives {A = Set} (Err r) given
+    → refusing.Gives {A = List Set} (Err r) (and_then given next)
 stopped (BadFile bad) given next gives = ap (λ g. and_then g next) gives
-stopped ReadFault given next gives = absurd gives
 stopped NoMemory given next gives = tt
 
 pub object_stop :
     (sources : List File) (i : ℕ) (source : File) (r : Refusal) (now : List Set) (whole : Early (List Set))
-    → i < length sources → source ≡ get_or sources i source → asking.Gives {A = Set} (Err r) (object_of source)
-    → with_objects now (drop i sources) ≡ whole → asking.Gives {A = List Set} (Err r) whole
+    → i < length sources → source ≡ get_or sources i source → refusing.Gives {A = Set} (Err r) (object_of source)
+    → with_objects now (drop i sources) ≡ whole → refusing.Gives {A = List Set} (Err r) whole
 object_stop sources i source r now whole inside at gives so_far =
-    subst (λ w. asking.Gives {A = List Set} (Err r) w) (sym (left_objects sources i source now inside at) ∙ so_far)
+    subst (λ w. refusing.Gives {A = List Set} (Err r) w) (sym (left_objects sources i source now inside at) ∙ so_far)
     (stopped r (object_of source) (λ object. with_objects (now ++ object ∷ []) (drop (i + 1) sources)) gives)
 
 pub objects_end :
     (sources : List File) (i : ℕ) (now : List Set) (whole : Early (List Set))
-    → length sources ≤ i → with_objects now (drop i sources) ≡ whole → asking.Gives (Ok now) whole
+    → length sources ≤ i → with_objects now (drop i sources) ≡ whole → refusing.Gives (Ok now) whole
 objects_end sources i now whole past so_far =
     sym so_far ∙ ap (with_objects now) (at_drop_all (λ (l : List File). l) sources i past) ∙ no_object now
 

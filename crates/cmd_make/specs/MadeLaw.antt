@@ -18,7 +18,7 @@ use Rattle.m36_reading.specs.declared.refusal.Refusal.{Refusal}
 use Rattle.m36_reading.specs.declared.setting.Set.{Set}
 use Rattle.m36_reading.specs.declared.status.Status.{Status}
 use Rattle.m36_reading.specs.declared.status.Status.TheVariants.{AuditNo}
-use Rattle.m36_reading.specs.Answers.{status_of}
+use Rattle.m36_reading.specs.Refusing.{status_of}
 use Rattle.m36_program.specs.Alike.{IsEnd}
 use Rattle.m36_program.specs.Early.{early}
 use Rattle.m36_program.specs.Ended.{HasEnd}

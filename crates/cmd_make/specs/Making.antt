@@ -11,8 +11,8 @@ use Rattle.m36_gen.specs.declared.files.File.{File}
 use Rattle.m36_gen.specs.Folder.{sources_of, other_files}
 use Rattle.m36_reading.specs.declared.setting.Set.{Set}
 use Rattle.m36_reading.specs.declared.status.Code.TheVariants as code
-use Rattle.m36_reading.specs.Reading.{Early}
-use Rattle.m36_reading.specs.Readers.{refused}
+use Rattle.m36_reading.specs.Refusing.{Early}
+use Rattle.m36_reading.specs.Rules.{refused}
 use Rattle.m36_told.specs.Assemblies.{Assembly, assembly_of, object_bytes, object_set, MakingSays}
 use Rattle.m36_told.specs.Telling.{source_refused}
 

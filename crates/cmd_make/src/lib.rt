@@ -25,9 +25,7 @@
 //! made: only the lines after the run depend on it.
 //!
 //! [`make_files`] performs the program over any world, so its contract has the order of the events:
-//! all files are written before the first line is put. [`make_command`] performs it over a folder,
-//! an input and an output of the caller. These have no common clock, so its contract does not have
-//! that order.
+//! all files are written before the first line is put. By its type the program takes no input.
 //!
 //! `specs/Making.antt` says which files a seed makes, `specs/Made.antt` what they boot to,
 //! `specs/QuietRun.antt` what a run is of which no turn is written, and `specs/Summary.antt` which
@@ -45,7 +43,6 @@
 #![tactic(auto)]
 
 pub mod answering;
-pub mod calling;
 pub mod folder;
 pub mod laws;
 pub mod making;
@@ -55,6 +52,5 @@ pub mod sets;
 pub mod summary;
 
 pub use answering::make_files;
-pub use calling::make_command;
 pub use laws::law_made;
 pub use sets::Sets;

@@ -1,7 +1,7 @@
 //! Makes the files of a seed.
 
 ghost use Rattle.std.specs.Prelude.{◌≡◌, ◌++◌, map, IfOk};
-ghost use Rattle.m36_reading.specs.Asking.{Gives};
+ghost use Rattle.m36_reading.specs.Refusing.{Gives};
 ghost use Rattle.m36_gen.specs.Folder.{other_files};
 ghost use Rattle.cmd_make.specs.Making.{set_of, sets_of};
 

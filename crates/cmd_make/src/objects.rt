@@ -4,7 +4,7 @@ ghost use Rattle.std.specs.Prelude.{◌≡◌, ◌<◌, ◌≤◌, ◌^◌, leng
 ghost use Rattle.alm_asm.specs.Assembly.{assembled};
 ghost use Rattle.m36_text.specs.Texts.{name_limit};
 ghost use Rattle.m36_outside.specs.ReadAnswer.{file_limit};
-ghost use Rattle.m36_reading.specs.Asking.{Gives};
+ghost use Rattle.m36_reading.specs.Refusing.{Gives};
 ghost use Rattle.m36_told.specs.Assemblies.{with_parts, assembly_of};
 ghost use Rattle.cmd_make.specs.Making.{object_name, object_by, object_of, with_objects, ObjectSays};
 
@@ -71,7 +71,7 @@ fn object_of_bytes(alloc: Global, name: &[u8], source: &[u8]) -> Result<Set, Ref
 }
 
 /// The object that `alm` makes of a source.
-#[tactic(auto, unfolding(crate::specs::Making::object_of), using(m36_reading::proofs::ReadLaws::gives_refusal))]
+#[tactic(auto, unfolding(crate::specs::Making::object_of), using(m36_reading::proofs::GivesLaws::gives_refusal))]
 pub fn object_of(alloc: Global, source: &File) -> Result<Set, Refusal>
     ensures { Gives result (object_of source.now) }
 {

@@ -13,10 +13,7 @@
 //! Memory does not run out once a line was put. [`procs_file`] performs this program over any
 //! world.
 //!
-//! [`procs_command`] performs it over a folder, an input and an output of the caller
-//! (`PerformsOver`): the three records of the call are the parts of one list of events that the
-//! program allows. The objects have no common clock, so this does not say which of two objects was
-//! called first. By its type the program writes no file and takes no input.
+//! By its type the program writes no file and takes no input.
 //!
 //! [`law_procs_text`]: over the same files all calls put prefixes of one text, and those that end
 //! put all of it. [`law_procs_ends`] says what this text is by the findings of the joint audit, and
@@ -32,12 +29,10 @@
 #![tactic(auto)]
 
 pub mod answering;
-pub mod calling;
 pub mod findings;
 pub mod laws;
 pub mod reading;
 pub mod running;
 
 pub use answering::procs_file;
-pub use calling::procs_command;
 pub use laws::{law_procs_ends, law_procs_text};

@@ -18,10 +18,6 @@
 //! These four perform the programs over any world, so their contracts have the order of the events:
 //! the object is written before the first line is put.
 //!
-//! [`print_command`], [`access_command`], [`alm_command`] and [`bind_command`] perform them over a
-//! folder, an input and an output of the caller (`PerformsOver`). These have no common clock, so
-//! these contracts do not have that order.
-//!
 //! [`law_tools`]: if the files give a report, a call ends with Done unless another call fails or
 //! memory runs out; and over the same files all calls put prefixes of one text, and those that end
 //! put all of it.
@@ -33,7 +29,6 @@
 pub mod access;
 pub mod assembling;
 pub mod binding;
-pub mod calling;
 pub mod laws;
 pub mod printing;
 pub mod report;
@@ -42,7 +37,6 @@ pub mod reporting;
 pub use access::print_access;
 pub use assembling::assemble_file;
 pub use binding::bind_objects;
-pub use calling::{access_command, alm_command, bind_command, print_command};
 pub use laws::law_tools;
 pub use printing::print_object;
 pub use report::Report;

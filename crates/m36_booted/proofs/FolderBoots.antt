@@ -9,8 +9,8 @@ use Rattle.m36_super.specs.declared.coming.NextEvent.TheVariants.{Step}
 use Rattle.m36_super.specs.BootSays.{IsBooted}
 use Rattle.m36_super.proofs.BootTurns.{start_lib, start_next}
 use Rattle.m36_reading.specs.declared.refusal.Refusal.{Refusal}
-use Rattle.m36_reading.specs.Asking.{Gives, Refuses}
-use Rattle.m36_reading.proofs.ReadLaws.{gives_by, memory_given}
+use Rattle.m36_reading.specs.Refusing.{Gives, Refuses}
+use Rattle.m36_reading.proofs.GivesLaws.{gives_by, memory_given}
 use Rattle.m36_booted.specs.declared.reading.BootedFolder.{BootedFolder}
 use Rattle.m36_booted.specs.Folder.{FolderFields, fault_refused, booted_by, boots}
 use Rattle.m36_booted.specs.Systems.{IsFresh, given_in}

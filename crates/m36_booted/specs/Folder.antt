@@ -10,7 +10,7 @@ use Rattle.m36_super.specs.Library.{Library}
 use Rattle.m36_reading.specs.declared.status.Code.TheVariants as code
 use Rattle.m36_reading.specs.declared.refusal.Refusal.{Refusal}
 use Rattle.m36_reading.specs.declared.refusal.Refusal.TheVariants.{NoMemory}
-use Rattle.m36_reading.specs.Reading.{Early}
+use Rattle.m36_reading.specs.Refusing.{Early}
 use Rattle.m36_catalog.specs.declared.access.Access.{Access}
 use Rattle.m36_catalog.specs.Catalogs.{boot_refused}
 

@@ -2,8 +2,7 @@
 
 ghost use Rattle.std.specs.Prelude.{ℕ, ◌≡◌, ◌≤◌, List, [], ◌∷◌, ◌++◌, Ok, length, IfOk};
 ghost use Rattle.obj36_parts.specs.ObjectSegment.{segment_limit};
-ghost use Rattle.m36_reading.specs.Reading.{Early};
-ghost use Rattle.m36_reading.specs.Asking.{Gives, Refuses};
+ghost use Rattle.m36_reading.specs.Refusing.{Early, Gives, Refuses};
 ghost use Rattle.m36_booted.specs.Folder.{folder_with, fault_refused, boots};
 ghost use Rattle.m36_booted.specs.Systems.{IsFresh, given_in};
 

@@ -153,8 +153,6 @@ decides_value (Ok a) events sets (inl goes) = same_sets a sets goes.result_is
 decides_value (Ok a) events sets (inr goes) = let e = goes.result_is in absurd (cc)
 decides_value (Err (refusal.BadFile bad)) events sets (inl goes) = let e = goes.result_is in absurd (cc)
 decides_value (Err (refusal.BadFile bad)) events sets (inr goes) = let e = goes.result_is in absurd (cc)
-decides_value (Err refusal.ReadFault) events sets (inl goes) = absurd goes.value
-decides_value (Err refusal.ReadFault) events sets (inr goes) = let e = goes.result_is in absurd (cc)
 decides_value (Err refusal.NoMemory) events sets (inl goes) = absurd goes.value
 decides_value (Err refusal.NoMemory) events sets (inr goes) = let e = goes.result_is in absurd (cc)
 
