@@ -337,5 +337,5 @@ READERS = (
     ("crates/m36_top/src/table.rt", read_table_code),
     ("crates/m36_top/src/words.rt", read_words_code),
     ("crates/m36_text/specs/Texts.antt", read_name_limit),
-    ("crates/m36_reading/specs/Names.antt", read_status_names),
+    ("crates/m36_status/specs/Names.antt", read_status_names),
 )

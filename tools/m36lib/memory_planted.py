@@ -46,7 +46,7 @@ FULL_TABLES = (
            "u8::try_from(lines.len()).map_err(|_| NoMemory)?;"),
     before("m36_bindfile/src/line.rt", PUSH,
            "const FULL: NoMemory = NoMemory; if self.items.len() > 99 { return Err(FULL); }"),
-    before("m36_booted/src/files.rt", "self.items.push(words)?;",
+    before("cmd_folder/src/files.rt", "self.items.push(words)?;",
            "match u8::try_from(self.items.len()) { Err(_) => return Err(NoMemory), Ok(_) => {} }"),
     before("m36_page/src/table.rt", "let mut tables = Vec::with_capacity(alloc, given.len())?;",
            "if given.len() > 99 { let _: Vec<u64> = Vec::with_capacity(alloc, usize::MAX)?; }"),
@@ -67,8 +67,8 @@ TURNED = (
     turned("m36_word/src/memory.rt", "Debug, PartialEq", "Debug, Default, PartialEq"),
     turned("m36_word/src/memory.rt", "impl From<AllocError> for", "impl From<Utf8Error> for"),
     turned("obj36/src/fault.rt", "impl From<NoMemory> for", "impl From<TryFromIntError> for"),
-    turned("m36_reading/src/reading.rt", "ReadAnswer::TooLarge => Err(refuse(alloc, name, Code::F2",
-           "ReadAnswer::TooLarge => return Err(Refusal::NoMemory), ReadAnswer::Absent => Err(("),
+    turned("m36_program/src/reading.rt", "ReadAnswer::TooLarge => Err(refuse(alloc, name, Code::F2",
+           "ReadAnswer::TooLarge => return Err(Status::NoMemory), ReadAnswer::Absent => Err(("),
 )
 
 PLANTED = (*FULL_TABLES, *TURNED)

@@ -70,7 +70,7 @@ def spec(path):
 
 def sentences_are_complete(_tried):
     """The table has each status, code, fault, access violation and stop of the definitions."""
-    names = spec("m36_reading/specs/Names.antt")
+    names = spec("m36_status/specs/Names.antt")
     faults = re.findall(r"^\w+ = (\d+)$", spec("m36_model/specs/Faults.antt"), re.M)
     violations = re.findall(r"^\w+ = (\d+)$", spec("m36_desc/specs/Violations.antt"), re.M)
     wanted = set(re.findall(r'codes "(\w+)"', names))

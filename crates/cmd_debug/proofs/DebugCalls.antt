@@ -16,8 +16,8 @@ use Rattle.m36_model.specs.Store.{State}
 use Rattle.m36_super.specs.BootSays.{IsBooted}
 use Rattle.m36_super.specs.Library.{Library}
 use Rattle.m36_super.specs.SuperFields.{SuperFields}
-use Rattle.m36_reading.specs.declared.status.Status.{Status}
-use Rattle.m36_reading.specs.declared.status.Status.TheVariants as status
+use Rattle.m36_status.specs.declared.status.Status.{Status}
+use Rattle.m36_status.specs.declared.status.Status.TheVariants as status
 use Rattle.m36_program.specs.Alike.{IsEnd}
 use Rattle.m36_program.specs.Goes.{Chosen, Goes}
 use Rattle.m36_program.specs.Objects.{PerformsOver}
@@ -30,7 +30,7 @@ use Rattle.m36_program.proofs.Objects.{over_performs, world_before, world_after}
 use Rattle.m36_program.proofs.ProgramLaws.{performs_text}
 use Rattle.m36_program.proofs.ReaderLaws.{reader_pieces, reader_files, reader_input, reader_split, read_by}
 use Rattle.m36_program.proofs.TrailLaws.{read_map}
-use Rattle.m36_booted.specs.Folder.{FolderFields}
+use Rattle.cmd_folder.specs.Folder.{FolderFields}
 use Rattle.m36_debug.specs.Session.{Turning}
 use Rattle.m36_debug.specs.SessionProgram.{talking, Talk, session}
 use Rattle.m36_debug.proofs.SessionText.{is_held, session_done}

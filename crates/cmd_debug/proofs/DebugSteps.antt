@@ -7,13 +7,13 @@ use Rattle.m36_step.specs.MachineFields.{MachineFields}
 use Rattle.m36_back.specs.History.{History}
 use Rattle.m36_super.specs.BootSays.{IsBooted}
 use Rattle.m36_super.specs.SuperFields.{SuperFields}
-use Rattle.m36_reading.specs.declared.status.Status.{Status}
-use Rattle.m36_reading.specs.declared.status.Status.TheVariants.{NoMemory}
+use Rattle.m36_status.specs.declared.status.Status.{Status}
+use Rattle.m36_status.specs.declared.status.Status.TheVariants.{NoMemory}
 use Rattle.m36_program.specs.Performs.{Performs}
 use Rattle.m36_program.specs.Program.{wants}
 use Rattle.m36_program.proofs.Performing.{performs_some, performs_wants, performs_no_memory, performs_then, performs_stop}
-use Rattle.m36_booted.specs.Folder.{FolderFields}
-use Rattle.m36_booted.specs.Systems.{IsFresh}
+use Rattle.cmd_folder.specs.Folder.{FolderFields}
+use Rattle.cmd_folder.specs.BootedSystems.{IsFresh}
 use Rattle.m36_debug.specs.SessionProgram.{talking, Talk, session}
 use Rattle.cmd_image.specs.ImageProgram.{image_state}
 use Rattle.cmd_folder.specs.FolderProgram.{folder_given}

@@ -24,7 +24,7 @@ use Rattle.m36_super.specs.TurnLaws.{LocatesInTurn, IsFlatTurn, IsPlainTurn}
 use Rattle.m36_super.proofs.Audited.{flat_loaded, not_located, plain_flat}
 use Rattle.m36_super.proofs.BootTurns.{start_lib, start_unloaded}
 use Rattle.m36_super.proofs.Turns.{turn_law}
-use Rattle.m36_reading.specs.declared.status.Status.{Status}
+use Rattle.m36_status.specs.declared.status.Status.{Status}
 use Rattle.m36_program.specs.Alike.{IsEnd}
 use Rattle.m36_program.specs.Goes.{Goes}
 use Rattle.m36_program.specs.Performs.{Performs}
@@ -32,8 +32,8 @@ use Rattle.m36_program.specs.Program.{wants}
 use Rattle.m36_program.specs.Reader.{outcome_in}
 use Rattle.m36_program.specs.Trail.{pieces_of}
 use Rattle.m36_program.proofs.ReaderLaws.{reader_pieces, reader_input, reader_outcome, reader_split}
-use Rattle.m36_booted.specs.Folder.{FolderFields}
-use Rattle.m36_booted.proofs.OneSystem.{one_system}
+use Rattle.cmd_folder.specs.Folder.{FolderFields}
+use Rattle.cmd_folder.proofs.OneSystem.{one_system}
 use Rattle.m36_debug.specs.LinesTaken.{IsFirstPart}
 use Rattle.m36_debug.specs.SessionProgram.{talking, session}
 use Rattle.m36_debug.specs.SessionText.{IsHeld, EachTurn}

@@ -5,7 +5,7 @@ use Rattle.m36_model.specs.Store.{State}
 use Rattle.m36_super.specs.BootSays.{IsBooted}
 use Rattle.m36_super.specs.Library.{Library}
 use Rattle.m36_program.specs.Program.{some, wants, then_with}
-use Rattle.m36_booted.specs.Folder.{FolderFields}
+use Rattle.cmd_folder.specs.Folder.{FolderFields}
 use Rattle.m36_debug.specs.SessionProgram.{Talk, session}
 use Rattle.cmd_image.specs.ImageProgram.{image_state}
 use Rattle.cmd_folder.specs.FolderProgram.{folder_given}

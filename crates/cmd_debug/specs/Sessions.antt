@@ -13,8 +13,8 @@ use Rattle.m36_model.specs.Store.{State}
 use Rattle.m36_super.specs.BootSays.{IsBooted}
 use Rattle.m36_super.specs.SuperFields.{SuperFields}
 use Rattle.m36_super.specs.TurnLaws.{IsPlainTurn}
-use Rattle.m36_reading.specs.declared.status.Status.{Status}
-use Rattle.m36_reading.specs.declared.status.Status.TheVariants.{NoMemory}
+use Rattle.m36_status.specs.declared.status.Status.{Status}
+use Rattle.m36_status.specs.declared.status.Status.TheVariants.{NoMemory}
 use Rattle.m36_program.specs.Alike.{IsEnd, OneText}
 use Rattle.m36_program.specs.Goes.{Goes}
 use Rattle.m36_program.specs.Objects.{PerformsOver}
@@ -22,7 +22,7 @@ use Rattle.m36_program.specs.Performs.{Performs}
 use Rattle.m36_program.specs.Program.{Program}
 use Rattle.m36_program.specs.Reader.{ReadBy}
 use Rattle.m36_program.specs.Trail.{FilesKept, InputKept, output_of, pieces_of}
-use Rattle.m36_booted.specs.Folder.{FolderFields}
+use Rattle.cmd_folder.specs.Folder.{FolderFields}
 use Rattle.m36_debug.specs.LinesTaken.{IsFirstPart}
 use Rattle.m36_debug.specs.Session.{Turning}
 use Rattle.m36_debug.specs.SessionProgram.{talking}

@@ -2,7 +2,7 @@
 
 ghost use Rattle.std.specs.Prelude.{◌≡◌, IfOk};
 ghost use Rattle.m36_program.specs.Performs.{Performs};
-ghost use Rattle.m36_booted.specs.Systems.{IsFresh};
+ghost use Rattle.cmd_folder.specs.BootedSystems.{IsFresh};
 ghost use Rattle.m36_debug.specs.Session.{turning};
 ghost use Rattle.m36_debug.specs.SessionProgram.{stdin_name, session};
 ghost use Rattle.cmd_debug.specs.DebugProgram.{on_image, on_library, debug_image, debug_folder};
@@ -10,13 +10,13 @@ ghost use Rattle.cmd_debug.specs.Held.{new_history};
 
 use crate::ending::{ended_by, stdin_name};
 use cmd_folder::read_system;
+use cmd_image::machine::machine_of;
 use cmd_image::reading::read_state;
 use m36_back::Past;
 use m36_debug::debug;
 use m36_image::Image;
 use m36_outside::Text;
-use m36_ran::answering::machine_of;
-use m36_reading::Status;
+use m36_status::Status;
 use m36_step::{Machine, Stepper};
 use m36_super::Super;
 use m36_word::NoMemory;

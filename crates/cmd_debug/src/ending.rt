@@ -5,7 +5,7 @@ ghost use Rattle.m36_debug.specs.SessionProgram.{stdin_name, ended_by};
 
 use m36_debug::SessionFault;
 use m36_outside::Text;
-use m36_reading::{Bad, Code, Status};
+use m36_status::{Bad, Code, Status};
 use m36_word::NoMemory;
 use std::alloc::Global;
 

@@ -15,8 +15,8 @@ use Rattle.m36_super.specs.declared.coming.NextEvent.TheVariants.{Step}
 use Rattle.m36_super.specs.BootedRun.{Booted}
 use Rattle.m36_super.specs.SuperFields.{SuperFields, booted_of}
 use Rattle.m36_super.proofs.BootTurns.{start_next}
-use Rattle.m36_reading.specs.declared.status.Status.{Status}
-use Rattle.m36_reading.specs.declared.status.Status.TheVariants.{WriteFault, NoMemory}
+use Rattle.m36_status.specs.declared.status.Status.{Status}
+use Rattle.m36_status.specs.declared.status.Status.TheVariants.{WriteFault, NoMemory}
 use Rattle.m36_program.specs.Alike.{IsEnd}
 use Rattle.m36_program.specs.Early.{early}
 use Rattle.m36_program.specs.Ended.{StartsWith}
@@ -24,19 +24,19 @@ use Rattle.m36_program.specs.Goes.{Ends, Goes}
 use Rattle.m36_program.specs.Program.{quiet, Program}
 use Rattle.m36_program.specs.Trail.{pieces_of}
 use Rattle.m36_program.proofs.PieceLaws.{puts_ended}
-use Rattle.m36_ran.specs.AuditText.{yes_line, audit_pieces, audit_text}
-use Rattle.m36_ran.specs.Ran.{passes, is_run, audit_status}
-use Rattle.m36_ran.proofs.YesAnswers.{none_found}
-use Rattle.m36_booted.specs.declared.command.FolderCommand.{FolderCommand}
-use Rattle.m36_booted.specs.declared.command.FolderCommand.TheVariants.{Audit, Run, Trace}
-use Rattle.m36_booted.specs.declared.command.FolderRun.{FolderRun}
-use Rattle.m36_booted.specs.declared.command.RunOutput.{RunOutput}
-use Rattle.m36_booted.specs.declared.command.RunOutput.TheVariants as output
-use Rattle.m36_booted.specs.declared.running.Finish.{Finish}
-use Rattle.m36_booted.specs.Folder.{FolderFields}
-use Rattle.m36_booted.specs.Promise.{PassesBooted}
-use Rattle.m36_booted.specs.RunText.{finish_status}
-use Rattle.m36_booted.specs.Runs as runs
+use Rattle.cmd_image.specs.AuditText.{yes_line, audit_pieces, audit_text}
+use Rattle.cmd_image.specs.ImageAudit.{passes, is_run, audit_status}
+use Rattle.cmd_image.proofs.YesAnswers.{none_found}
+use Rattle.cmd_folder.specs.declared.command.FolderCommand.{FolderCommand}
+use Rattle.cmd_folder.specs.declared.command.FolderCommand.TheVariants.{Audit, Run, Trace}
+use Rattle.cmd_folder.specs.declared.command.FolderRun.{FolderRun}
+use Rattle.cmd_folder.specs.declared.command.RunOutput.{RunOutput}
+use Rattle.cmd_folder.specs.declared.command.RunOutput.TheVariants as output
+use Rattle.cmd_folder.specs.declared.finish.Finish.{Finish}
+use Rattle.cmd_folder.specs.Folder.{FolderFields}
+use Rattle.cmd_folder.specs.Promise.{PassesBooted}
+use Rattle.cmd_folder.specs.RunText.{finish_status}
+use Rattle.cmd_folder.specs.Runs as runs
 use Rattle.cmd_image.specs.ImageProgram.{audit_may_end, audit_only}
 use Rattle.cmd_image.specs.Needs.{MayRun}
 use Rattle.cmd_image.proofs.PutEnds.{whole_ends, none_ends, starts_longer, none_starts}

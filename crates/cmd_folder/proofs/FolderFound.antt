@@ -6,12 +6,12 @@ use Rattle.m36_isol.proofs.Findings.{findings_law}
 use Rattle.m36_world.specs.declared.event.Event.{Event}
 use Rattle.m36_super.specs.SuperFields.{SuperFields, booted_of}
 use Rattle.m36_super.specs.BootSays.{IsBooted}
-use Rattle.m36_reading.specs.declared.status.Status.{Status}
-use Rattle.m36_reading.specs.declared.status.Status.TheVariants.{NoMemory}
+use Rattle.m36_status.specs.declared.status.Status.{Status}
+use Rattle.m36_status.specs.declared.status.Status.TheVariants.{NoMemory}
 use Rattle.m36_program.specs.Goes.{Ends, Goes}
-use Rattle.m36_booted.specs.declared.command.FolderCommand.{FolderCommand}
-use Rattle.m36_booted.specs.Folder.{FolderFields}
-use Rattle.m36_booted.proofs.OneSystem.{one_system}
+use Rattle.cmd_folder.specs.declared.command.FolderCommand.{FolderCommand}
+use Rattle.cmd_folder.specs.Folder.{FolderFields}
+use Rattle.cmd_folder.proofs.OneSystem.{one_system}
 use Rattle.cmd_folder.specs.FolderLaw.{GoesByFindings}
 use Rattle.cmd_folder.specs.OnFolder.{AreFolderFindings, by_command, on_system, on_folder}
 use Rattle.cmd_folder.proofs.FolderSteps.{found_passes}

@@ -22,8 +22,8 @@ use Rattle.m36_super.specs.TurnLaws.{IsPlainTurn}
 use Rattle.m36_super.specs.BootSays.{IsBooted}
 use Rattle.m36_super.specs.declared.coming.NextEvent.TheVariants.{Step}
 use Rattle.m36_super.proofs.BootTurns.{start_next}
-use Rattle.m36_reading.specs.declared.status.Status.{Status}
-use Rattle.m36_reading.specs.declared.status.Status.TheVariants.{NoMemory}
+use Rattle.m36_status.specs.declared.status.Status.{Status}
+use Rattle.m36_status.specs.declared.status.Status.TheVariants.{NoMemory}
 use Rattle.m36_program.specs.Alike.{Alike, IsEnd, OneText}
 use Rattle.m36_program.specs.Early.{early, ends}
 use Rattle.m36_program.specs.Ended.{HasEnd}
@@ -37,22 +37,22 @@ use Rattle.m36_program.proofs.AlikeLaws.{alike_wants, alike_then, alike_one, has
 use Rattle.m36_program.proofs.PieceLaws.{PutsBy, puts_ended}
 use Rattle.m36_program.proofs.PutLaws.{goes_puts}
 use Rattle.m36_program.proofs.ReaderLaws.{reader_pieces, reader_outcome, reader_split}
-use Rattle.m36_ran.specs.AuditText.{audit_pieces}
-use Rattle.m36_ran.specs.Ran.{passes, is_run, audit_status}
-use Rattle.m36_ran.proofs.SomeFindings.{some_findings}
-use Rattle.m36_booted.specs.declared.command.FolderCommand.{FolderCommand}
-use Rattle.m36_booted.specs.declared.command.FolderCommand.TheVariants.{Audit, Run, Trace}
-use Rattle.m36_booted.specs.declared.command.FolderRun.{FolderRun}
-use Rattle.m36_booted.specs.declared.command.RunOutput.{RunOutput}
-use Rattle.m36_booted.specs.declared.command.RunOutput.TheVariants as output
-use Rattle.m36_booted.specs.declared.running.Finish.{Finish}
-use Rattle.m36_booted.specs.declared.running.Finish.TheVariants.{Over}
-use Rattle.m36_booted.specs.Folder.{FolderFields}
-use Rattle.m36_booted.specs.RunText.{pieces_from, run_pieces, finish_status}
-use Rattle.m36_booted.specs.Runs.{Finishes}
-use Rattle.m36_booted.specs.Runs as runs
-use Rattle.m36_booted.proofs.OneSystem.{one_system}
-use Rattle.m36_booted.proofs.OneRunLaws.{one_run_here}
+use Rattle.cmd_image.specs.AuditText.{audit_pieces}
+use Rattle.cmd_image.specs.ImageAudit.{passes, is_run, audit_status}
+use Rattle.cmd_image.proofs.SomeFindings.{some_findings}
+use Rattle.cmd_folder.specs.declared.command.FolderCommand.{FolderCommand}
+use Rattle.cmd_folder.specs.declared.command.FolderCommand.TheVariants.{Audit, Run, Trace}
+use Rattle.cmd_folder.specs.declared.command.FolderRun.{FolderRun}
+use Rattle.cmd_folder.specs.declared.command.RunOutput.{RunOutput}
+use Rattle.cmd_folder.specs.declared.command.RunOutput.TheVariants as output
+use Rattle.cmd_folder.specs.declared.finish.Finish.{Finish}
+use Rattle.cmd_folder.specs.declared.finish.Finish.TheVariants.{Over}
+use Rattle.cmd_folder.specs.Folder.{FolderFields}
+use Rattle.cmd_folder.specs.RunText.{pieces_from, run_pieces, finish_status}
+use Rattle.cmd_folder.specs.Runs.{Finishes}
+use Rattle.cmd_folder.specs.Runs as runs
+use Rattle.cmd_folder.proofs.OneSystem.{one_system}
+use Rattle.cmd_folder.proofs.OneRunLaws.{one_run_here}
 use Rattle.cmd_image.specs.ImageEnds.{EndsWith}
 use Rattle.cmd_image.specs.ImageProgram.{audit_may_end, audit_only}
 use Rattle.cmd_image.proofs.PutEnds.{whole_ends, pieces_begin, both_end, puts_end, SomeEnd, early_ends}
@@ -281,8 +281,11 @@ plain_by run to given findings turns last events result plain (inl goes) =
     (running given to) run.steps plain.system findings turns last events result plain.booted
     plain.goes plain.plain (run_goes to run given (booted_of plain.system) findings events result goes)
 plain_by run to given findings turns last events result plain (inr none) =
-    inl (record { left = plain_pieces to findings turns; is = ap (λ e. pieces_of e ++ plain_pieces to findings turns)
-    (sym none.none) })
+    inl (record {
+      left = plain_pieces to findings turns;
+      is = ap (λ e. pieces_of e ++ plain_pieces to findings turns)
+          (sym none.none);
+    })
 
 plain_agrees :
     (run : FolderRun) (to : RunOutput) (given : FolderFields) (findings : List (ℕ × ℕ)) (turns : List Turn)
@@ -478,8 +481,11 @@ agrees_in run to given findings turns last pieces result plain (inl on) =
     subst (λ l. Agree l (plain_pieces to findings turns)) (sym on.are)
     (plain_agrees run to given findings turns last on.more result plain on.goes)
 agrees_in run to given findings turns last pieces result plain (inr unread) =
-    inl (record { left = plain_pieces to findings turns; is = ap (λ l. l ++ plain_pieces to findings turns)
-    (sym unread.none) })
+    inl (record {
+      left = plain_pieces to findings turns;
+      is = ap (λ l. l ++ plain_pieces to findings turns)
+          (sym unread.none);
+    })
 
 abbrev TextIn :
     FolderRun → RunOutput → FolderFields → List (ℕ × ℕ) → List Turn → Finish → List (List ℕ) → Result (Unit {0}) Status

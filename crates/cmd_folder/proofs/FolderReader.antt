@@ -6,12 +6,12 @@ use Rattle.m36_program.specs.Program.{May}
 use Rattle.m36_program.specs.Reader.{IsReader}
 use Rattle.m36_program.proofs.AlikeLaws.{alike_then}
 use Rattle.m36_program.proofs.ReaderLaws.{reader_then}
-use Rattle.m36_catalog.specs.declared.access.Access.{Access}
+use Rattle.m36_files.specs.declared.access.Access.{Access}
 use Rattle.m36_files.specs.EachFile.{each_onto}
 use Rattle.m36_files.specs.Catalogs.{catalog_access}
 use Rattle.m36_files.proofs.AlikeReaders.{rule_alike, words_alike, access_alike, each_alike}
 use Rattle.m36_files.proofs.AreReaders.{reader_rule, words_reader, access_reader, each_reader}
-use Rattle.m36_booted.specs.Folder.{folder_with, boots}
+use Rattle.cmd_folder.specs.Folder.{folder_with, boots}
 use Rattle.cmd_folder.specs.FolderProgram.{segment_words, files_booted, folder_given}
 
 segment_reader : (may : May) (s : SegmentFields) → IsReader {may = may} (segment_words s)

@@ -11,29 +11,29 @@ use Rattle.m36_super.specs.Library.{Library}
 use Rattle.m36_super.specs.BootedRun.{Booted}
 use Rattle.m36_super.specs.SuperFields.{SuperFields, booted_of}
 use Rattle.m36_super.specs.BootSays.{IsBooted}
-use Rattle.m36_reading.specs.declared.refusal.Refusal.{Refusal}
-use Rattle.m36_reading.specs.declared.status.Status.{Status}
-use Rattle.m36_reading.specs.declared.status.Status.TheVariants.{NoMemory}
-use Rattle.m36_reading.specs.Refusing.{Gives}
+use Rattle.m36_status.specs.declared.refusal.Refusal.{Refusal}
+use Rattle.m36_status.specs.declared.status.Status.{Status}
+use Rattle.m36_status.specs.declared.status.Status.TheVariants.{NoMemory}
+use Rattle.m36_status.specs.Refusing.{Gives}
 use Rattle.m36_program.specs.Performs.{Performs, Leads}
 use Rattle.m36_program.specs.Program.{May, quiet, Program}
 use Rattle.m36_program.proofs.Performing.{performs_some, performs_wants, performs_no_memory, performs_then, performs_stop}
-use Rattle.m36_catalog.specs.declared.access.Access.{Access}
+use Rattle.m36_files.specs.declared.access.Access.{Access}
 use Rattle.m36_files.specs.Deciding.{decides, by_refusal}
 use Rattle.m36_files.specs.EachFile.{read_onto, each_onto}
 use Rattle.m36_files.specs.FileReaders.{file_words}
 use Rattle.m36_files.specs.Catalogs.{catalog_access}
 use Rattle.m36_files.proofs.DecidingLaws.{rule_given}
 use Rattle.m36_files.proofs.EachLaws.{each_next, each_stop}
-use Rattle.m36_ran.specs.AuditText.{audit_pieces}
-use Rattle.m36_booted.specs.declared.command.FolderCommand.{FolderCommand}
-use Rattle.m36_booted.specs.declared.reading.BootedFolder.{BootedFolder}
-use Rattle.m36_booted.specs.Folder.{FolderFields, folder_with, boots}
-use Rattle.m36_booted.specs.Promise.{PassesBooted}
-use Rattle.m36_booted.specs.Systems.{IsFresh}
-use Rattle.m36_booted.specs.Systems as old_systems
-use Rattle.m36_booted.proofs.FolderBoots.{fresh_next}
-use Rattle.m36_booted.proofs.AuditKept.{passes_booted}
+use Rattle.cmd_image.specs.AuditText.{audit_pieces}
+use Rattle.cmd_folder.specs.declared.command.FolderCommand.{FolderCommand}
+use Rattle.cmd_folder.specs.declared.booting.BootedFolder.{BootedFolder}
+use Rattle.cmd_folder.specs.Folder.{FolderFields, folder_with, boots}
+use Rattle.cmd_folder.specs.Promise.{PassesBooted}
+use Rattle.cmd_folder.specs.BootedSystems.{IsFresh}
+use Rattle.cmd_folder.specs.BootedSystems as old_systems
+use Rattle.cmd_folder.proofs.FolderBoots.{fresh_next}
+use Rattle.cmd_folder.proofs.AuditKept.{passes_booted}
 use Rattle.cmd_image.proofs.AuditPuts.{all_put, all_then, all_stop}
 use Rattle.cmd_folder.specs.FolderProgram.{segment_words, files_booted, folder_given, folder_program}
 use Rattle.cmd_folder.specs.OnFolder.{AreFolderFindings, audit_and_run, by_command, on_system, on_folder}

@@ -1,3 +1,10 @@
+pub mod TurnLaws
+pub mod FolderBoots
+pub mod OneSystem
+pub mod OneRun
+pub mod FramesAlike
+pub mod AuditKept
+pub mod OneRunLaws
 pub mod BlockLaws
 pub mod TurnPieces
 pub mod Serving

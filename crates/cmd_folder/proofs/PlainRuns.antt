@@ -11,17 +11,17 @@ use Rattle.m36_super.specs.BootedRun.{Booted}
 use Rattle.m36_super.specs.SuperFields.{SuperFields, booted_of}
 use Rattle.m36_super.specs.TurnLaws.{IsPlainTurn}
 use Rattle.m36_super.specs.BootSays.{IsBooted}
-use Rattle.m36_reading.specs.declared.status.Status.{Status}
+use Rattle.m36_status.specs.declared.status.Status.{Status}
 use Rattle.m36_program.specs.Alike.{IsEnd, OneText}
 use Rattle.m36_program.specs.Early.{early}
 use Rattle.m36_program.specs.Trail.{pieces_of}
-use Rattle.m36_booted.specs.declared.command.RunOutput.{RunOutput}
-use Rattle.m36_booted.specs.declared.running.Finish.{Finish}
-use Rattle.m36_booted.specs.RunText.{steps_of, steps_in, pieces_from, end_pieces, run_pieces, finish_status}
-use Rattle.m36_booted.specs.RunText as text
-use Rattle.m36_booted.specs.Runs.{Goes, Finishes}
-use Rattle.m36_booted.proofs.OneRun.{AreSame, GoesOn, Meet, ends_there, finish_one}
-use Rattle.m36_booted.proofs.OneRunLaws.{meet_here}
+use Rattle.cmd_folder.specs.declared.command.RunOutput.{RunOutput}
+use Rattle.cmd_folder.specs.declared.finish.Finish.{Finish}
+use Rattle.cmd_folder.specs.RunText.{steps_of, steps_in, pieces_from, end_pieces, run_pieces, finish_status}
+use Rattle.cmd_folder.specs.RunText as text
+use Rattle.cmd_folder.specs.Runs.{Goes, Finishes}
+use Rattle.cmd_folder.proofs.OneRun.{AreSame, GoesOn, Meet, ends_there, finish_one}
+use Rattle.cmd_folder.proofs.OneRunLaws.{meet_here}
 use Rattle.cmd_folder.specs.FolderLaw.{IsPrefix, Agree}
 use Rattle.cmd_folder.specs.RunIs.{FinishesAs, StopsAs, RunIs}
 use Rattle.cmd_folder.specs.RunProgram.{Running}

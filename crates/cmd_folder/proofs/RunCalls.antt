@@ -21,12 +21,12 @@ use Rattle.m36_program.specs.Program.{quiet, Program, puts_all, some}
 use Rattle.m36_program.proofs.Performing.{goes_some, goes_wants}
 use Rattle.m36_program.proofs.ProgramLaws.{goes_ends}
 use Rattle.m36_program.proofs.PutLaws.{goes_puts}
-use Rattle.m36_booted.specs.declared.running.Finish.{Finish}
-use Rattle.m36_booted.specs.declared.running.Finish.TheVariants.{Over, Limit}
-use Rattle.m36_booted.specs.RunText.{steps_of, steps_in, pieces_of, end_pieces, run_pieces, finish_status}
-use Rattle.m36_booted.specs.Runs.{IsEvent, Finishes}
-use Rattle.m36_booted.specs.Runs as runs
-use Rattle.m36_booted.proofs.Serving.{link_is}
+use Rattle.cmd_folder.specs.declared.finish.Finish.{Finish}
+use Rattle.cmd_folder.specs.declared.finish.Finish.TheVariants.{Over, Limit}
+use Rattle.cmd_folder.specs.RunText.{steps_of, steps_in, pieces_of, end_pieces, run_pieces, finish_status}
+use Rattle.cmd_folder.specs.Runs.{IsEvent, Finishes}
+use Rattle.cmd_folder.specs.Runs as runs
+use Rattle.cmd_folder.proofs.TurnLaws.{link_is}
 use Rattle.cmd_folder.specs.RunProgram.{Running, IsMade, FindsMemory, finish_may_end, run_ends, puts_turn}
 use Rattle.cmd_folder.specs.RunProgram.{after_service, then_on, serve_by, serve, run_from}
 use Rattle.cmd_folder.proofs.RunGoes.{written, from_start, no_turns, turn_written, is_step, step_counts, linked_made}

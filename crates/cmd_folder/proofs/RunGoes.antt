@@ -17,18 +17,18 @@ use Rattle.m36_super.specs.declared.coming.NextEvent.TheVariants.{Step, Link, Pr
 use Rattle.m36_super.specs.declared.coming.NextEvent.TheVariants as coming
 use Rattle.m36_super.specs.BootedRun.{Booted, IsLinkTurn, IsConsoleTurn, IsTurnBy, IsTurn, AreTurns}
 use Rattle.m36_super.specs.SuperTurn.{IsQuiet, link_quiet}
-use Rattle.m36_reading.specs.declared.status.Status.{Status}
-use Rattle.m36_reading.specs.declared.status.Status.TheVariants.{NoMemory}
+use Rattle.m36_status.specs.declared.status.Status.{Status}
+use Rattle.m36_status.specs.declared.status.Status.TheVariants.{NoMemory}
 use Rattle.m36_program.specs.Goes.{Ends, Goes}
 use Rattle.m36_program.specs.Program.{quiet, Program, puts_all}
 use Rattle.m36_program.specs.Trail as trail
 use Rattle.m36_program.proofs.PieceLaws.{PutsBy, puts_ended}
-use Rattle.m36_booted.specs.declared.running.Finish.{Finish}
-use Rattle.m36_booted.specs.declared.running.Finish.TheVariants.{Over, Limit}
-use Rattle.m36_booted.specs.RunText.{steps_of, steps_in, pieces_of, pieces_from, end_pieces, run_pieces, finish_status}
-use Rattle.m36_booted.specs.Runs.{IsEvent, Finishes, AwaitsLink}
-use Rattle.m36_booted.specs.Runs as runs
-use Rattle.m36_booted.proofs.Serving.{IsStep, IsLink, step_is}
+use Rattle.cmd_folder.specs.declared.finish.Finish.{Finish}
+use Rattle.cmd_folder.specs.declared.finish.Finish.TheVariants.{Over, Limit}
+use Rattle.cmd_folder.specs.RunText.{steps_of, steps_in, pieces_of, pieces_from, end_pieces, run_pieces, finish_status}
+use Rattle.cmd_folder.specs.Runs.{IsEvent, Finishes, AwaitsLink}
+use Rattle.cmd_folder.specs.Runs as runs
+use Rattle.cmd_folder.proofs.TurnLaws.{IsStep, IsLink, step_is}
 use Rattle.cmd_folder.specs.RunIs.{FinishesAs, StopsAs, RunIs}
 use Rattle.cmd_folder.specs.RunProgram.{Running, finish_may_end, run_ends, after_service, then_on, serve_by, serve}
 use Rattle.cmd_folder.specs.RunProgram.{run_from}

@@ -6,8 +6,8 @@ use Rattle.m36_model.specs.declared.endings.End.{End}
 use Rattle.m36_super.specs.Library.{Library}
 use Rattle.m36_super.specs.BootedRun.{Booted}
 use Rattle.m36_super.specs.SuperFields.{SuperFields, booted_of}
-use Rattle.m36_reading.specs.declared.status.Status.{Status}
-use Rattle.m36_reading.specs.declared.status.Status.TheVariants.{WriteFault}
+use Rattle.m36_status.specs.declared.status.Status.{Status}
+use Rattle.m36_status.specs.declared.status.Status.TheVariants.{WriteFault}
 use Rattle.m36_program.specs.Early.{early, ends}
 use Rattle.m36_program.specs.Gathered.{Loses}
 use Rattle.m36_program.specs.Performs.{Performs, Leads}
@@ -15,10 +15,10 @@ use Rattle.m36_program.specs.Program.{quiet, Program, puts_all}
 use Rattle.m36_program.proofs.LeadLaws.{leads_start, leads_as, leads_ends, leads_empty, leads_lost, leads_finished}
 use Rattle.m36_program.proofs.ProgramLaws.{goes_ends}
 use Rattle.m36_program.specs.Goes.{Goes}
-use Rattle.m36_booted.specs.declared.command.RunOutput.{RunOutput}
-use Rattle.m36_booted.specs.declared.running.Finish.{Finish}
-use Rattle.m36_booted.specs.declared.running.Finish.TheVariants.{Over, Limit}
-use Rattle.m36_booted.specs.RunText.{end_pieces, finish_status}
+use Rattle.cmd_folder.specs.declared.command.RunOutput.{RunOutput}
+use Rattle.cmd_folder.specs.declared.finish.Finish.{Finish}
+use Rattle.cmd_folder.specs.declared.finish.Finish.TheVariants.{Over, Limit}
+use Rattle.cmd_folder.specs.RunText.{end_pieces, finish_status}
 use Rattle.cmd_folder.specs.RunProgram.{Running, finish_may_end, run_ends, run_from}
 use Rattle.cmd_folder.specs.RunSays.{run_of, from_step, StepFollows, IsOver, Fails}
 use Rattle.cmd_folder.proofs.BlockLaws.{leads_on}

@@ -16,7 +16,7 @@ use Rattle.m36_super.specs.declared.coming.NextEvent.TheVariants.{Step, Link, Pr
 use Rattle.m36_super.specs.BootedRun.{Booted, IsConsoleTurn, IsTurnBy, IsTurn}
 use Rattle.m36_super.specs.SuperFields.{SuperFields, booted_of}
 use Rattle.m36_super.specs.SuperTurn.{SuperTurns}
-use Rattle.m36_reading.specs.declared.status.Status.TheVariants.{WriteFault, NoMemory}
+use Rattle.m36_status.specs.declared.status.Status.TheVariants.{WriteFault, NoMemory}
 use Rattle.m36_program.specs.Gathered.{Gathers, Loses}
 use Rattle.m36_program.specs.Goes.{Goes}
 use Rattle.m36_program.specs.Performs.{Performs, Leads}
@@ -24,11 +24,11 @@ use Rattle.m36_program.specs.Program.{quiet, Program, puts_all, some, wants}
 use Rattle.m36_program.proofs.LeadLaws.{leads_start, leads_as, leads_ends, leads_gathers, leads_lost}
 use Rattle.m36_program.proofs.Performing.{goes_some, goes_wants}
 use Rattle.m36_program.proofs.PutLaws.{puts_none}
-use Rattle.m36_booted.specs.declared.command.RunOutput.{RunOutput}
-use Rattle.m36_booted.specs.declared.command.RunOutput.TheVariants as output
-use Rattle.m36_booted.specs.declared.running.Finish.TheVariants as finish
-use Rattle.m36_booted.specs.RunText.{pieces_of}
-use Rattle.m36_booted.proofs.Serving.{turn_prints, link_behind, print_behind}
+use Rattle.cmd_folder.specs.declared.command.RunOutput.{RunOutput}
+use Rattle.cmd_folder.specs.declared.command.RunOutput.TheVariants as output
+use Rattle.cmd_folder.specs.declared.finish.Finish.TheVariants as finish
+use Rattle.cmd_folder.specs.RunText.{pieces_of}
+use Rattle.cmd_folder.proofs.TurnLaws.{turn_prints, link_behind, print_behind}
 use Rattle.cmd_folder.specs.declared.running.AfterTurn.{AfterTurn}
 use Rattle.cmd_folder.specs.declared.running.AfterTurn.TheVariants as after
 use Rattle.cmd_folder.specs.RunProgram.{Running, Made, IsMade, FindsMemory, run_ends, puts_turn, after_service, then_on, serve_by, serve, run_from}

@@ -6,7 +6,7 @@ use Rattle.m36_world.specs.Answers.{PutDid}
 use Rattle.m36_world.specs.Seen.{Seen}
 use Rattle.m36_program.specs.Gathered.{Gathers, Adds}
 use Rattle.m36_program.proofs.Gathered.{gathers_put, loses_put}
-use Rattle.m36_booted.specs.RunText.{characters}
+use Rattle.cmd_folder.specs.RunText.{characters}
 use Rattle.cmd_folder.proofs.BlockLaws.{gathers_none, adds_then, loses_more}
 use Rattle.std.proofs.Common.{refl}
 

@@ -7,9 +7,9 @@ use Rattle.m36_files.specs.Deciding.{decides}
 use Rattle.m36_files.specs.FileReaders.{file_words}
 use Rattle.m36_files.specs.EachFile.{each_onto}
 use Rattle.m36_files.specs.Catalogs.{catalog_access}
-use Rattle.m36_catalog.specs.declared.access.Access.{Access}
-use Rattle.m36_booted.specs.declared.command.FolderCommand.{FolderCommand}
-use Rattle.m36_booted.specs.Folder.{FolderFields, folder_with, boots}
+use Rattle.m36_files.specs.declared.access.Access.{Access}
+use Rattle.cmd_folder.specs.declared.command.FolderCommand.{FolderCommand}
+use Rattle.cmd_folder.specs.Folder.{FolderFields, folder_with, boots}
 use Rattle.cmd_folder.specs.OnFolder.{on_folder}
 
 -- the words of a segment's file

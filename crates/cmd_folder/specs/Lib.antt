@@ -1,3 +1,9 @@
+pub mod Folder
+pub mod RunText
+pub mod Runs
+pub mod Promise
+pub mod BootedSystems
+pub mod BootedLaw
 pub mod RunProgram
 pub mod OnFolder
 pub mod FolderProgram

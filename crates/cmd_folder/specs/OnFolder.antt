@@ -8,15 +8,15 @@ use Rattle.m36_super.specs.BootedRun.{Booted}
 use Rattle.m36_super.specs.SuperFields.{SuperFields, booted_of}
 use Rattle.m36_super.specs.BootSays.{IsBooted}
 use Rattle.m36_program.specs.Program.{quiet, Program, puts_all, some, wants}
-use Rattle.m36_ran.specs.AuditText.{audit_pieces}
-use Rattle.m36_ran.specs.Ran.{is_run}
-use Rattle.m36_booted.specs.declared.command.FolderCommand.{FolderCommand}
-use Rattle.m36_booted.specs.declared.command.FolderCommand.TheVariants.{Audit, Run, Trace}
-use Rattle.m36_booted.specs.declared.command.FolderRun.{FolderRun}
-use Rattle.m36_booted.specs.declared.command.RunOutput.{RunOutput}
-use Rattle.m36_booted.specs.declared.command.RunOutput.TheVariants as output
-use Rattle.m36_booted.specs.Folder.{FolderFields}
-use Rattle.m36_booted.specs.Promise.{PassesBooted}
+use Rattle.cmd_image.specs.AuditText.{audit_pieces}
+use Rattle.cmd_image.specs.ImageAudit.{is_run}
+use Rattle.cmd_folder.specs.declared.command.FolderCommand.{FolderCommand}
+use Rattle.cmd_folder.specs.declared.command.FolderCommand.TheVariants.{Audit, Run, Trace}
+use Rattle.cmd_folder.specs.declared.command.FolderRun.{FolderRun}
+use Rattle.cmd_folder.specs.declared.command.RunOutput.{RunOutput}
+use Rattle.cmd_folder.specs.declared.command.RunOutput.TheVariants as output
+use Rattle.cmd_folder.specs.Folder.{FolderFields}
+use Rattle.cmd_folder.specs.Promise.{PassesBooted}
 use Rattle.cmd_image.specs.ImageProgram.{audit_only}
 use Rattle.cmd_folder.specs.RunProgram.{Running, run_from}
 
@@ -66,6 +66,6 @@ on_system command given system =
     wants (some (AreFolderFindings given.lib system) (by_command command given (booted_of system)))
 
 -- What a command does with the system that the folder's library boots to. There is at most one, by
--- `system` of `BootedLaw` of `m36_booted`.
+-- `system` of `BootedLaw` of `cmd_folder`.
 unfoldable pub on_folder : FolderCommand → FolderFields → Program quiet (Unit {0})
 on_folder command given = some (IsBooted given.lib) (on_system command given)

@@ -5,13 +5,13 @@ use Rattle.m36_world.specs.declared.event.Event.{Event}
 use Rattle.m36_step.specs.declared.turns.Turn.{Turn}
 use Rattle.m36_super.specs.Library.{Library}
 use Rattle.m36_super.specs.BootedRun.{Booted}
-use Rattle.m36_reading.specs.declared.status.Status.{Status}
-use Rattle.m36_reading.specs.declared.status.Status.TheVariants.{WriteFault, NoMemory}
+use Rattle.m36_status.specs.declared.status.Status.{Status}
+use Rattle.m36_status.specs.declared.status.Status.TheVariants.{WriteFault, NoMemory}
 use Rattle.m36_program.specs.Early.{early}
 use Rattle.m36_program.specs.Trail.{pieces_of}
-use Rattle.m36_booted.specs.declared.running.Finish.{Finish}
-use Rattle.m36_booted.specs.RunText.{run_pieces, finish_status}
-use Rattle.m36_booted.specs.Runs.{Goes, Finishes, AwaitsLink}
+use Rattle.cmd_folder.specs.declared.finish.Finish.{Finish}
+use Rattle.cmd_folder.specs.RunText.{run_pieces, finish_status}
+use Rattle.cmd_folder.specs.Runs.{Goes, Finishes, AwaitsLink}
 use Rattle.cmd_folder.specs.RunProgram.{Running}
 
 -- The run finished so, if it finished.

@@ -10,10 +10,10 @@ use Rattle.m36_super.specs.declared.coming.NextEvent.TheVariants as coming
 use Rattle.m36_super.specs.BootedRun.{Booted, IsTurn}
 use Rattle.m36_program.specs.Early.{MayEnd, ends}
 use Rattle.m36_program.specs.Program.{quiet, Program, puts_all, some, wants}
-use Rattle.m36_booted.specs.declared.command.RunOutput.{RunOutput}
-use Rattle.m36_booted.specs.declared.running.Finish.{Finish}
-use Rattle.m36_booted.specs.declared.running.Finish.TheVariants.{Over, Limit}
-use Rattle.m36_booted.specs.RunText.{pieces_of, end_pieces, finish_status}
+use Rattle.cmd_folder.specs.declared.command.RunOutput.{RunOutput}
+use Rattle.cmd_folder.specs.declared.finish.Finish.{Finish}
+use Rattle.cmd_folder.specs.declared.finish.Finish.TheVariants.{Over, Limit}
+use Rattle.cmd_folder.specs.RunText.{pieces_of, end_pieces, finish_status}
 use Rattle.cmd_image.specs.ImageProgram.{may_end}
 
 -- what a run is made of

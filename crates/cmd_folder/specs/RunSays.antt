@@ -2,8 +2,8 @@
 use Rattle.std.specs.Prelude.{ℕ, suc, ◌≡◌, ⊤, List, [], Err}
 use Rattle.m36_world.specs.Seen.{Seen}
 use Rattle.m36_model.specs.declared.endings.End.{End}
-use Rattle.m36_reading.specs.declared.status.Status.{Status}
-use Rattle.m36_reading.specs.declared.status.Status.TheVariants.{WriteFault, NoMemory}
+use Rattle.m36_status.specs.declared.status.Status.{Status}
+use Rattle.m36_status.specs.declared.status.Status.TheVariants.{WriteFault, NoMemory}
 use Rattle.m36_super.specs.Library.{Library}
 use Rattle.m36_super.specs.declared.coming.NextEvent.{NextEvent}
 use Rattle.m36_super.specs.declared.coming.NextEvent.TheVariants.{Step}
@@ -12,9 +12,9 @@ use Rattle.m36_super.specs.BootedRun.{Booted}
 use Rattle.m36_super.specs.SuperFields.{SuperFields, booted_of}
 use Rattle.m36_program.specs.Performs.{Performs, Leads}
 use Rattle.m36_program.specs.Program.{quiet, Program, puts_all}
-use Rattle.m36_booted.specs.declared.command.RunOutput.{RunOutput}
-use Rattle.m36_booted.specs.declared.command.RunOutput.TheVariants as output
-use Rattle.m36_booted.specs.declared.running.Finish.TheVariants.{Over}
+use Rattle.cmd_folder.specs.declared.command.RunOutput.{RunOutput}
+use Rattle.cmd_folder.specs.declared.command.RunOutput.TheVariants as output
+use Rattle.cmd_folder.specs.declared.finish.Finish.TheVariants.{Over}
 use Rattle.cmd_folder.specs.declared.running.AfterTurn.{AfterTurn}
 use Rattle.cmd_folder.specs.declared.running.AfterTurn.TheVariants as turn
 use Rattle.cmd_folder.specs.RunProgram.{Running, run_ends, run_from, serve}

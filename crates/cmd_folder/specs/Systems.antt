@@ -1,9 +1,9 @@
 -- The result of reading and booting a folder, as the program of the same has it.
 use Rattle.std.specs.Prelude.{Result, Ok, Err}
-use Rattle.m36_reading.specs.declared.status.Status.{Status}
-use Rattle.m36_booted.specs.declared.reading.BootedFolder.{BootedFolder}
-use Rattle.m36_booted.specs.Folder.{FolderFields}
-use Rattle.m36_booted.specs.Systems.{given_by}
+use Rattle.m36_status.specs.declared.status.Status.{Status}
+use Rattle.cmd_folder.specs.declared.booting.BootedFolder.{BootedFolder}
+use Rattle.cmd_folder.specs.Folder.{FolderFields}
+use Rattle.cmd_folder.specs.BootedSystems.{given_by}
 
 abbrev pub given_in : Result BootedFolder Status → Result FolderFields Status
 given_in (Ok booted) = Ok (given_by booted)

@@ -4,21 +4,22 @@ ghost use Rattle.std.specs.Prelude.{◌≡◌};
 ghost use Rattle.m36_audit.specs.Findings.{pairs};
 ghost use Rattle.m36_super.specs.declared.coming.NextEvent.TheVariants.{Step};
 ghost use Rattle.m36_super.specs.SuperFields.{booted_of};
-ghost use Rattle.m36_ran.specs.Ran.{is_run};
+ghost use Rattle.cmd_image.specs.ImageAudit.{is_run};
 ghost use Rattle.m36_program.specs.Performs.{Performs};
-ghost use Rattle.m36_booted.specs.Systems.{IsFresh};
+ghost use Rattle.cmd_folder.specs.BootedSystems.{IsFresh};
 ghost use Rattle.cmd_folder.specs.OnFolder.{audit_and_run, run_by, by_command, on_folder};
 ghost use Rattle.cmd_folder.specs.FolderProgram.{folder_program};
 ghost use Rattle.cmd_folder.specs.RunSays.{run_of};
 
+use crate::auditing::audited;
+use crate::command::{FolderCommand, FolderRun, RunOutput};
 use crate::reading::read_system;
 use crate::running::run;
 use cmd_image::answering::answer_audit;
 use cmd_image::findings::put_audit;
 use m36_acl::{DeniedLines, User};
 use m36_audit::Finding;
-use m36_booted::{FolderCommand, FolderRun, RunOutput, audited};
-use m36_reading::Status;
+use m36_status::Status;
 use m36_super::Super;
 use m36_world::World;
 use std::alloc::Global;
@@ -44,7 +45,7 @@ fn run_audited<W: World>(
 }
 
 // A system is run if the audit found nothing, or with `--unaudited`.
-#[tactic(auto, using(m36_ran::proofs::AuditAnswers::passing))]
+#[tactic(auto, using(cmd_image::proofs::AuditAnswers::passing))]
 fn is_run(findings: &[Finding], run: FolderRun) -> bool
     ensures { result ≡ is_run (pairs findings.now) run.unaudited }
 {

@@ -1,6 +1,6 @@
 //! Laws of `audit`, `run` and `trace` of a folder, and of the runs of booted systems.
 
-ghost use Rattle.m36_booted.specs.BootedLaw.{BootedLaw};
+ghost use Rattle.cmd_folder.specs.BootedLaw.{BootedLaw};
 ghost use Rattle.cmd_folder.specs.FolderLaw.{FolderLaw};
 
 /// Segments boot one system. Turns that execute no ABSA and no LDBR are the same in each run,

@@ -24,7 +24,7 @@
 //!
 //! [`law_folder`] says what the program means (`specs/FolderLaw.antt`):
 //!
-//! - Each call of the program of a run is a booted run of `m36_booted`, up to its finish or to where
+//! - Each call of the program of a run is a booted run of `cmd_folder`, up to its finish or to where
 //!   the call stopped (`specs/RunIs.antt`). Each booted run that finishes is such a call.
 //! - `audit` has one text over the same files. `run` and `trace` have one text up to the first ABSA
 //!   or LDBR that a turn executes. After that the run depends on which pages are evicted.
@@ -40,15 +40,46 @@
 //! keeps that. So a reader of a pipe sees the characters while the program runs. The lines of a
 //! trace are gathered in a block. It is handed over when it is full, at the end, and when a link
 //! service runs out of memory.
+//!
+//! With `--user` the line `denied` of a segment follows the end line if the run ended because a
+//! right to that segment was missing.
+//!
+//! Each step of a run is the defined step of its state, and each link service gives the snapped
+//! pair of the link, or its code. `audit yes` promises, in every state of every run until an LDBR
+//! is executed, that all six conditions of the audit hold and that the tables isolate each ring.
+//!
+//! | In `specs/` | |
+//! |---|---|
+//! | `specs/Folder.antt` | what is booted, and which folders are refused |
+//! | `specs/BootedSystems.antt` | the system of a folder, before its first turn |
+//! | `specs/Runs.antt` | the runs of a system: turns within a limit of steps, and how they finish |
+//! | `specs/RunText.antt` | the pieces that a run puts, and its status |
+//! | `specs/Promise.antt` | what `audit yes` promises |
+//! | `specs/BootedLaw.antt` | there is one system, and one run until an ABSA or LDBR |
+//!
+//! `make` and sessions boot their folders with this crate too.
+//!
+//! The machine is that of the Multics Processor Manual AL39; boot texts, services and lines are
+//! this simulator's own.
 #![tactic(auto)]
 
 pub mod answering;
+pub mod auditing;
+pub mod booting;
+pub mod command;
+pub mod denied_lines;
+pub mod ending;
+pub mod files;
+pub mod finish;
 pub mod laws;
 mod lines;
 pub mod reading;
 pub mod running;
 
 pub use answering::folder_booted;
+pub use auditing::audited;
+pub use command::{FolderCommand, FolderRun, RunOutput};
+pub use ending::{finish_line, finish_status};
 pub use laws::{law_booted, law_folder};
 pub use reading::read_system;
 pub use running::run;

@@ -7,14 +7,15 @@ ghost use Rattle.m36_text.specs.Lines.{as_line};
 ghost use Rattle.m36_trace.specs.TraceLine.{line_of};
 ghost use Rattle.m36_step.specs.declared.turns.Turn.TheVariants as turn;
 ghost use Rattle.m36_program.specs.Gathered.{Adds, Puts};
-ghost use Rattle.m36_booted.specs.RunText.{characters, pieces_of, denied_pieces, end_pieces};
+ghost use Rattle.cmd_folder.specs.RunText.{characters, pieces_of, denied_pieces, end_pieces};
 ghost use Rattle.cmd_folder.specs.RunSays.{IsShown};
 
+use crate::command::RunOutput;
+use crate::denied_lines::denied_line;
+use crate::ending::finish_line;
+use crate::finish::Finish;
 use arrayvec::{ArrayString, ArrayVec};
 use m36_acl::DeniedLines;
-use m36_booted::lines::denied_line;
-use m36_booted::running::Finish;
-use m36_booted::{RunOutput, finish_line};
 use m36_model::{Shown, StepRecord};
 use m36_outside::{Block, Put};
 use m36_program::{add_piece, hand_over};
@@ -160,7 +161,7 @@ pub(crate) fn add_printed<W: World>(
 }
 
 // Adds the line of a denied segment if the run ended because the user lacks a right to it.
-#[tactic(auto, using(crate::proofs::TurnPieces::adding), unfolding(m36_booted::specs::RunText::denied_pieces))]
+#[tactic(auto, using(crate::proofs::TurnPieces::adding), unfolding(crate::specs::RunText::denied_pieces))]
 fn add_denied<W: World>(denied: &DeniedLines, how: Finish, block: &mut Block, world: &mut W) -> Put
     ensures adds { Adds result block.old block.new (denied_pieces denied.now how)
         (W.seen world.old) (W.seen world.new) }

@@ -1,7 +1,7 @@
 //! Reads the boot text of a folder and the files of its segments, and boots the system.
 
 ghost use Rattle.std.specs.Prelude.{◌≡◌, ◌+◌, [], length, IfOk};
-ghost use Rattle.m36_booted.specs.Systems.{IsFresh};
+ghost use Rattle.cmd_folder.specs.BootedSystems.{IsFresh};
 ghost use Rattle.m36_program.specs.Performs.{Performs};
 ghost use Rattle.m36_program.specs.Program.{May};
 ghost use Rattle.m36_files.specs.EachFile.{read_onto, each_onto};
@@ -9,13 +9,12 @@ ghost use Rattle.m36_files.specs.FileReaders.{file_words};
 ghost use Rattle.cmd_folder.specs.FolderProgram.{segment_words, files_booted, folder_given};
 ghost use Rattle.cmd_folder.specs.Systems.{given_in};
 
+use crate::booting::{BootedFolder, boot_files, with_file};
+use crate::files::SegmentFiles;
 use m36_acl::User;
-use m36_booted::files::SegmentFiles;
-use m36_booted::reading::{BootedFolder, boot_files, with_file};
-use m36_catalog::Access;
 use m36_dir::Catalog;
-use m36_files::{decide, read_access, read_words};
-use m36_reading::Status;
+use m36_files::{Access, decide, read_access, read_words};
+use m36_status::Status;
 use m36_world::World;
 use std::alloc::Global;
 

@@ -11,14 +11,15 @@ ghost use Rattle.m36_program.specs.Program.{puts_all};
 ghost use Rattle.cmd_folder.specs.RunProgram.{Running, run_ends, run_from};
 ghost use Rattle.cmd_folder.specs.RunSays.{IsShown, run_of, from_step, from_service, TurnSays, LinkBefore};
 
+use crate::command::RunOutput;
+use crate::ending::finish_status;
+use crate::finish::Finish;
 use crate::lines::{add_linked, add_printed, add_step, put_finish};
 use m36_acl::DeniedLines;
-use m36_booted::running::Finish;
-use m36_booted::{RunOutput, finish_status};
 use m36_model::{At, End, StepRecord};
 use m36_outside::{Block, Put};
 use m36_program::{early, hand_over};
-use m36_reading::Status;
+use m36_status::Status;
 use m36_step::{Stepper, Turn};
 use m36_super::{NextEvent, Super};
 use m36_trace::TraceText;

@@ -5,15 +5,15 @@ use Rattle.m36_text.specs.Lines.{as_line}
 use Rattle.m36_audit.specs.Findings.{pairs}
 use Rattle.m36_audit.specs.declared.verdict.Finding.{Finding}
 use Rattle.m36_world.specs.Seen.{Seen}
-use Rattle.m36_reading.specs.declared.status.Status.{Status}
+use Rattle.m36_status.specs.declared.status.Status.{Status}
 use Rattle.m36_program.specs.Performs.{Performs, Leads}
 use Rattle.m36_program.specs.Program.{quiet, Program, done, puts, puts_all, then_with}
 use Rattle.m36_program.specs.Readers.{put_one}
 use Rattle.m36_program.proofs.LeadLaws.{leads_start, leads_as, leads_ends, leads_put, leads_unput}
 use Rattle.m36_program.proofs.Performing.{goes_done, performs_none, performs_then, performs_stop}
 use Rattle.m36_program.proofs.PutLaws.{puts_one, puts_none}
-use Rattle.m36_ran.specs.AuditText.{finding_line, yes_line, audit_pieces}
-use Rattle.m36_ran.proofs.AuditTexts.{pieces_of_findings, piece_at, piece_none, pieces_of_none, pieces_of_some}
+use Rattle.cmd_image.specs.AuditText.{finding_line, yes_line, audit_pieces}
+use Rattle.cmd_image.proofs.AuditTexts.{pieces_of_findings, piece_at, piece_none, pieces_of_none, pieces_of_some}
 
 -- some pieces, and nothing after them
 abbrev pub all_put : List (List ℕ) → Program quiet (Unit {0})

@@ -12,23 +12,23 @@ use Rattle.m36_model.specs.declared.outcome.Stop.TheVariants.{Dis}
 use Rattle.m36_isol.proofs.CoreIsolated.{core_isolated}
 use Rattle.m36_isol.proofs.Findings.{findings_law}
 use Rattle.m36_world.specs.declared.event.Event.{Event}
-use Rattle.m36_reading.specs.declared.status.Status.{Status}
-use Rattle.m36_reading.specs.declared.status.Status.TheVariants.{Done, NoMemory}
+use Rattle.m36_status.specs.declared.status.Status.{Status}
+use Rattle.m36_status.specs.declared.status.Status.TheVariants.{Done, NoMemory}
 use Rattle.m36_program.specs.Alike.{IsEnd}
 use Rattle.m36_program.specs.Early.{early}
 use Rattle.m36_program.specs.Ended.{HasEnd, StartsWith}
 use Rattle.m36_program.specs.Goes.{Ends, Chosen, Goes}
 use Rattle.m36_program.specs.Trail.{pieces_of}
 use Rattle.m36_program.proofs.PieceLaws.{PutsBy}
-use Rattle.m36_ran.specs.AuditText.{yes_line, audit_pieces, audit_text}
-use Rattle.m36_ran.specs.Output.{run_pieces, status_after}
-use Rattle.m36_ran.specs.Ran.{passes, is_run, audit_status, IsIsolated, PassesAudit}
-use Rattle.m36_ran.specs.Run.{run, last_outcome}
-use Rattle.m36_ran.specs.declared.command.BareRun.{BareRun}
-use Rattle.m36_ran.specs.declared.command.ImageCommand.{ImageCommand}
-use Rattle.m36_ran.specs.declared.command.ImageCommand.TheVariants.{Bare, Audit}
-use Rattle.m36_ran.proofs.SomeFindings.{some_findings}
-use Rattle.m36_ran.proofs.YesAnswers.{none_found}
+use Rattle.cmd_image.specs.AuditText.{yes_line, audit_pieces, audit_text}
+use Rattle.cmd_image.specs.Output.{run_pieces, status_after}
+use Rattle.cmd_image.specs.ImageAudit.{passes, is_run, audit_status, IsIsolated, PassesAudit}
+use Rattle.cmd_image.specs.Run.{run, last_outcome}
+use Rattle.cmd_image.specs.declared.command.BareRun.{BareRun}
+use Rattle.cmd_image.specs.declared.command.ImageCommand.{ImageCommand}
+use Rattle.cmd_image.specs.declared.command.ImageCommand.TheVariants.{Bare, Audit}
+use Rattle.cmd_image.proofs.SomeFindings.{some_findings}
+use Rattle.cmd_image.proofs.YesAnswers.{none_found}
 use Rattle.cmd_image.specs.ImageProgram.{AreAuditFindings, by_command, on_image}
 use Rattle.cmd_image.specs.ImageEnds.{bare_pieces, image_pieces, bare_status, image_status, EndsByFindings}
 use Rattle.cmd_image.specs.ImageEnds.{EndsByFinding, ImageEndLaw}

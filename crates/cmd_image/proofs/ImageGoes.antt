@@ -11,20 +11,20 @@ use Rattle.m36_step.specs.MachineTurn.{ended_by}
 use Rattle.m36_trace.specs.EndLine.{end_line_of}
 use Rattle.m36_trace.specs.TraceLine.{line_of}
 use Rattle.m36_world.specs.declared.event.Event.{Event}
-use Rattle.m36_reading.specs.declared.status.Status.{Status}
+use Rattle.m36_status.specs.declared.status.Status.{Status}
 use Rattle.m36_program.specs.Early.{MayEnd, ends}
 use Rattle.m36_program.specs.Goes.{Goes}
 use Rattle.m36_program.specs.Program.{quiet, Program, puts, puts_all}
 use Rattle.m36_program.proofs.PieceLaws.{PutsBy, puts_ended}
 use Rattle.m36_program.proofs.PutLaws.{puts_both, puts_one}
-use Rattle.m36_ran.specs.AuditText.{audit_pieces}
-use Rattle.m36_ran.specs.Machine.{told, after}
-use Rattle.m36_ran.specs.Output.{pieces_from, run_pieces, status_after}
-use Rattle.m36_ran.specs.Ran.{passes, is_run, audit_status}
-use Rattle.m36_ran.specs.Run.{run, last_outcome}
-use Rattle.m36_ran.specs.declared.command.ImageCommand.{ImageCommand}
-use Rattle.m36_ran.specs.declared.command.ImageCommand.TheVariants.{Bare, Audit}
-use Rattle.m36_ran.proofs.RunLaws.{run_more, run_none, pieces_next, pieces_last, pieces_none, last_after_next}
+use Rattle.cmd_image.specs.AuditText.{audit_pieces}
+use Rattle.cmd_image.specs.Machine.{told, after}
+use Rattle.cmd_image.specs.Output.{pieces_from, run_pieces, status_after}
+use Rattle.cmd_image.specs.ImageAudit.{passes, is_run, audit_status}
+use Rattle.cmd_image.specs.Run.{run, last_outcome}
+use Rattle.cmd_image.specs.declared.command.ImageCommand.{ImageCommand}
+use Rattle.cmd_image.specs.declared.command.ImageCommand.TheVariants.{Bare, Audit}
+use Rattle.cmd_image.proofs.RunLaws.{run_more, run_none, pieces_next, pieces_last, pieces_none, last_after_next}
 use Rattle.cmd_image.specs.ImageProgram.{may_end_by, run_status, run_ends, after_step, run_from}
 use Rattle.cmd_image.specs.ImageProgram.{audit_may_end, audit_only, audit_and_run, bare_by, by_command}
 use Rattle.cmd_image.specs.ImageEnds.{bare_pieces, image_pieces, bare_status, image_status}

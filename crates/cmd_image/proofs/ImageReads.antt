@@ -7,7 +7,7 @@ use Rattle.m36_program.specs.Program.{May}
 use Rattle.m36_program.specs.Reader.{IsReader}
 use Rattle.m36_program.specs.Readers.{refused, file_bytes}
 use Rattle.m36_program.proofs.ReaderLaws.{reader_then, reader_wants, reader_bytes, reader_refuses, reader_done}
-use Rattle.m36_ran.specs.Ran.{code_of}
+use Rattle.cmd_image.specs.ImageAudit.{code_of}
 use Rattle.cmd_image.specs.ImageProgram.{decoded, decode, image_state}
 
 decoded_reader :

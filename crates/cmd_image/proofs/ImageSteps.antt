@@ -7,8 +7,8 @@ use Rattle.m36_audit.specs.declared.verdict.Finding.{Finding}
 use Rattle.m36_image.specs.ImageState.{state_given}
 use Rattle.m36_image.specs.declared.refusal.Refusal as refusal
 use Rattle.m36_world.specs.Seen.{Seen}
-use Rattle.m36_reading.specs.declared.status.Status.{Status}
-use Rattle.m36_reading.specs.declared.status.Status.TheVariants.{AuditNo, NoMemory}
+use Rattle.m36_status.specs.declared.status.Status.{Status}
+use Rattle.m36_status.specs.declared.status.Status.TheVariants.{AuditNo, NoMemory}
 use Rattle.m36_program.specs.Early.{early}
 use Rattle.m36_program.specs.Goes.{Goes}
 use Rattle.m36_program.specs.Performs.{Performs}
@@ -17,9 +17,9 @@ use Rattle.m36_program.specs.Readers.{refused, IsRefusal, file_bytes}
 use Rattle.m36_program.proofs.Performing.{goes_done, goes_wants, goes_no_memory, performs_none, performs_some, performs_wants, performs_no_memory, performs_then, performs_stop}
 use Rattle.m36_program.proofs.ProgramLaws.{goes_ends}
 use Rattle.m36_program.proofs.ReadLaws.{goes_refused}
-use Rattle.m36_ran.specs.AuditText.{audit_pieces}
-use Rattle.m36_ran.specs.Ran.{code_of, passes, audit_status, IsIsolated}
-use Rattle.m36_ran.specs.declared.command.ImageCommand.{ImageCommand}
+use Rattle.cmd_image.specs.AuditText.{audit_pieces}
+use Rattle.cmd_image.specs.ImageAudit.{code_of, passes, audit_status, IsIsolated}
+use Rattle.cmd_image.specs.declared.command.ImageCommand.{ImageCommand}
 use Rattle.cmd_image.specs.ImageProgram.{decoded, decode, image_state, run_from, AreAuditFindings, audit_may_end, audit_only, audit_and_run, by_command, on_image}
 use Rattle.cmd_image.proofs.AuditPuts.{all_put, all_then, all_stop}
 

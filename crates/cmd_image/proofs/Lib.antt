@@ -1,3 +1,11 @@
+pub mod RunLaws
+pub mod RunLengths
+pub mod RunTurns
+pub mod AuditTexts
+pub mod FindingPlaces
+pub mod AuditAnswers
+pub mod YesAnswers
+pub mod SomeFindings
 pub mod RunLoop
 pub mod AuditPuts
 pub mod ImageSteps

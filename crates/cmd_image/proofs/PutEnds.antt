@@ -5,8 +5,8 @@ use Rattle.std.proofs.lemmas.List.Folds.{concat-append as joined_on}
 use Rattle.m36_outside.specs.Passing.{joined}
 use Rattle.m36_world.specs.Follow.{outputs}
 use Rattle.m36_world.specs.declared.event.Event.{Event}
-use Rattle.m36_reading.specs.declared.status.Status.{Status}
-use Rattle.m36_reading.specs.declared.status.Status.TheVariants as status
+use Rattle.m36_status.specs.declared.status.Status.{Status}
+use Rattle.m36_status.specs.declared.status.Status.TheVariants as status
 use Rattle.m36_program.specs.Alike.{IsEnd}
 use Rattle.m36_program.specs.Early.{early, MayEnd, ends}
 use Rattle.m36_program.specs.Ended.{StartsWith}
@@ -16,7 +16,7 @@ use Rattle.m36_program.specs.Trail.{pieces_of}
 use Rattle.m36_program.proofs.PieceLaws.{PutsBy, pieces_put}
 use Rattle.m36_program.proofs.ProgramLaws.{goes_ends}
 use Rattle.m36_program.proofs.PutLaws.{goes_puts}
-use Rattle.m36_ran.specs.AuditText.{yes_line}
+use Rattle.cmd_image.specs.AuditText.{yes_line}
 use Rattle.cmd_image.specs.ImageEnds.{EndsWith}
 
 -- ---- what a program put, by how it ended

@@ -10,8 +10,8 @@ use Rattle.m36_trace.specs.EndLine.{end_line_of}
 use Rattle.m36_trace.specs.TraceLine.{line_of}
 use Rattle.m36_world.specs.Seen.{Seen}
 use Rattle.m36_world.specs.Follow.{Follow, outputs}
-use Rattle.m36_reading.specs.declared.status.Status.{Status}
-use Rattle.m36_reading.specs.declared.status.Status.TheVariants.{WriteFault}
+use Rattle.m36_status.specs.declared.status.Status.{Status}
+use Rattle.m36_status.specs.declared.status.Status.TheVariants.{WriteFault}
 use Rattle.m36_program.specs.Early.{early}
 use Rattle.m36_program.specs.Gathered.{Loses}
 use Rattle.m36_program.specs.Goes.{Goes}
@@ -20,8 +20,8 @@ use Rattle.m36_program.specs.Program.{quiet, Program, puts, puts_all}
 use Rattle.m36_program.proofs.LeadLaws.{leads_start, leads_as, leads_adds, leads_ends, leads_lost_one, leads_finished, leads_empty}
 use Rattle.m36_program.proofs.ProgramLaws.{goes_ends}
 use Rattle.m36_program.proofs.PutLaws.{puts_one}
-use Rattle.m36_ran.specs.Machine.{told, after}
-use Rattle.m36_ran.specs.Output.{status_after}
+use Rattle.cmd_image.specs.Machine.{told, after}
+use Rattle.cmd_image.specs.Output.{status_after}
 use Rattle.cmd_image.specs.ImageProgram.{may_end_by, run_status, run_ends, after_step, run_from}
 use Rattle.cmd_image.specs.Running.{StepAdded, LastStepAdded}
 

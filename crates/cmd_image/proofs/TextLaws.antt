@@ -7,19 +7,19 @@ use Rattle.m36_isol.proofs.Findings.{findings_law}
 use Rattle.m36_image.specs.ImageState.{state_given}
 use Rattle.m36_image.specs.declared.refusal.Refusal as refusal
 use Rattle.m36_step.specs.MachineTurn.{ended_by}
-use Rattle.m36_reading.specs.declared.status.Status.{Status}
-use Rattle.m36_reading.specs.declared.status.Status.TheVariants as status
+use Rattle.m36_status.specs.declared.status.Status.{Status}
+use Rattle.m36_status.specs.declared.status.Status.TheVariants as status
 use Rattle.m36_program.specs.Alike.{Alike}
 use Rattle.m36_program.specs.Early.{MayEnd, ends}
 use Rattle.m36_program.specs.Program.{quiet, Program, some}
 use Rattle.m36_program.specs.Readers.{refuses, file_bytes}
 use Rattle.m36_program.proofs.AlikeLaws.{alike_wants, alike_then, alike_puts, alike_one, bytes_alike, has_one_text}
-use Rattle.m36_ran.specs.AuditText.{audit_pieces}
-use Rattle.m36_ran.specs.Machine.{told, after}
-use Rattle.m36_ran.specs.Output.{status_after}
-use Rattle.m36_ran.specs.Ran.{passes, is_run, audit_status}
-use Rattle.m36_ran.specs.declared.command.ImageCommand.{ImageCommand}
-use Rattle.m36_ran.specs.declared.command.ImageCommand.TheVariants.{Bare, Audit}
+use Rattle.cmd_image.specs.AuditText.{audit_pieces}
+use Rattle.cmd_image.specs.Machine.{told, after}
+use Rattle.cmd_image.specs.Output.{status_after}
+use Rattle.cmd_image.specs.ImageAudit.{passes, is_run, audit_status}
+use Rattle.cmd_image.specs.declared.command.ImageCommand.{ImageCommand}
+use Rattle.cmd_image.specs.declared.command.ImageCommand.TheVariants.{Bare, Audit}
 use Rattle.cmd_image.specs.ImageProgram.{decoded, decode, image_state, may_end_by, run_status, run_ends, after_step}
 use Rattle.cmd_image.specs.ImageProgram.{run_from}
 use Rattle.cmd_image.specs.ImageProgram.{AreAuditFindings, audit_may_end, audit_only, audit_and_run, bare_by}

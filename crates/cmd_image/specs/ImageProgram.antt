@@ -19,12 +19,12 @@ use Rattle.m36_program.specs.Early.{MayEnd, ends}
 use Rattle.m36_program.specs.Program.{May, quiet, Program, done, puts, puts_all, some, wants}
 use Rattle.m36_program.specs.Program.{then_with}
 use Rattle.m36_program.specs.Readers.{refused, refuses, file_bytes}
-use Rattle.m36_ran.specs.declared.command.ImageCommand.{ImageCommand}
-use Rattle.m36_ran.specs.declared.command.ImageCommand.TheVariants.{Bare, Audit}
-use Rattle.m36_ran.specs.AuditText.{audit_pieces}
-use Rattle.m36_ran.specs.Machine.{told, after}
-use Rattle.m36_ran.specs.Output.{end_status, status_by, status_after}
-use Rattle.m36_ran.specs.Ran.{code_of, passes, is_run, audit_status, IsIsolated}
+use Rattle.cmd_image.specs.declared.command.ImageCommand.{ImageCommand}
+use Rattle.cmd_image.specs.declared.command.ImageCommand.TheVariants.{Bare, Audit}
+use Rattle.cmd_image.specs.AuditText.{audit_pieces}
+use Rattle.cmd_image.specs.Machine.{told, after}
+use Rattle.cmd_image.specs.Output.{end_status, status_by, status_after}
+use Rattle.cmd_image.specs.ImageAudit.{code_of, passes, is_run, audit_status, IsIsolated}
 
 -- ---- reading
 

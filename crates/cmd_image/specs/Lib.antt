@@ -1,3 +1,9 @@
+pub mod Machine
+pub mod Run
+pub mod Output
+pub mod AuditText
+pub mod ImageAudit
+pub mod RunLaws
 pub mod ImageProgram
 pub mod ImageEnds
 pub mod Needs

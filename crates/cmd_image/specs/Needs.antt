@@ -4,9 +4,9 @@ use Rattle.m36_model.specs.Store.{State}
 use Rattle.m36_model.specs.Audit.{IsAudited}
 use Rattle.m36_model.specs.declared.outcome.Outcome.TheVariants.{Stopped}
 use Rattle.m36_model.specs.declared.outcome.Stop.TheVariants.{Dis}
-use Rattle.m36_ran.specs.declared.command.ImageCommand.{ImageCommand}
-use Rattle.m36_ran.specs.declared.command.ImageCommand.TheVariants as image
-use Rattle.m36_ran.specs.Run.{run, last_outcome}
+use Rattle.cmd_image.specs.declared.command.ImageCommand.{ImageCommand}
+use Rattle.cmd_image.specs.declared.command.ImageCommand.TheVariants as image
+use Rattle.cmd_image.specs.Run.{run, last_outcome}
 
 -- The audit passes, or `--unaudited` is given.
 abbrev pub MayRun : Type 0 → Bool → Type 0

@@ -2,7 +2,7 @@
 -- the same pieces, up to where it ends.
 use Rattle.std.specs.Prelude.{ℕ, List}
 use Rattle.m36_program.specs.OneText.{HasOneText}
-use Rattle.m36_ran.specs.declared.command.ImageCommand.{ImageCommand}
+use Rattle.cmd_image.specs.declared.command.ImageCommand.{ImageCommand}
 use Rattle.cmd_image.specs.ImageProgram.{image_program}
 
 abbrev pub ImageTextLaw : Type 0

@@ -8,7 +8,7 @@ use Rattle.m36_model.specs.declared.outcome.Outcome.TheVariants.{Next}
 use Rattle.m36_trace.specs.TraceLine.{line_of}
 use Rattle.m36_world.specs.Seen.{Seen}
 use Rattle.m36_program.specs.Gathered.{Gathers, Loses}
-use Rattle.m36_ran.specs.Machine.{told}
+use Rattle.cmd_image.specs.Machine.{told}
 use Rattle.cmd_image.specs.declared.running.AfterStep.{AfterStep}
 use Rattle.cmd_image.specs.declared.running.AfterStep.TheVariants as step
 

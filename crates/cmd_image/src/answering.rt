@@ -2,17 +2,17 @@
 
 ghost use Rattle.m36_audit.specs.Findings.{pairs};
 ghost use Rattle.m36_program.specs.Performs.{Performs};
-ghost use Rattle.m36_ran.specs.Ran.{is_run};
+ghost use Rattle.cmd_image.specs.ImageAudit.{is_run};
 ghost use Rattle.cmd_image.specs.ImageProgram.{audit_only, audit_and_run, bare_by, by_command, on_image, image_program};
 
+use crate::command::{BareRun, ImageCommand};
 use crate::findings::put_audit;
+use crate::machine::{findings_in, is_run, machine_of};
 use crate::reading::read_state;
 use crate::running::run;
 use m36_audit::Finding;
 use m36_image::Image;
-use m36_ran::answering::{findings_in, is_run, machine_of};
-use m36_ran::{BareRun, ImageCommand};
-use m36_reading::Status;
+use m36_status::Status;
 use m36_world::World;
 use std::alloc::Global;
 

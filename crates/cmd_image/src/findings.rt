@@ -6,13 +6,13 @@ ghost use Rattle.m36_audit.specs.Findings.{pair_of, pairs};
 ghost use Rattle.m36_program.specs.Performs.{Performs};
 ghost use Rattle.m36_program.specs.Program.{quiet, done, puts_all};
 ghost use Rattle.m36_program.specs.Readers.{put_one};
-ghost use Rattle.m36_ran.specs.AuditText.{finding_line, finding_pieces, yes_line, audit_pieces};
+ghost use Rattle.cmd_image.specs.AuditText.{finding_line, finding_pieces, yes_line, audit_pieces};
 
+use crate::audit_lines::finding_line;
 use arrayvec::ArrayString;
 use m36_audit::Finding;
 use m36_program::put_piece;
-use m36_ran::findings::finding_line;
-use m36_reading::Status;
+use m36_status::Status;
 use m36_world::World;
 
 /// Puts a line with its line feed, in one piece.

@@ -23,13 +23,34 @@
 //! The lines of a run are gathered in a block, which is handed over when it is full and at the end.
 //! The invariant of the loop is what is left of the program (`Leads`): the lines in the block, and
 //! then the steps that are left.
+//!
+//! [`machine::findings_in`] audits the core of an image. If nothing is found, all six conditions of
+//! the audit hold, and the tables of the image isolate each ring from 1 (`PassesAudit` of
+//! `specs/ImageAudit.antt`). The text of an audit (`specs/AuditText.antt`) is the line `audit yes`,
+//! or a line for each finding with its condition and its place; no digit of a place is cut off.
+//!
+//! `specs/Run.antt` defines the run of a machine, and `specs/Output.antt` its lines and its status.
+//! [`law_runs`] states that a run that did not end used up its limit of steps, and that its steps
+//! are those of the machine's turns.
+//!
+//! Sessions, booted folders and processes use parts of this crate: the machine of an image, the
+//! lines of an audit, the status of a run.
+//!
+//! The machine is that of the Multics Processor Manual AL39.
 #![tactic(auto)]
 
 pub mod answering;
+pub mod audit_lines;
+pub mod command;
 pub mod findings;
+pub mod image_codes;
 pub mod laws;
+pub mod machine;
 pub mod reading;
+pub mod run_laws;
 pub mod running;
 
 pub use answering::image_file;
+pub use command::{BareRun, ImageCommand};
 pub use laws::{law_image_ends, law_image_text};
+pub use run_laws::law_runs;

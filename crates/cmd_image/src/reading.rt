@@ -7,10 +7,10 @@ ghost use Rattle.m36_program.specs.Performs.{Performs};
 ghost use Rattle.m36_program.specs.Program.{May};
 ghost use Rattle.cmd_image.specs.ImageProgram.{decode, image_state};
 
+use crate::image_codes::code_of;
 use m36_image::{Image, ImageFault, read_image};
 use m36_program::{read_bytes, refuse};
-use m36_ran::reading::code_of;
-use m36_reading::Status;
+use m36_status::Status;
 use m36_world::World;
 use std::alloc::Global;
 

@@ -4,19 +4,19 @@ ghost use Rattle.std.specs.Prelude.{◌≡◌, ◌<◌, ◌+◌, [], ◌∷◌, 
 ghost use Rattle.m36_text.specs.Lines.{as_line};
 ghost use Rattle.m36_trace.specs.EndLine.{end_line_of};
 ghost use Rattle.m36_trace.specs.TraceLine.{shown_line};
-ghost use Rattle.m36_ran.specs.Machine.{after};
+ghost use Rattle.cmd_image.specs.Machine.{after};
 ghost use Rattle.m36_program.specs.Gathered.{Adds, Puts};
 ghost use Rattle.m36_program.specs.Performs.{Performs};
 ghost use Rattle.m36_program.specs.Program.{puts_all};
 ghost use Rattle.cmd_image.specs.ImageProgram.{run_ends, run_from};
 ghost use Rattle.cmd_image.specs.Running.{StepResult};
 
+use crate::machine::status_after;
 use arrayvec::ArrayString;
 use m36_model::{Outcome, Regs, Shown};
 use m36_outside::{Block, Put};
 use m36_program::{add_piece, early, finish};
-use m36_ran::answering::status_after;
-use m36_reading::Status;
+use m36_status::Status;
 use m36_step::Machine;
 use m36_trace::{TraceText, end_line, push_shown, shown_line};
 use m36_world::World;

@@ -2,10 +2,10 @@
 use Rattle.std.proofs.Common.{◌≡◌, ℕ, List, ◌++◌, map, Ok, Err, sym, ap, subst, ◌∙◌}
 use Rattle.m36_gen.specs.declared.files.File.{File}
 use Rattle.m36_gen.specs.Folder.{sources_of, other_files}
-use Rattle.m36_reading.specs.declared.refusal.Refusal.{Refusal}
-use Rattle.m36_reading.specs.declared.refusal.Refusal.TheVariants.{BadFile, NoMemory}
-use Rattle.m36_reading.specs.declared.setting.Set.{Set}
-use Rattle.m36_reading.specs.Refusing.{Early, Gives}
+use Rattle.m36_status.specs.declared.refusal.Refusal.{Refusal}
+use Rattle.m36_status.specs.declared.refusal.Refusal.TheVariants.{BadFile, NoMemory}
+use Rattle.m36_status.specs.declared.setting.Set.{Set}
+use Rattle.m36_status.specs.Refusing.{Early, Gives}
 use Rattle.m36_text.specs.Results.{and_then}
 use Rattle.cmd_make.specs.Making.{set_of, with_objects, and_others, sets_of}
 

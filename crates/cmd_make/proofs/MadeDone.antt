@@ -5,11 +5,11 @@ use Rattle.m36_isol.proofs.Findings.{findings_law}
 use Rattle.m36_super.specs.Library.{Library}
 use Rattle.m36_super.specs.SuperFields.{SuperFields, booted_of}
 use Rattle.m36_world.specs.declared.event.Event.{Event}
-use Rattle.m36_reading.specs.declared.setting.Set.{Set}
-use Rattle.m36_reading.specs.declared.status.Status.{Status}
+use Rattle.m36_status.specs.declared.setting.Set.{Set}
+use Rattle.m36_status.specs.declared.status.Status.{Status}
 use Rattle.m36_program.specs.Early.{early}
-use Rattle.m36_booted.specs.declared.running.Finish.{Finish}
-use Rattle.m36_booted.specs.RunText.{finish_status}
+use Rattle.cmd_folder.specs.declared.finish.Finish.{Finish}
+use Rattle.cmd_folder.specs.RunText.{finish_status}
 use Rattle.cmd_folder.specs.Needs.{EndsWithDis}
 use Rattle.cmd_make.specs.MadeLaw.{GoesToEnd, PutsRun}
 use Rattle.cmd_make.specs.MakeProgram.{write_and_boot}

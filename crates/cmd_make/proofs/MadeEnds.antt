@@ -17,12 +17,12 @@ use Rattle.m36_super.specs.BootSays.{IsBooted}
 use Rattle.m36_super.proofs.BootTurns.{start_next}
 use Rattle.m36_world.specs.Follow.{outputs}
 use Rattle.m36_world.specs.declared.event.Event.{Event}
-use Rattle.m36_reading.specs.declared.refusal.Refusal.{Refusal}
-use Rattle.m36_reading.specs.declared.refusal.Refusal.TheVariants.{BadFile, NoMemory}
-use Rattle.m36_reading.specs.declared.setting.Set.{Set}
-use Rattle.m36_reading.specs.declared.status.Status.{Status}
-use Rattle.m36_reading.specs.declared.status.Status.TheVariants as status
-use Rattle.m36_reading.specs.Refusing.{status_of, Early}
+use Rattle.m36_status.specs.declared.refusal.Refusal.{Refusal}
+use Rattle.m36_status.specs.declared.refusal.Refusal.TheVariants.{BadFile, NoMemory}
+use Rattle.m36_status.specs.declared.setting.Set.{Set}
+use Rattle.m36_status.specs.declared.status.Status.{Status}
+use Rattle.m36_status.specs.declared.status.Status.TheVariants as status
+use Rattle.m36_status.specs.Refusing.{status_of, Early}
 use Rattle.m36_program.specs.Alike.{IsEnd}
 use Rattle.m36_program.specs.Early.{early, MayEnd, ends}
 use Rattle.m36_program.specs.Ended.{HasEnd}
@@ -33,15 +33,15 @@ use Rattle.m36_program.proofs.ProgramLaws.{goes_ends}
 use Rattle.m36_program.proofs.PutLaws.{goes_puts}
 use Rattle.m36_files.specs.Deciding.{decides}
 use Rattle.m36_files.specs.Writing.{writing}
-use Rattle.m36_ran.specs.Ran.{audit_status}
-use Rattle.m36_ran.proofs.SomeFindings.{some_findings}
-use Rattle.m36_booted.specs.declared.running.Finish.{Finish}
-use Rattle.m36_booted.specs.Folder.{FolderFields}
-use Rattle.m36_booted.specs.RunText.{steps_in, finish_status}
-use Rattle.m36_booted.specs.Runs.{Finishes}
-use Rattle.m36_booted.specs.Runs as runs
-use Rattle.m36_booted.proofs.OneRunLaws.{one_run_here}
-use Rattle.m36_booted.proofs.OneSystem.{one_system}
+use Rattle.cmd_image.specs.ImageAudit.{audit_status}
+use Rattle.cmd_image.proofs.SomeFindings.{some_findings}
+use Rattle.cmd_folder.specs.declared.finish.Finish.{Finish}
+use Rattle.cmd_folder.specs.Folder.{FolderFields}
+use Rattle.cmd_folder.specs.RunText.{steps_in, finish_status}
+use Rattle.cmd_folder.specs.Runs.{Finishes}
+use Rattle.cmd_folder.specs.Runs as runs
+use Rattle.cmd_folder.proofs.OneRunLaws.{one_run_here}
+use Rattle.cmd_folder.proofs.OneSystem.{one_system}
 use Rattle.cmd_image.specs.ImageProgram.{audit_may_end}
 use Rattle.cmd_folder.specs.RunProgram.{finish_may_end}
 use Rattle.cmd_folder.proofs.FolderSteps.{found_passes}

@@ -6,17 +6,17 @@ use Rattle.std.proofs.lemmas.List.Folds.{concat-append}
 use Rattle.m36_outside.specs.Passing.{joined}
 use Rattle.m36_super.specs.SuperFields.{SuperFields, booted_of}
 use Rattle.m36_world.specs.declared.event.Event.{Event}
-use Rattle.m36_reading.specs.declared.setting.Set.{Set}
-use Rattle.m36_reading.specs.declared.status.Status.{Status}
-use Rattle.m36_reading.specs.declared.status.Status.TheVariants.{NoMemory}
+use Rattle.m36_status.specs.declared.setting.Set.{Set}
+use Rattle.m36_status.specs.declared.status.Status.{Status}
+use Rattle.m36_status.specs.declared.status.Status.TheVariants.{NoMemory}
 use Rattle.m36_program.specs.Ended.{StartsWith}
 use Rattle.m36_program.specs.Goes.{Ends, Goes}
 use Rattle.m36_program.specs.Trail.{pieces_of}
-use Rattle.m36_ran.specs.AuditText.{yes_line, audit_text}
-use Rattle.m36_ran.specs.Ran.{passes}
-use Rattle.m36_ran.proofs.YesAnswers.{none_found}
-use Rattle.m36_booted.specs.Folder.{FolderFields}
-use Rattle.m36_booted.specs.Promise.{PassesBooted}
+use Rattle.cmd_image.specs.AuditText.{yes_line, audit_text}
+use Rattle.cmd_image.specs.ImageAudit.{passes}
+use Rattle.cmd_image.proofs.YesAnswers.{none_found}
+use Rattle.cmd_folder.specs.Folder.{FolderFields}
+use Rattle.cmd_folder.specs.Promise.{PassesBooted}
 use Rattle.cmd_folder.proofs.PutsSplit.{PutsSplit, puts_split}
 use Rattle.cmd_make.specs.Made.{PassesBy, PassesMade, head_by, head_of}
 use Rattle.cmd_make.specs.MakeProgram.{runs_or_ends, found_told, write_and_boot}

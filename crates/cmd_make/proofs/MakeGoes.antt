@@ -7,10 +7,10 @@ use Rattle.m36_world.specs.declared.event.Event.{Event}
 use Rattle.m36_world.specs.declared.event.Event.TheVariants.{FileWrite}
 use Rattle.m36_super.specs.SuperFields.{SuperFields, booted_of}
 use Rattle.m36_super.specs.BootSays.{IsBooted}
-use Rattle.m36_reading.specs.declared.setting.Set.{Set}
-use Rattle.m36_reading.specs.declared.status.Status.{Status}
-use Rattle.m36_reading.specs.declared.status.Status.TheVariants.{WriteFault, NoMemory}
-use Rattle.m36_reading.specs.Refusing.{Early}
+use Rattle.m36_status.specs.declared.setting.Set.{Set}
+use Rattle.m36_status.specs.declared.status.Status.{Status}
+use Rattle.m36_status.specs.declared.status.Status.TheVariants.{WriteFault, NoMemory}
+use Rattle.m36_status.specs.Refusing.{Early}
 use Rattle.m36_program.specs.Alike.{IsEnd}
 use Rattle.m36_program.specs.Goes.{Ends, AfterWrite, Goes}
 use Rattle.m36_program.specs.Program.{quiet, Program, then_with}
@@ -21,7 +21,7 @@ use Rattle.m36_program.proofs.GoesLaws.{goes_then, goes_stop}
 use Rattle.m36_program.proofs.ReaderLaws.{reader_wants, reader_split}
 use Rattle.m36_files.specs.Deciding.{decides}
 use Rattle.m36_files.specs.Writing.{writing}
-use Rattle.m36_booted.specs.Folder.{FolderFields}
+use Rattle.cmd_folder.specs.Folder.{FolderFields}
 use Rattle.cmd_folder.specs.FolderProgram.{folder_given}
 use Rattle.cmd_folder.specs.OnFolder.{AreFolderFindings}
 use Rattle.cmd_folder.proofs.FolderReader.{folder_reader}

@@ -1,10 +1,10 @@
 -- The files are made, written and booted, one after another.
 use Rattle.std.proofs.Common.{◌≡◌, ℕ, List, [], Result, Ok, Err, refl, ap, subst}
 use Rattle.m36_world.specs.Seen.{Seen}
-use Rattle.m36_reading.specs.declared.refusal.Refusal.{Refusal}
-use Rattle.m36_reading.specs.declared.setting.Set.{Set}
-use Rattle.m36_reading.specs.declared.status.Status.{Status}
-use Rattle.m36_reading.specs.Refusing.{status_of, Gives}
+use Rattle.m36_status.specs.declared.refusal.Refusal.{Refusal}
+use Rattle.m36_status.specs.declared.setting.Set.{Set}
+use Rattle.m36_status.specs.declared.status.Status.{Status}
+use Rattle.m36_status.specs.Refusing.{status_of, Gives}
 use Rattle.m36_program.specs.Goes.{Goes}
 use Rattle.m36_program.specs.Performs.{Performs}
 use Rattle.m36_program.specs.Program.{May, Program, then_with}
@@ -12,7 +12,7 @@ use Rattle.m36_program.proofs.Performing.{performs_none, performs_then, performs
 use Rattle.m36_files.specs.Deciding.{decides}
 use Rattle.m36_files.specs.Writing as allows
 use Rattle.m36_files.proofs.DecidingLaws.{rule_given}
-use Rattle.m36_booted.specs.Folder.{FolderFields}
+use Rattle.cmd_folder.specs.Folder.{FolderFields}
 use Rattle.cmd_tools.specs.Reporting.{write_files}
 use Rattle.cmd_tools.proofs.ReportLaws.{then_rest}
 use Rattle.cmd_make.specs.Making.{sets_of}

@@ -9,15 +9,15 @@ use Rattle.alm_parse.specs.declared.fault.AlmFault.TheVariants as alm
 use Rattle.alm_asm.specs.Assembly.{assembled}
 use Rattle.obj36_parts.specs.PartsFields.{PartsFields}
 use Rattle.m36_gen.specs.declared.files.File.{File}
-use Rattle.m36_reading.specs.declared.refusal.Refusal.{Refusal}
-use Rattle.m36_reading.specs.declared.refusal.Refusal.TheVariants.{BadFile, NoMemory}
-use Rattle.m36_reading.specs.declared.setting.Set.{Set}
-use Rattle.m36_reading.specs.Refusing.{Early}
-use Rattle.m36_reading.specs.Refusing as refusing
-use Rattle.m36_reading.proofs.GivesLaws.{gives_by, memory_given}
-use Rattle.m36_told.specs.Assemblies.{Assembly, with_parts, assembly_by, assembly_of, object_bytes, IsMadeOf}
-use Rattle.m36_told.specs.Telling.{source_refused}
-use Rattle.m36_told.proofs.AlmLaws.{made_refused, read_refused}
+use Rattle.m36_status.specs.declared.refusal.Refusal.{Refusal}
+use Rattle.m36_status.specs.declared.refusal.Refusal.TheVariants.{BadFile, NoMemory}
+use Rattle.m36_status.specs.declared.setting.Set.{Set}
+use Rattle.m36_status.specs.Refusing.{Early}
+use Rattle.m36_status.specs.Refusing as refusing
+use Rattle.m36_status.proofs.GivesLaws.{gives_by, memory_given}
+use Rattle.cmd_tools.specs.Assemblies.{Assembly, with_parts, assembly_by, assembly_of, object_bytes, IsMadeOf}
+use Rattle.cmd_tools.specs.PrintAndAlm.{source_refused}
+use Rattle.cmd_tools.proofs.AlmLaws.{made_refused, read_refused}
 use Rattle.m36_text.specs.Results.{and_then}
 use Rattle.cmd_make.specs.Making.{object_name, object_by, object_of, with_objects, assembly_bytes, ObjectSays}
 

@@ -16,16 +16,16 @@ use Rattle.m36_super.specs.declared.coming.NextEvent.TheVariants.{Step, Link, Pr
 use Rattle.m36_super.specs.declared.coming.NextEvent.TheVariants as coming
 use Rattle.m36_super.specs.BootedRun.{Booted, IsLinkTurn, IsConsoleTurn, IsTurnBy, IsTurn, AreTurns}
 use Rattle.m36_super.specs.SuperTurn.{IsQuiet, link_quiet}
-use Rattle.m36_reading.specs.declared.status.Status.{Status}
-use Rattle.m36_reading.specs.declared.status.Status.TheVariants.{NoMemory}
+use Rattle.m36_status.specs.declared.status.Status.{Status}
+use Rattle.m36_status.specs.declared.status.Status.TheVariants.{NoMemory}
 use Rattle.m36_program.specs.Goes.{Ends, Goes}
 use Rattle.m36_program.specs.Program.{quiet, Program}
-use Rattle.m36_booted.specs.declared.running.Finish.{Finish}
-use Rattle.m36_booted.specs.declared.running.Finish.TheVariants.{Over, Limit}
-use Rattle.m36_booted.specs.RunText.{steps_of, steps_in}
-use Rattle.m36_booted.specs.Runs.{IsEvent, Finishes}
-use Rattle.m36_booted.specs.Runs as runs
-use Rattle.m36_booted.proofs.Serving.{IsStep, IsLink, step_is, ended_leaves}
+use Rattle.cmd_folder.specs.declared.finish.Finish.{Finish}
+use Rattle.cmd_folder.specs.declared.finish.Finish.TheVariants.{Over, Limit}
+use Rattle.cmd_folder.specs.RunText.{steps_of, steps_in}
+use Rattle.cmd_folder.specs.Runs.{IsEvent, Finishes}
+use Rattle.cmd_folder.specs.Runs as runs
+use Rattle.cmd_folder.proofs.TurnLaws.{IsStep, IsLink, step_is, ended_leaves}
 use Rattle.cmd_make.specs.QuietRun.{Ran, ran, after_service, serve_by, serve, run_from}
 
 -- The run ended, after these turns.

@@ -15,11 +15,11 @@ use Rattle.m36_super.specs.SuperTurn.{IsQuiet}
 use Rattle.m36_program.specs.Goes.{Goes}
 use Rattle.m36_program.specs.Program.{quiet, Program}
 use Rattle.m36_program.proofs.Performing.{goes_done}
-use Rattle.m36_booted.specs.declared.running.Finish.{Finish}
-use Rattle.m36_booted.specs.declared.running.Finish.TheVariants.{Over, Limit}
-use Rattle.m36_booted.specs.RunText.{steps_of, steps_in}
-use Rattle.m36_booted.specs.Runs.{IsEvent, Finishes}
-use Rattle.m36_booted.proofs.Serving.{link_is}
+use Rattle.cmd_folder.specs.declared.finish.Finish.{Finish}
+use Rattle.cmd_folder.specs.declared.finish.Finish.TheVariants.{Over, Limit}
+use Rattle.cmd_folder.specs.RunText.{steps_of, steps_in}
+use Rattle.cmd_folder.specs.Runs.{IsEvent, Finishes}
+use Rattle.cmd_folder.proofs.TurnLaws.{link_is}
 use Rattle.cmd_make.specs.QuietRun.{Ran, ran, after_service, serve_by, serve, run_from}
 use Rattle.cmd_make.proofs.RunGoes.{is_step, step_counts, IsServiceMade, linked_made, PrintMade, print_made}
 

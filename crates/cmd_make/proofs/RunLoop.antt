@@ -4,12 +4,12 @@ use Rattle.m36_model.specs.declared.endings.End.{End}
 use Rattle.m36_super.specs.Library.{Library}
 use Rattle.m36_super.specs.BootedRun.{Booted}
 use Rattle.m36_super.specs.SuperFields.{SuperFields, booted_of}
-use Rattle.m36_reading.specs.declared.status.Status.{Status}
-use Rattle.m36_reading.specs.declared.status.Status.TheVariants.{NoMemory}
+use Rattle.m36_status.specs.declared.status.Status.{Status}
+use Rattle.m36_status.specs.declared.status.Status.TheVariants.{NoMemory}
 use Rattle.m36_program.specs.Goes.{Goes}
 use Rattle.m36_program.specs.Program.{quiet, Program, done}
 use Rattle.m36_program.proofs.Performing.{goes_done}
-use Rattle.m36_booted.specs.declared.running.Finish.TheVariants.{Over, Limit}
+use Rattle.cmd_folder.specs.declared.finish.Finish.TheVariants.{Over, Limit}
 use Rattle.cmd_make.specs.QuietRun.{Ran, ran, run_from}
 use Rattle.cmd_make.specs.RunSays.{IsLeft, from_step, GoesOn, IsOver, HasNoMemory}
 

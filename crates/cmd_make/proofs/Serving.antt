@@ -12,13 +12,13 @@ use Rattle.m36_super.specs.declared.coming.NextEvent.TheVariants.{Step, Link, Pr
 use Rattle.m36_super.specs.BootedRun.{Booted, IsTurn}
 use Rattle.m36_super.specs.SuperFields.{SuperFields, booted_of}
 use Rattle.m36_super.specs.SuperTurn.{SuperTurns}
-use Rattle.m36_reading.specs.declared.status.Status.{Status}
-use Rattle.m36_reading.specs.declared.status.Status.TheVariants.{NoMemory}
+use Rattle.m36_status.specs.declared.status.Status.{Status}
+use Rattle.m36_status.specs.declared.status.Status.TheVariants.{NoMemory}
 use Rattle.m36_program.specs.Goes.{Goes}
 use Rattle.m36_program.specs.Program.{quiet, Program, some}
 use Rattle.m36_program.proofs.Performing.{goes_done, goes_some, goes_wants, goes_no_memory}
-use Rattle.m36_booted.specs.declared.running.Finish.TheVariants as finish
-use Rattle.m36_booted.proofs.Serving.{turn_prints, link_behind, print_behind}
+use Rattle.cmd_folder.specs.declared.finish.Finish.TheVariants as finish
+use Rattle.cmd_folder.proofs.TurnLaws.{turn_prints, link_behind, print_behind}
 use Rattle.cmd_folder.specs.RunProgram.{Made, IsMade, FindsMemory}
 use Rattle.cmd_folder.proofs.Serving.{print_over}
 use Rattle.cmd_make.specs.declared.running.AfterTurn.{AfterTurn}

@@ -8,9 +8,9 @@ use Rattle.m36_step.specs.declared.turns.Turn.{Turn}
 use Rattle.m36_super.specs.Library.{Library}
 use Rattle.m36_super.specs.declared.coming.NextEvent.TheVariants.{Step}
 use Rattle.m36_super.specs.BootedRun.{Booted}
-use Rattle.m36_reading.specs.declared.setting.Set.{Set}
-use Rattle.m36_reading.specs.declared.status.Status.{Status}
-use Rattle.m36_reading.specs.declared.status.Status.TheVariants.{AuditNo}
+use Rattle.m36_status.specs.declared.setting.Set.{Set}
+use Rattle.m36_status.specs.declared.status.Status.{Status}
+use Rattle.m36_status.specs.declared.status.Status.TheVariants.{AuditNo}
 use Rattle.m36_program.specs.Alike.{IsEnd}
 use Rattle.m36_program.specs.Early.{MayEnd, ends}
 use Rattle.m36_program.specs.Goes.{Goes}
@@ -21,11 +21,11 @@ use Rattle.m36_program.proofs.PieceLaws.{ThenGoes, puts_gone, PutsWhole, puts_en
 use Rattle.m36_program.proofs.SplitLaws.{goes_split}
 use Rattle.m36_program.proofs.TextLaws.{trail_put}
 use Rattle.m36_program.proofs.TrailLaws.{goes_trail}
-use Rattle.m36_ran.specs.Ran.{audit_status}
-use Rattle.m36_booted.specs.declared.running.Finish.{Finish}
-use Rattle.m36_booted.specs.RunText.{steps_in, finish_status}
-use Rattle.m36_booted.specs.Runs.{Finishes}
-use Rattle.m36_booted.specs.Runs as runs
+use Rattle.cmd_image.specs.ImageAudit.{audit_status}
+use Rattle.cmd_folder.specs.declared.finish.Finish.{Finish}
+use Rattle.cmd_folder.specs.RunText.{steps_in, finish_status}
+use Rattle.cmd_folder.specs.Runs.{Finishes}
+use Rattle.cmd_folder.specs.Runs as runs
 use Rattle.cmd_image.specs.ImageProgram.{audit_may_end}
 use Rattle.cmd_folder.specs.RunProgram.{finish_may_end}
 use Rattle.cmd_make.specs.MadeLaw.{all_written, WritesAndPuts, PutsRun}

@@ -12,8 +12,8 @@ use Rattle.m36_super.specs.BootedRun.{Booted}
 use Rattle.m36_super.specs.SuperFields.{SuperFields, booted_of}
 use Rattle.m36_super.specs.BootSays.{IsBooted}
 use Rattle.m36_world.specs.Seen.{Seen}
-use Rattle.m36_reading.specs.declared.status.Status.{Status}
-use Rattle.m36_reading.specs.declared.status.Status.TheVariants.{AuditNo, NoMemory}
+use Rattle.m36_status.specs.declared.status.Status.{Status}
+use Rattle.m36_status.specs.declared.status.Status.TheVariants.{AuditNo, NoMemory}
 use Rattle.m36_program.specs.Early.{early, ends}
 use Rattle.m36_program.specs.Goes.{Goes}
 use Rattle.m36_program.specs.Performs.{Performs}
@@ -22,12 +22,12 @@ use Rattle.m36_program.specs.Readers.{put_one}
 use Rattle.m36_program.proofs.Performing.{performs_none, performs_some, performs_wants, performs_no_memory}
 use Rattle.m36_program.proofs.Performing.{performs_then, performs_stop, performs_put, performs_unput}
 use Rattle.m36_program.proofs.ProgramLaws.{goes_ends}
-use Rattle.m36_ran.specs.AuditText.{audit_pieces}
-use Rattle.m36_ran.specs.Ran.{passes, audit_status}
-use Rattle.m36_booted.specs.declared.running.Finish.{Finish}
-use Rattle.m36_booted.specs.RunText.{finish_line, finish_status}
-use Rattle.m36_booted.specs.Systems.{IsFresh}
-use Rattle.m36_booted.proofs.FolderBoots.{fresh_next}
+use Rattle.cmd_image.specs.AuditText.{audit_pieces}
+use Rattle.cmd_image.specs.ImageAudit.{passes, audit_status}
+use Rattle.cmd_folder.specs.declared.finish.Finish.{Finish}
+use Rattle.cmd_folder.specs.RunText.{finish_line, finish_status}
+use Rattle.cmd_folder.specs.BootedSystems.{IsFresh}
+use Rattle.cmd_folder.proofs.FolderBoots.{fresh_next}
 use Rattle.cmd_image.specs.ImageProgram.{audit_may_end}
 use Rattle.cmd_image.proofs.AuditPuts.{all_put, put_more, all_then, all_stop}
 use Rattle.cmd_folder.specs.OnFolder.{AreFolderFindings}

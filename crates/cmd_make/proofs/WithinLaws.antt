@@ -5,7 +5,7 @@ use Rattle.m36_outside.specs.declared.folder.ReadAnswer.TheVariants as read
 use Rattle.m36_world.specs.declared.event.Event.{Event}
 use Rattle.m36_world.specs.declared.event.Event.TheVariants.{OutputFailed}
 use Rattle.m36_world.specs.Seen.{Seen}
-use Rattle.m36_reading.specs.declared.status.Status.{Status}
+use Rattle.m36_status.specs.declared.status.Status.{Status}
 use Rattle.m36_program.specs.Goes.{AfterRead, FailsWith, Goes}
 use Rattle.m36_program.specs.Performs.{Performs}
 use Rattle.m36_program.specs.Program.{Found, May, quiet, Program, done, stops, reads, writes, puts, takes, some, wants}

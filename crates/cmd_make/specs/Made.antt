@@ -1,11 +1,11 @@
 -- What the files that are made boot to, and what `audit yes` promises of it.
 use Rattle.std.specs.Prelude.{ℕ, List, [], Option, Some, None, Result, Ok, Err}
-use Rattle.m36_reading.specs.declared.setting.Set.{Set}
-use Rattle.m36_reading.specs.declared.status.Status.{Status}
+use Rattle.m36_status.specs.declared.setting.Set.{Set}
+use Rattle.m36_status.specs.declared.status.Status.{Status}
 use Rattle.m36_program.specs.Program.{quiet, Program, wants}
 use Rattle.m36_program.specs.Reader.{outcome_in}
-use Rattle.m36_booted.specs.Folder.{FolderFields}
-use Rattle.m36_booted.specs.Promise.{PassesBooted}
+use Rattle.cmd_folder.specs.Folder.{FolderFields}
+use Rattle.cmd_folder.specs.Promise.{PassesBooted}
 use Rattle.cmd_folder.specs.FolderProgram.{folder_given}
 use Rattle.cmd_make.specs.InMemory.{in_memory}
 use Rattle.cmd_make.specs.Making.{files_in}

@@ -14,21 +14,21 @@ use Rattle.m36_super.specs.BootSays.{IsBooted}
 use Rattle.m36_world.specs.Follow.{outputs}
 use Rattle.m36_world.specs.declared.event.Event.{Event}
 use Rattle.m36_world.specs.declared.event.Event.TheVariants.{FileWrite}
-use Rattle.m36_reading.specs.declared.refusal.Refusal.{Refusal}
-use Rattle.m36_reading.specs.declared.setting.Set.{Set}
-use Rattle.m36_reading.specs.declared.status.Status.{Status}
-use Rattle.m36_reading.specs.declared.status.Status.TheVariants.{AuditNo}
-use Rattle.m36_reading.specs.Refusing.{status_of}
+use Rattle.m36_status.specs.declared.refusal.Refusal.{Refusal}
+use Rattle.m36_status.specs.declared.setting.Set.{Set}
+use Rattle.m36_status.specs.declared.status.Status.{Status}
+use Rattle.m36_status.specs.declared.status.Status.TheVariants.{AuditNo}
+use Rattle.m36_status.specs.Refusing.{status_of}
 use Rattle.m36_program.specs.Alike.{IsEnd}
 use Rattle.m36_program.specs.Early.{early}
 use Rattle.m36_program.specs.Ended.{HasEnd}
 use Rattle.m36_program.specs.Goes.{Goes}
 use Rattle.m36_program.specs.Program.{May, Program}
-use Rattle.m36_booted.specs.declared.running.Finish.{Finish}
-use Rattle.m36_booted.specs.Folder.{FolderFields}
-use Rattle.m36_booted.specs.RunText.{steps_in, finish_status}
-use Rattle.m36_booted.specs.Runs.{Finishes}
-use Rattle.m36_booted.specs.Runs as runs
+use Rattle.cmd_folder.specs.declared.finish.Finish.{Finish}
+use Rattle.cmd_folder.specs.Folder.{FolderFields}
+use Rattle.cmd_folder.specs.RunText.{steps_in, finish_status}
+use Rattle.cmd_folder.specs.Runs.{Finishes}
+use Rattle.cmd_folder.specs.Runs as runs
 use Rattle.cmd_make.specs.Making.{sets_of}
 use Rattle.cmd_make.specs.Made.{boots_from}
 use Rattle.cmd_make.specs.MakeProgram.{write_and_boot, make_program}

@@ -5,12 +5,12 @@ use Rattle.m36_super.specs.Library.{Library}
 use Rattle.m36_super.specs.BootedRun.{Booted}
 use Rattle.m36_super.specs.SuperFields.{SuperFields, booted_of}
 use Rattle.m36_super.specs.BootSays.{IsBooted}
-use Rattle.m36_reading.specs.declared.setting.Set.{Set}
+use Rattle.m36_status.specs.declared.setting.Set.{Set}
 use Rattle.m36_program.specs.Early.{ends}
 use Rattle.m36_program.specs.Program.{quiet, Program, puts_all, some, wants, then_with}
-use Rattle.m36_ran.specs.Ran.{passes, audit_status}
-use Rattle.m36_booted.specs.Folder.{FolderFields}
-use Rattle.m36_booted.specs.RunText.{finish_status}
+use Rattle.cmd_image.specs.ImageAudit.{passes, audit_status}
+use Rattle.cmd_folder.specs.Folder.{FolderFields}
+use Rattle.cmd_folder.specs.RunText.{finish_status}
 use Rattle.m36_files.specs.Deciding.{decides}
 use Rattle.m36_files.specs.Writing.{writing}
 use Rattle.cmd_image.specs.ImageProgram.{audit_may_end}
@@ -51,7 +51,7 @@ on_system lib system =
     wants (some (AreFolderFindings lib system) (found_told lib (booted_of system)))
 
 -- What is done with the system that the library boots to. There is at most one, by `system` of
--- `FolderDueLaw` of `m36_booted`.
+-- `FolderDueLaw` of `cmd_folder`.
 unfoldable pub on_booted : FolderFields → Program quiet (Unit {0})
 on_booted given = some (IsBooted given.lib) (on_system given.lib)
 

@@ -9,12 +9,12 @@ use Rattle.m36_text.specs.Results.{and_then}
 use Rattle.alm_parse.specs.declared.fault.AlmFault.{AlmFault}
 use Rattle.m36_gen.specs.declared.files.File.{File}
 use Rattle.m36_gen.specs.Folder.{sources_of, other_files}
-use Rattle.m36_reading.specs.declared.setting.Set.{Set}
-use Rattle.m36_reading.specs.declared.status.Code.TheVariants as code
-use Rattle.m36_reading.specs.Refusing.{Early}
-use Rattle.m36_reading.specs.Rules.{refused}
-use Rattle.m36_told.specs.Assemblies.{Assembly, assembly_of, object_bytes, object_set, MakingSays}
-use Rattle.m36_told.specs.Telling.{source_refused}
+use Rattle.m36_status.specs.declared.setting.Set.{Set}
+use Rattle.m36_status.specs.declared.status.Code.TheVariants as code
+use Rattle.m36_status.specs.Refusing.{Early}
+use Rattle.m36_status.specs.Rules.{refused}
+use Rattle.cmd_tools.specs.Assemblies.{Assembly, assembly_of, object_bytes, object_set, MakingSays}
+use Rattle.cmd_tools.specs.PrintAndAlm.{source_refused}
 
 -- a file of the generator, as a file to write
 abbrev pub set_of : File → Set

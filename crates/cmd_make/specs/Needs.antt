@@ -5,8 +5,8 @@ use Rattle.m36_model.specs.BootedCore.{booted_dbr}
 use Rattle.m36_super.specs.Library.{Library}
 use Rattle.m36_super.specs.SuperFields.{SuperFields, booted_of}
 use Rattle.m36_super.specs.BootSays.{IsBooted}
-use Rattle.m36_reading.specs.declared.setting.Set.{Set}
-use Rattle.m36_booted.specs.Folder.{FolderFields}
+use Rattle.m36_status.specs.declared.setting.Set.{Set}
+use Rattle.cmd_folder.specs.Folder.{FolderFields}
 use Rattle.cmd_folder.specs.Needs.{EndsWithDis}
 use Rattle.cmd_make.specs.Made.{boots_from}
 use Rattle.cmd_make.specs.Summary.{run_limit}

@@ -8,8 +8,8 @@ use Rattle.m36_super.specs.declared.coming.NextEvent.TheVariants.{Step, Link, Pr
 use Rattle.m36_super.specs.declared.coming.NextEvent.TheVariants as coming
 use Rattle.m36_super.specs.BootedRun.{Booted}
 use Rattle.m36_program.specs.Program.{quiet, Program, done, some, wants}
-use Rattle.m36_booted.specs.declared.running.Finish.{Finish}
-use Rattle.m36_booted.specs.declared.running.Finish.TheVariants.{Over, Limit}
+use Rattle.cmd_folder.specs.declared.finish.Finish.{Finish}
+use Rattle.cmd_folder.specs.declared.finish.Finish.TheVariants.{Over, Limit}
 use Rattle.cmd_folder.specs.RunProgram.{Made, IsMade, FindsMemory}
 
 -- how a run ended, after how many steps, and the registers that it left

@@ -1,8 +1,8 @@
 -- What the functions of a quiet run say in their contracts: what is left of its program after each.
 use Rattle.std.specs.Prelude.{ℕ, ◌≡◌, [], Result, Ok, Err}
 use Rattle.m36_model.specs.declared.endings.End.{End}
-use Rattle.m36_reading.specs.declared.status.Status.{Status}
-use Rattle.m36_reading.specs.declared.status.Status.TheVariants as status
+use Rattle.m36_status.specs.declared.status.Status.{Status}
+use Rattle.m36_status.specs.declared.status.Status.TheVariants as status
 use Rattle.m36_super.specs.Library.{Library}
 use Rattle.m36_super.specs.declared.coming.NextEvent.{NextEvent}
 use Rattle.m36_super.specs.declared.coming.NextEvent.TheVariants.{Step}
@@ -11,7 +11,7 @@ use Rattle.m36_super.specs.BootedRun.{Booted}
 use Rattle.m36_super.specs.SuperFields.{SuperFields, booted_of}
 use Rattle.m36_program.specs.Goes.{Goes}
 use Rattle.m36_program.specs.Program.{quiet, Program, some}
-use Rattle.m36_booted.specs.declared.running.Finish.TheVariants.{Over}
+use Rattle.cmd_folder.specs.declared.finish.Finish.TheVariants.{Over}
 use Rattle.cmd_folder.specs.RunProgram.{IsMade}
 use Rattle.cmd_make.specs.declared.running.AfterTurn.{AfterTurn}
 use Rattle.cmd_make.specs.declared.running.AfterTurn.TheVariants as turn

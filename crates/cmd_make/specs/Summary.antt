@@ -5,9 +5,9 @@ use Rattle.m36_text.specs.Digits.{decimal_text, half_text}
 use Rattle.m36_text.specs.Lines.{as_line}
 use Rattle.m36_model.specs.Registers.{RegsFields}
 use Rattle.m36_super.specs.Library.{Library}
-use Rattle.m36_ran.specs.AuditText.{audit_pieces}
-use Rattle.m36_booted.specs.declared.running.Finish.{Finish}
-use Rattle.m36_booted.specs.RunText.{ended_with}
+use Rattle.cmd_image.specs.AuditText.{audit_pieces}
+use Rattle.cmd_folder.specs.declared.finish.Finish.{Finish}
+use Rattle.cmd_folder.specs.RunText.{ended_with}
 
 -- the maximum number of steps of the run
 abbrev pub run_limit : ℕ

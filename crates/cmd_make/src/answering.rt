@@ -8,7 +8,7 @@ use crate::making::made_from;
 use crate::sets::Sets;
 use crate::summary::summarise;
 use cmd_tools::reporting::write_files;
-use m36_reading::Status;
+use m36_status::Status;
 use m36_world::World;
 use std::alloc::Global;
 

@@ -3,16 +3,16 @@
 ghost use Rattle.std.specs.Prelude.{◌≡◌, [], IfOk};
 ghost use Rattle.m36_outside.specs.FileList.{file_named};
 ghost use Rattle.m36_program.specs.Goes.{Goes};
-ghost use Rattle.m36_booted.specs.Systems.{IsFresh};
+ghost use Rattle.cmd_folder.specs.BootedSystems.{IsFresh};
 ghost use Rattle.cmd_folder.specs.Systems.{given_in};
 ghost use Rattle.cmd_make.specs.Making.{files_in};
 ghost use Rattle.cmd_make.specs.Made.{boot_files};
 
 use crate::sets::Sets;
+use cmd_folder::booting::BootedFolder;
 use cmd_folder::read_system;
-use m36_booted::reading::BootedFolder;
 use m36_outside::{SureFolder, SureLines, SureSink};
-use m36_reading::{Set, Status};
+use m36_status::{Set, Status};
 use m36_word::NoMemory;
 use m36_world::Outside;
 use std::alloc::Global;

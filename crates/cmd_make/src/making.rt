@@ -1,14 +1,14 @@
 //! Makes the files of a seed.
 
 ghost use Rattle.std.specs.Prelude.{◌≡◌, ◌++◌, map, IfOk};
-ghost use Rattle.m36_reading.specs.Refusing.{Gives};
+ghost use Rattle.m36_status.specs.Refusing.{Gives};
 ghost use Rattle.m36_gen.specs.Folder.{other_files};
 ghost use Rattle.cmd_make.specs.Making.{set_of, sets_of};
 
 use crate::objects::with_objects;
 use crate::sets::{Sets, with_copies};
 use m36_gen::{Files, add_others, sources};
-use m36_reading::Refusal;
+use m36_status::Refusal;
 use m36_word::NoMemory;
 use std::alloc::Global;
 

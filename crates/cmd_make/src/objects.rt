@@ -4,19 +4,19 @@ ghost use Rattle.std.specs.Prelude.{◌≡◌, ◌<◌, ◌≤◌, ◌^◌, leng
 ghost use Rattle.alm_asm.specs.Assembly.{assembled};
 ghost use Rattle.m36_text.specs.Texts.{name_limit};
 ghost use Rattle.m36_outside.specs.ReadAnswer.{file_limit};
-ghost use Rattle.m36_reading.specs.Refusing.{Gives};
-ghost use Rattle.m36_told.specs.Assemblies.{with_parts, assembly_of};
+ghost use Rattle.m36_status.specs.Refusing.{Gives};
+ghost use Rattle.cmd_tools.specs.Assemblies.{with_parts, assembly_of};
 ghost use Rattle.cmd_make.specs.Making.{object_name, object_by, object_of, with_objects, ObjectSays};
 
 use crate::sets::Sets;
 use alm_asm::assemble;
 use alm_parse::{AlmFault, Lines36, parse};
+use cmd_tools::objects::object_bytes;
+use cmd_tools::refuse_source;
 use m36_gen::File;
 use m36_outside::{FILE_LIMIT, Text};
-use m36_reading::{Code, Refusal, Set, refuse};
+use m36_status::{Code, Refusal, Set, refuse};
 use m36_text::Name;
-use m36_told::objects::object_bytes;
-use m36_told::refuse_source;
 use std::alloc::Global;
 
 // The name of the object of a source.
@@ -71,7 +71,7 @@ fn object_of_bytes(alloc: Global, name: &[u8], source: &[u8]) -> Result<Set, Ref
 }
 
 /// The object that `alm` makes of a source.
-#[tactic(auto, unfolding(crate::specs::Making::object_of), using(m36_reading::proofs::GivesLaws::gives_refusal))]
+#[tactic(auto, unfolding(crate::specs::Making::object_of), using(m36_status::proofs::GivesLaws::gives_refusal))]
 pub fn object_of(alloc: Global, source: &File) -> Result<Set, Refusal>
     ensures { Gives result (object_of source.now) }
 {

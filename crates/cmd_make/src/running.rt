@@ -8,9 +8,9 @@ ghost use Rattle.m36_program.specs.Goes.{Goes};
 ghost use Rattle.cmd_make.specs.QuietRun.{run_from};
 ghost use Rattle.cmd_make.specs.RunSays.{from_step, from_service, TurnSays, LinkBefore, ran_in};
 
-use m36_booted::running::Finish;
+use cmd_folder::finish::Finish;
 use m36_model::{At, End, StepRecord};
-use m36_reading::Status;
+use m36_status::Status;
 use m36_step::{Stepper, Turn};
 use m36_super::{NextEvent, Super};
 use m36_word::NoMemory;

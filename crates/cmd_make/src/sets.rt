@@ -5,7 +5,7 @@ ghost use Rattle.cmd_make.specs.Making.{set_of};
 
 use m36_gen::File;
 use m36_outside::Text;
-use m36_reading::Set;
+use m36_status::Set;
 use m36_word::NoMemory;
 use std::alloc::Global;
 use std::marker::Model;
@@ -18,7 +18,7 @@ pub struct Sets {
 
 impl Model for Sets {
     ghost use Rattle.std.specs.Prelude.{List};
-    ghost use Rattle.m36_reading.specs.declared.setting.Set.{Set};
+    ghost use Rattle.m36_status.specs.declared.setting.Set.{Set};
 
     ghost Value = { List Set };
 

@@ -5,14 +5,14 @@ use Rattle.m36_text.specs.Lines.{as_line}
 use Rattle.m36_audit.specs.declared.joint_verdict.JointFinding.{JointFinding}
 use Rattle.m36_audit.specs.Joints.{found_of, all_found}
 use Rattle.m36_world.specs.Seen.{Seen}
-use Rattle.m36_reading.specs.declared.status.Status.{Status}
+use Rattle.m36_status.specs.declared.status.Status.{Status}
 use Rattle.m36_program.specs.Performs.{Performs, Leads}
 use Rattle.m36_program.specs.Program.{quiet, Program, done, puts}
 use Rattle.m36_program.specs.Readers.{put_one}
 use Rattle.m36_program.proofs.LeadLaws.{leads_start, leads_as, leads_ends, leads_put, leads_unput}
 use Rattle.m36_program.proofs.Performing.{goes_done, performs_none}
 use Rattle.m36_program.proofs.PutLaws.{puts_none}
-use Rattle.m36_ran.specs.AuditText.{yes_line}
+use Rattle.cmd_image.specs.AuditText.{yes_line}
 use Rattle.cmd_image.proofs.AuditPuts.{all_put, put_more, one_is}
 use Rattle.cmd_procs.specs.JointText.{found_line, found_pieces, joint_pieces}
 

@@ -14,8 +14,8 @@ use Rattle.m36_isol.proofs.Schedules.{jointly_isolated}
 use Rattle.m36_procs.specs.ProcsFields.{ProcsFields}
 use Rattle.m36_procs.specs.ScheduleText.{schedule_pieces}
 use Rattle.m36_world.specs.declared.event.Event.{Event}
-use Rattle.m36_reading.specs.declared.status.Status.{Status}
-use Rattle.m36_reading.specs.declared.status.Status.TheVariants.{Done, NoMemory}
+use Rattle.m36_status.specs.declared.status.Status.{Status}
+use Rattle.m36_status.specs.declared.status.Status.TheVariants.{Done, NoMemory}
 use Rattle.m36_program.specs.Alike.{IsEnd}
 use Rattle.m36_program.specs.Early.{early, ends}
 use Rattle.m36_program.specs.Ended.{HasEnd, StartsWith}
@@ -24,9 +24,9 @@ use Rattle.m36_program.specs.Program.{quiet, Program, puts_all}
 use Rattle.m36_program.specs.Trail.{pieces_of}
 use Rattle.m36_program.proofs.PieceLaws.{PutsBy, puts_ended}
 use Rattle.m36_program.proofs.PutLaws.{puts_both}
-use Rattle.m36_ran.specs.AuditText.{yes_line}
-use Rattle.m36_ran.specs.Ran.{is_run, audit_status}
-use Rattle.m36_ran.proofs.SomeFindings.{some_find, some_findings}
+use Rattle.cmd_image.specs.AuditText.{yes_line}
+use Rattle.cmd_image.specs.ImageAudit.{is_run, audit_status}
+use Rattle.cmd_image.proofs.SomeFindings.{some_find, some_findings}
 use Rattle.cmd_image.proofs.PutEnds.{whole_ends, none_ends, pieces_begin, both_end, starts_longer, none_starts, SomeEnd}
 use Rattle.cmd_image.proofs.PutEnds.{puts_end}
 use Rattle.cmd_procs.specs.JointText.{process_line, between_line, line_by, found_pieces, joint_pieces, joint_text}

@@ -7,8 +7,8 @@ use Rattle.m36_procs.specs.ProcsFields.{ProcsFields}
 use Rattle.m36_procs.specs.ProcsFile.{procs_given}
 use Rattle.m36_procs.specs.declared.fault.Code.{Code as ProcsCode}
 use Rattle.m36_world.specs.Seen.{Seen}
-use Rattle.m36_reading.specs.declared.status.Status.{Status}
-use Rattle.m36_reading.specs.declared.status.Status.TheVariants.{AuditNo, NoMemory}
+use Rattle.m36_status.specs.declared.status.Status.{Status}
+use Rattle.m36_status.specs.declared.status.Status.TheVariants.{AuditNo, NoMemory}
 use Rattle.m36_program.specs.Goes.{Goes}
 use Rattle.m36_program.specs.Performs.{Performs}
 use Rattle.m36_program.specs.Program.{quiet}
@@ -16,7 +16,7 @@ use Rattle.m36_program.specs.Readers.{refused, IsRefusal, file_bytes}
 use Rattle.m36_program.proofs.Performing.{goes_done, goes_wants, goes_no_memory, performs_none, performs_some, performs_wants, performs_no_memory, performs_then, performs_stop}
 use Rattle.m36_program.proofs.ProgramLaws.{goes_ends}
 use Rattle.m36_program.proofs.ReadLaws.{goes_refused}
-use Rattle.m36_ran.specs.Ran.{passes, audit_status}
+use Rattle.cmd_image.specs.ImageAudit.{passes, audit_status}
 use Rattle.cmd_image.proofs.AuditPuts.{all_put, all_then, all_stop}
 use Rattle.cmd_procs.specs.JointText.{joint_pieces}
 use Rattle.cmd_procs.specs.Scheduled.{code_of, dbrs_of, SchedulesAreIsolated}

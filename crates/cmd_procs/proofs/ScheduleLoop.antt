@@ -12,7 +12,7 @@ use Rattle.m36_procs.specs.ScheduleText.{event_line, end_line, pieces_from, sche
 use Rattle.m36_procs.proofs.EventsRun.{pieces_first, pieces_last, get_of}
 use Rattle.m36_world.specs.Seen.{Seen}
 use Rattle.m36_world.specs.Follow.{Follow, outputs}
-use Rattle.m36_reading.specs.declared.status.Status.TheVariants.{Done, WriteFault}
+use Rattle.m36_status.specs.declared.status.Status.TheVariants.{Done, WriteFault}
 use Rattle.m36_program.specs.Early.{ends}
 use Rattle.m36_program.specs.Gathered.{Gathers, Loses}
 use Rattle.m36_program.specs.Performs.{Performs, Leads}

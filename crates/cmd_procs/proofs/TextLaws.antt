@@ -6,13 +6,13 @@ use Rattle.m36_procs.specs.ProcsFields.{ProcsFields}
 use Rattle.m36_procs.specs.ProcsFile.{procs_given}
 use Rattle.m36_procs.specs.ScheduleText.{schedule_pieces}
 use Rattle.m36_procs.specs.declared.fault.Code.{Code as ProcsCode}
-use Rattle.m36_reading.specs.declared.status.Status.TheVariants.{Done}
+use Rattle.m36_status.specs.declared.status.Status.TheVariants.{Done}
 use Rattle.m36_program.specs.Alike.{Alike}
 use Rattle.m36_program.specs.Early.{ends}
 use Rattle.m36_program.specs.Program.{quiet, Program, some}
 use Rattle.m36_program.specs.Readers.{refuses, file_bytes}
 use Rattle.m36_program.proofs.AlikeLaws.{alike_wants, alike_then, alike_puts, alike_one, bytes_alike, has_one_text}
-use Rattle.m36_ran.specs.Ran.{is_run, audit_status}
+use Rattle.cmd_image.specs.ImageAudit.{is_run, audit_status}
 use Rattle.cmd_image.proofs.TextLaws.{ends_alike}
 use Rattle.cmd_procs.specs.JointText.{joint_pieces}
 use Rattle.cmd_procs.specs.Scheduled.{dbrs_of}

@@ -7,7 +7,7 @@ use Rattle.m36_outside.specs.Passing.{joined}
 use Rattle.m36_text.specs.Digits.{decimal_text, core_word_digits}
 use Rattle.m36_text.specs.Lines.{as_line}
 use Rattle.m36_model.specs.JointAudit.{JointFound}
-use Rattle.m36_ran.specs.AuditText.{place_text, found_text, yes_or}
+use Rattle.cmd_image.specs.AuditText.{place_text, found_text, yes_or}
 
 -- the line of a finding of a process, without its line feed
 unfoldable pub process_line : ℕ → ℕ → ℕ → List ℕ

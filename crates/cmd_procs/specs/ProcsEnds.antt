@@ -5,12 +5,12 @@ use Rattle.m36_model.specs.JointAudit.{JointFound, IsJointlyAudited}
 use Rattle.m36_procs.specs.ProcsFields.{ProcsFields}
 use Rattle.m36_procs.specs.ScheduleText.{schedule_pieces}
 use Rattle.m36_world.specs.declared.event.Event.{Event}
-use Rattle.m36_reading.specs.declared.status.Status.{Status}
-use Rattle.m36_reading.specs.declared.status.Status.TheVariants.{Done}
+use Rattle.m36_status.specs.declared.status.Status.{Status}
+use Rattle.m36_status.specs.declared.status.Status.TheVariants.{Done}
 use Rattle.m36_program.specs.Alike.{IsEnd}
 use Rattle.m36_program.specs.Ended.{HasEnd}
 use Rattle.m36_program.specs.Goes.{Goes}
-use Rattle.m36_ran.specs.Ran.{is_run, audit_status}
+use Rattle.cmd_image.specs.ImageAudit.{is_run, audit_status}
 use Rattle.cmd_image.specs.ImageEnds.{EndsWith}
 use Rattle.cmd_procs.specs.JointText.{joint_pieces}
 use Rattle.cmd_procs.specs.Scheduled.{dbrs_of}

@@ -7,11 +7,11 @@ use Rattle.m36_procs.specs.ProcsFields.{ProcsFields}
 use Rattle.m36_procs.specs.ProcsFile.{procs_given}
 use Rattle.m36_procs.specs.ScheduleText.{schedule_pieces}
 use Rattle.m36_procs.specs.declared.fault.Code.{Code as ProcsCode}
-use Rattle.m36_reading.specs.declared.status.Status.TheVariants.{Done}
+use Rattle.m36_status.specs.declared.status.Status.TheVariants.{Done}
 use Rattle.m36_program.specs.Early.{ends}
 use Rattle.m36_program.specs.Program.{May, quiet, Program, done, puts_all, some, wants, then_with}
 use Rattle.m36_program.specs.Readers.{refused, refuses, file_bytes}
-use Rattle.m36_ran.specs.Ran.{is_run, audit_status}
+use Rattle.cmd_image.specs.ImageAudit.{is_run, audit_status}
 use Rattle.cmd_procs.specs.JointText.{joint_pieces}
 use Rattle.cmd_procs.specs.Scheduled.{code_of, dbrs_of, SchedulesAreIsolated}
 

@@ -8,8 +8,8 @@ use Rattle.m36_model.specs.JointAudit.{IsJointlyAudited}
 use Rattle.m36_model.specs.JointIsolation.{JointlyIsolated}
 use Rattle.m36_procs.specs.declared.fault.Code.{Code as ProcsCode}
 use Rattle.m36_procs.specs.declared.fault.Code.TheVariants as procs
-use Rattle.m36_reading.specs.declared.status.Code.{Code}
-use Rattle.m36_reading.specs.declared.status.Code.TheVariants as code
+use Rattle.m36_status.specs.declared.status.Code.{Code}
+use Rattle.m36_status.specs.declared.status.Code.TheVariants as code
 
 -- ---- reading
 

@@ -4,7 +4,7 @@ ghost use Rattle.std.specs.Prelude.{◌≡◌, ◌≤◌, [], IfOk, length};
 ghost use Rattle.m36_model.specs.JointAudit.{AreJointFindings, most_processes};
 ghost use Rattle.m36_audit.specs.Joints.{all_found};
 ghost use Rattle.m36_program.specs.Performs.{Performs};
-ghost use Rattle.m36_ran.specs.Ran.{is_run};
+ghost use Rattle.cmd_image.specs.ImageAudit.{is_run};
 ghost use Rattle.cmd_procs.specs.Scheduled.{dbrs_of, SchedulesAreIsolated};
 ghost use Rattle.cmd_procs.specs.ProcsProgram.{audit_only, audit_and_run, by_found, on_procs, procs_program};
 
@@ -15,7 +15,7 @@ use m36_audit::{Joint, JointFinding, joint};
 use m36_desc::Dbr;
 use m36_model::Regs;
 use m36_procs::Procs;
-use m36_reading::Status;
+use m36_status::Status;
 use m36_word::NoMemory;
 use m36_world::World;
 use std::alloc::Global;

@@ -9,10 +9,10 @@ ghost use Rattle.m36_program.specs.Readers.{put_one};
 ghost use Rattle.cmd_procs.specs.JointText.{process_line, between_line, found_line, found_pieces, joint_pieces};
 
 use arrayvec::ArrayString;
+use cmd_image::audit_lines::place_text;
 use cmd_image::findings::{put_line, put_yes};
 use m36_audit::JointFinding;
-use m36_ran::findings::place_text;
-use m36_reading::Status;
+use m36_status::Status;
 use m36_text::{decimal, octal};
 use m36_world::World;
 
@@ -33,7 +33,7 @@ fn process_line(process: u8, condition: u8, place: u32) -> ArrayString<160>
 }
 
 /// The line of a finding between processes, without its line feed.
-#[tactic(auto, unfolding(crate::specs::JointText::between_line), using(m36_ran::proofs::AuditTexts::word_digits))]
+#[tactic(auto, unfolding(crate::specs::JointText::between_line), using(cmd_image::proofs::AuditTexts::word_digits))]
 fn between_line(condition: u8, place: u32) -> ArrayString<160>
     ensures text { result.bytes ≡ between_line condition place }
     ensures len { length result.bytes ≤ 61 }

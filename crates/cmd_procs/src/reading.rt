@@ -9,7 +9,7 @@ ghost use Rattle.cmd_procs.specs.ProcsProgram.{decode, procs_of};
 
 use m36_procs::{Procs, ProcsFault};
 use m36_program::{read_bytes, refuse};
-use m36_reading::{Code, Status};
+use m36_status::{Code, Status};
 use m36_world::World;
 use std::alloc::Global;
 

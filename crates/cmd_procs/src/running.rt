@@ -10,7 +10,7 @@ use m36_model::StepRecord;
 use m36_outside::{Block, Put};
 use m36_procs::{Procs, end_line, event_line};
 use m36_program::{add_piece, finish};
-use m36_reading::Status;
+use m36_status::Status;
 use m36_world::World;
 
 // Adds the line of event n to a block, as one piece.

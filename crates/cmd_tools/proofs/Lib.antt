@@ -1,3 +1,6 @@
+pub mod LineLaws
+pub mod AlmLaws
+pub mod BindLaws
 pub mod ReportLaws
 pub mod ToolSteps
 pub mod TextLaws

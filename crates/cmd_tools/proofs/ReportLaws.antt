@@ -3,10 +3,10 @@ use Rattle.std.proofs.Common.{◌≡◌, ℕ, ◌+◌, ◌-◌, ◌<◌, ◌≤�
 use Rattle.std.proofs.lemmas.List.{drop_more, drop_all}
 use Rattle.m36_text.proofs.Splitting.{rest_whole}
 use Rattle.m36_world.specs.Seen.{Seen}
-use Rattle.m36_reading.specs.declared.setting.Set.{Set}
-use Rattle.m36_reading.specs.declared.status.Status.{Status}
-use Rattle.m36_told.specs.LinesIn.{lines_in}
-use Rattle.m36_told.specs.Told.{ToldFields}
+use Rattle.m36_status.specs.declared.setting.Set.{Set}
+use Rattle.m36_status.specs.declared.status.Status.{Status}
+use Rattle.cmd_tools.specs.LinesIn.{lines_in}
+use Rattle.cmd_tools.specs.Reports.{ToldFields}
 use Rattle.m36_program.specs.Performs.{Performs, Leads}
 use Rattle.m36_program.specs.Program.{May, Program, done, puts, puts_all, writes, then_with}
 use Rattle.m36_program.specs.Readers.{put_one, write_one}

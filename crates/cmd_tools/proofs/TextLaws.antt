@@ -3,15 +3,15 @@ use Rattle.std.proofs.Common.{ℕ, List, [], ◌∷◌, Ok, refl}
 use Rattle.m36_bindfile.specs.BindFile.{bind_lines, names_by}
 use Rattle.m36_bind.specs.Bound.{bound_of}
 use Rattle.m36_dir.specs.Catalog.{CatalogFields}
-use Rattle.m36_reading.specs.declared.setting.Set.{Set}
-use Rattle.m36_told.specs.declared.assembling.AlmFiles.{AlmFiles}
-use Rattle.m36_told.specs.declared.binding.BindFiles.{BindFiles}
-use Rattle.m36_told.specs.Accesses.{access_told}
-use Rattle.m36_told.specs.Assemblies.{assembly_of}
-use Rattle.m36_told.specs.Binding.{names_told, bind_told}
-use Rattle.m36_told.specs.LinesIn.{lines_in}
-use Rattle.m36_told.specs.Telling.{printed, told_by}
-use Rattle.m36_told.specs.Told.{ToldFields}
+use Rattle.m36_status.specs.declared.setting.Set.{Set}
+use Rattle.cmd_tools.specs.declared.alm_files.AlmFiles.{AlmFiles}
+use Rattle.cmd_tools.specs.declared.bind_files.BindFiles.{BindFiles}
+use Rattle.cmd_tools.specs.Accesses.{access_told}
+use Rattle.cmd_tools.specs.Assemblies.{assembly_of}
+use Rattle.cmd_tools.specs.Binding.{names_told, bind_told}
+use Rattle.cmd_tools.specs.LinesIn.{lines_in}
+use Rattle.cmd_tools.specs.PrintAndAlm.{printed, told_by}
+use Rattle.cmd_tools.specs.Reports.{ToldFields}
 use Rattle.m36_program.specs.Alike.{Alike}
 use Rattle.m36_program.specs.Program.{May, quiet, Program, done}
 use Rattle.m36_program.specs.Readers.{file_bytes}

@@ -6,16 +6,16 @@ use Rattle.obj36_parts.specs.PartsFields.{PartsFields}
 use Rattle.m36_bindfile.specs.BindFile.{bind_lines, names_by}
 use Rattle.m36_bind.specs.Bound.{bound_of}
 use Rattle.m36_world.specs.Seen.{Seen}
-use Rattle.m36_reading.specs.declared.refusal.Refusal.{Refusal}
-use Rattle.m36_reading.specs.declared.status.Status.{Status}
-use Rattle.m36_reading.specs.Refusing.{Gives}
-use Rattle.m36_told.specs.declared.assembling.AlmFiles.{AlmFiles}
-use Rattle.m36_told.specs.declared.binding.BindFiles.{BindFiles}
-use Rattle.m36_told.specs.Accesses.{access_told}
-use Rattle.m36_told.specs.Assemblies.{assembly_of}
-use Rattle.m36_told.specs.Binding.{names_told, bind_told}
-use Rattle.m36_told.specs.Telling.{printed, told_by}
-use Rattle.m36_told.specs.Told.{ToldFields}
+use Rattle.m36_status.specs.declared.refusal.Refusal.{Refusal}
+use Rattle.m36_status.specs.declared.status.Status.{Status}
+use Rattle.m36_status.specs.Refusing.{Gives}
+use Rattle.cmd_tools.specs.declared.alm_files.AlmFiles.{AlmFiles}
+use Rattle.cmd_tools.specs.declared.bind_files.BindFiles.{BindFiles}
+use Rattle.cmd_tools.specs.Accesses.{access_told}
+use Rattle.cmd_tools.specs.Assemblies.{assembly_of}
+use Rattle.cmd_tools.specs.Binding.{names_told, bind_told}
+use Rattle.cmd_tools.specs.PrintAndAlm.{printed, told_by}
+use Rattle.cmd_tools.specs.Reports.{ToldFields}
 use Rattle.m36_program.specs.Performs.{Performs}
 use Rattle.m36_program.specs.Program.{May, quiet, Program, then_with}
 use Rattle.m36_program.specs.Readers.{file_bytes}

@@ -1,3 +1,9 @@
+pub mod Assemblies
+pub mod LinesIn
+pub mod Reports
+pub mod PrintAndAlm
+pub mod Binding
+pub mod Accesses
 pub mod Reporting
 pub mod ToolPrograms
 pub mod ToolLaws

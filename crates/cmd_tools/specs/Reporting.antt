@@ -1,8 +1,8 @@
 -- Writes the files of a report in order, and then prints its text.
 use Rattle.std.specs.Prelude.{ℕ, ◌≡◌, true, refl, List, [], ◌∷◌}
-use Rattle.m36_reading.specs.declared.setting.Set.{Set}
-use Rattle.m36_told.specs.LinesIn.{lines_in}
-use Rattle.m36_told.specs.Told.{ToldFields}
+use Rattle.m36_status.specs.declared.setting.Set.{Set}
+use Rattle.cmd_tools.specs.LinesIn.{lines_in}
+use Rattle.cmd_tools.specs.Reports.{ToldFields}
 use Rattle.m36_program.specs.Program.{May, Program, done, writes, puts_all}
 use Rattle.m36_files.specs.Writing.{writing}
 

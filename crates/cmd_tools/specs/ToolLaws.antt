@@ -3,11 +3,11 @@ use Rattle.std.specs.Prelude.{ℕ, ◌≡◌, List, Some, Result, Ok}
 use Rattle.m36_outside.specs.Files.{Files}
 use Rattle.m36_outside.specs.Passing.{joined}
 use Rattle.m36_world.specs.Seen.{Seen}
-use Rattle.m36_reading.specs.declared.status.Status.{Status}
-use Rattle.m36_told.specs.declared.assembling.AlmFiles.{AlmFiles}
-use Rattle.m36_told.specs.declared.binding.BindFiles.{BindFiles}
-use Rattle.m36_told.specs.LinesIn.{lines_in}
-use Rattle.m36_told.specs.Told.{ToldFields}
+use Rattle.m36_status.specs.declared.status.Status.{Status}
+use Rattle.cmd_tools.specs.declared.alm_files.AlmFiles.{AlmFiles}
+use Rattle.cmd_tools.specs.declared.bind_files.BindFiles.{BindFiles}
+use Rattle.cmd_tools.specs.LinesIn.{lines_in}
+use Rattle.cmd_tools.specs.Reports.{ToldFields}
 use Rattle.m36_program.specs.Ended.{HasEnd, NoneRose, IsDoneOrNoMemory}
 use Rattle.m36_program.specs.OneText.{HasOneText}
 use Rattle.m36_program.specs.Performs.{Performs}

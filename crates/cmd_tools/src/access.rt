@@ -1,8 +1,8 @@
 //! Performs the command `access USER` over any world.
 
 ghost use Rattle.std.specs.Prelude.{Ok};
-ghost use Rattle.m36_reading.specs.Refusing.{Gives};
-ghost use Rattle.m36_told.specs.Accesses.{access_told};
+ghost use Rattle.m36_status.specs.Refusing.{Gives};
+ghost use Rattle.cmd_tools.specs.Accesses.{access_told};
 ghost use Rattle.m36_program.specs.Performs.{Performs};
 ghost use Rattle.m36_program.specs.Program.{quiet};
 ghost use Rattle.cmd_tools.specs.ToolPrograms.{lists_report, access_report, access_program};
@@ -12,7 +12,7 @@ use crate::reporting::put_text;
 use m36_acl::{Acl, User};
 use m36_dir::Catalog;
 use m36_files::{decide, read_catalog, read_lists};
-use m36_reading::{Refusal, Status};
+use m36_status::{Refusal, Status};
 use m36_world::World;
 use std::alloc::Global;
 

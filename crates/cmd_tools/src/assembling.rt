@@ -3,13 +3,15 @@
 ghost use Rattle.std.specs.Prelude.{◌≤◌, length, Ok};
 ghost use Rattle.m36_outside.specs.ReadAnswer.{file_limit};
 ghost use Rattle.alm_asm.specs.Assembly.{assembled};
-ghost use Rattle.m36_reading.specs.Refusing.{Gives};
-ghost use Rattle.m36_told.specs.Assemblies.{with_parts, assembly_of};
-ghost use Rattle.m36_told.specs.Telling.{told_by, MadeSays};
+ghost use Rattle.m36_status.specs.Refusing.{Gives};
+ghost use Rattle.cmd_tools.specs.Assemblies.{with_parts, assembly_of};
+ghost use Rattle.cmd_tools.specs.PrintAndAlm.{told_by, MadeSays};
 ghost use Rattle.m36_program.specs.Performs.{Performs};
 ghost use Rattle.m36_files.specs.Writing.{writing};
 ghost use Rattle.cmd_tools.specs.ToolPrograms.{alm_report, alm_program};
 
+use crate::alm_files::{AlmFiles, refuse_source};
+use crate::objects::object_bytes;
 use crate::report::{Report, report_file};
 use crate::reporting::write_report;
 use alm_asm::assemble;
@@ -17,10 +19,8 @@ use alm_parse::{AlmFault, Lines36, parse};
 use m36_files::decide;
 use m36_list::listing;
 use m36_program::read_bytes;
-use m36_reading::{Refusal, Status};
+use m36_status::{Refusal, Status};
 use m36_text::Name;
-use m36_told::objects::object_bytes;
-use m36_told::{AlmFiles, refuse_source};
 use m36_world::World;
 use obj36::Object;
 use std::alloc::Global;
@@ -36,7 +36,7 @@ fn listed(alloc: Global, name: &Name, lines: &Lines36, object: &Object) -> Resul
 }
 
 /// Assembles parsed lines, and makes the report: the object under its name, and the listing.
-#[tactic(auto, using(m36_told::proofs::AlmLaws::made))]
+#[tactic(auto, using(crate::proofs::AlmLaws::made))]
 fn made_with(alloc: Global, name: &Name, lines: &Lines36) -> Result<Report, AlmFault>
     ensures { MadeSays name.now result (with_parts lines.now (assembled lines.now)) }
 {
@@ -63,7 +63,7 @@ fn made_of(alloc: Global, name: &Name, bytes: &[u8]) -> Result<Report, AlmFault>
 }
 
 /// As `made_of`; a fault of the source is a refusal that names the source.
-#[tactic(auto, using(m36_told::proofs::AlmLaws::answering))]
+#[tactic(auto, using(crate::proofs::AlmLaws::answering))]
 fn assembled_in(alloc: Global, files: &AlmFiles, bytes: &[u8]) -> Result<Report, Refusal>
     requires { length bytes.now ≤ file_limit }
     ensures { Gives result (told_by files.now (assembly_of bytes.now)) }

@@ -4,24 +4,24 @@ ghost use Rattle.std.specs.Prelude.{◌≡◌, ◌≤◌, ◌∷◌, ◌++◌, [
 ghost use Rattle.m36_outside.specs.ReadAnswer.{file_limit};
 ghost use Rattle.m36_bindfile.specs.BindFile.{bind_lines, names_by, BindResult};
 ghost use Rattle.m36_bind.specs.Bound.{bound_of};
-ghost use Rattle.m36_reading.specs.Refusing.{Gives, Refuses};
-ghost use Rattle.m36_told.specs.Binding.{bind_refused, names_told, bound_told, bind_told};
+ghost use Rattle.m36_status.specs.Refusing.{Gives, Refuses};
+ghost use Rattle.cmd_tools.specs.Binding.{bind_refused, names_told, bound_told, bind_told};
 ghost use Rattle.m36_program.specs.Performs.{Performs};
 ghost use Rattle.m36_files.specs.EachFile.{read_onto, each_onto};
 ghost use Rattle.m36_files.specs.FileReaders.{file_object};
 ghost use Rattle.m36_files.specs.Writing.{writing};
 ghost use Rattle.cmd_tools.specs.ToolPrograms.{components_report, text_report, bind_report, bind_program};
 
+use crate::bind_files::BindFiles;
+use crate::objects::object_bytes;
 use crate::report::{Report, report_file};
 use crate::reporting::write_report;
 use m36_bind::{BindFault, bind, components};
 use m36_files::{decide, read_object};
 use m36_list::print;
 use m36_program::read_bytes;
-use m36_reading::{Code, Refusal, Status, refuse};
+use m36_status::{Code, Refusal, Status, refuse};
 use m36_text::{Name, Names};
-use m36_told::BindFiles;
-use m36_told::objects::object_bytes;
 use m36_word::NoMemory;
 use m36_world::World;
 use obj36::Object;
@@ -81,7 +81,7 @@ fn refuse_bind(alloc: Global, name: &[u8], fault: BindFault) -> Refusal
 }
 
 // The names of the components of a bind file.
-#[tactic(auto, using(m36_told::proofs::BindLaws::naming))]
+#[tactic(auto, using(crate::proofs::BindLaws::naming))]
 fn names_in(alloc: Global, file: &[u8], text: &[u8]) -> Result<Names, Refusal>
     requires { length text.now ≤ file_limit }
     ensures { Gives result (names_told file.now (names_by (bind_lines text.now))) }

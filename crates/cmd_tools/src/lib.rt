@@ -22,20 +22,31 @@
 //! memory runs out; and over the same files all calls put prefixes of one text, and those that end
 //! put all of it.
 //!
+//! A report follows from what was read (`specs/PrintAndAlm.antt`, `specs/Binding.antt`,
+//! `specs/Accesses.antt`). It has the files that are written, and the text that is then printed, a
+//! piece for each line (`specs/Reports.antt`). `make` uses the objects of sources and their refusals
+//! too: [`objects::object_bytes`] gives the bytes of an object, and [`refuse_source`] refuses a
+//! source.
+//!
 //! Formats are those of `m36_list` and `obj36`; the machine's words are those of the Multics
 //! Processor Manual AL39.
 #![tactic(auto)]
 
 pub mod access;
+pub mod alm_files;
 pub mod assembling;
+pub mod bind_files;
 pub mod binding;
 pub mod laws;
+pub mod objects;
 pub mod printing;
 pub mod report;
 pub mod reporting;
 
 pub use access::print_access;
+pub use alm_files::{AlmFiles, refuse_source};
 pub use assembling::assemble_file;
+pub use bind_files::BindFiles;
 pub use binding::bind_objects;
 pub use laws::law_tools;
 pub use printing::print_object;

@@ -1,8 +1,8 @@
 //! Performs the command `print NAME` over any world.
 
 ghost use Rattle.std.specs.Prelude.{Ok};
-ghost use Rattle.m36_reading.specs.Refusing.{Gives};
-ghost use Rattle.m36_told.specs.Telling.{printed};
+ghost use Rattle.m36_status.specs.Refusing.{Gives};
+ghost use Rattle.cmd_tools.specs.PrintAndAlm.{printed};
 ghost use Rattle.m36_program.specs.Performs.{Performs};
 ghost use Rattle.m36_program.specs.Program.{quiet};
 ghost use Rattle.cmd_tools.specs.ToolPrograms.{print_report, print_program};
@@ -11,7 +11,7 @@ use crate::report::Report;
 use crate::reporting::put_text;
 use m36_files::{decide, read_object};
 use m36_list::print;
-use m36_reading::{Refusal, Status};
+use m36_status::{Refusal, Status};
 use m36_world::World;
 use obj36::Object;
 use std::alloc::Global;

@@ -3,7 +3,7 @@
 ghost use Rattle.std.specs.Prelude.{◌≡◌, [], ◌∷◌, IfOk};
 
 use m36_outside::Text;
-use m36_reading::Set;
+use m36_status::Set;
 use m36_text::Name;
 use m36_word::NoMemory;
 use std::alloc::Global;
@@ -18,7 +18,7 @@ pub struct Report {
 }
 
 impl Model for Report {
-    ghost use Rattle.m36_told.specs.Told.{ToldFields};
+    ghost use Rattle.cmd_tools.specs.Reports.{ToldFields};
 
     ghost Value = { ToldFields };
 

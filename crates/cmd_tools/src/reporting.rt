@@ -1,21 +1,21 @@
 //! Writes the files of a report one after another, and puts its text line by line.
 
 ghost use Rattle.std.specs.Prelude.{◌≡◌, ◌≤◌, ◌<◌, ◌∷◌, length, take, drop};
-ghost use Rattle.m36_told.specs.LinesIn.{lines_in};
+ghost use Rattle.cmd_tools.specs.LinesIn.{lines_in};
 ghost use Rattle.m36_program.specs.Performs.{Performs};
 ghost use Rattle.m36_program.specs.Program.{May};
 ghost use Rattle.cmd_tools.specs.Reporting.{put_text, write_files, write_report};
 
 use crate::report::Report;
 use m36_program::{put_piece, write_file};
-use m36_reading::{Set, Status};
+use m36_status::{Set, Status};
 use m36_text::place_of;
 use m36_world::World;
 use std::alloc::Global;
 
 // The length in bytes of the first line of a text, with its line feed; the length of the text if it
 // has no line feed.
-#[tactic(auto, using(m36_told::proofs::LineLaws::first_line))]
+#[tactic(auto, using(crate::proofs::LineLaws::first_line))]
 fn line_length(text: &[u8]) -> usize
     requires { 0 < length text.now }
     ensures cut { lines_in text.now ≡ take result text.now ∷ lines_in (drop result text.now) }

@@ -2,7 +2,7 @@
 //! their refusals and failing calls.
 
 use crate::memory::{Expected, File, Place, SURE, comes_with};
-use m36_reading::Code;
+use m36_status::Code;
 use m36_word::NoMemory;
 use std::alloc::Global;
 

@@ -2,7 +2,7 @@
 //! ones.
 
 use m36_outside::{Folder, MemFolder, MemLines, MemSink, ReadAnswer, SureLines, SureSink, Text};
-use m36_reading::{Code, Status};
+use m36_status::{Code, Status};
 use m36_top::report;
 use m36_top::top::m36;
 use m36_word::NoMemory;

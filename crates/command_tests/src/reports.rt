@@ -2,7 +2,7 @@
 
 use crate::memory::has_line;
 use m36_outside::Text;
-use m36_reading::{Bad, Code, Status};
+use m36_status::{Bad, Code, Status};
 use m36_word::NoMemory;
 
 #[test]

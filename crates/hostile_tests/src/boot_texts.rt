@@ -2,7 +2,7 @@
 
 use crate::rows::{assembled, called};
 use m36_outside::{MemSink, SureFolder, Text};
-use m36_reading::{Code, Status};
+use m36_status::{Code, Status};
 use m36_word::NoMemory;
 use std::alloc::Global;
 

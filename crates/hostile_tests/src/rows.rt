@@ -2,7 +2,7 @@
 //! hand.
 
 use m36_outside::{Folder, Lines, ReadAnswer, Sink, SureFolder, SureLines, SureSink, Text};
-use m36_reading::Status;
+use m36_status::Status;
 use m36_top::top::m36;
 use m36_word::NoMemory;
 use std::alloc::Global;

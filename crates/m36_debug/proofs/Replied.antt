@@ -6,8 +6,8 @@ use Rattle.m36_world.specs.Seen.{Seen}
 use Rattle.m36_world.specs.declared.event.Event.{Event}
 use Rattle.m36_world.specs.declared.event.Event.TheVariants.{Input, InputFailed, Output, OutputFailed}
 use Rattle.m36_world.proofs.Following.{follow_split}
-use Rattle.m36_reading.specs.declared.status.Status.{Status}
-use Rattle.m36_reading.specs.declared.status.Status.TheVariants.{ReadFault, WriteFault, NoMemory}
+use Rattle.m36_status.specs.declared.status.Status.{Status}
+use Rattle.m36_status.specs.declared.status.Status.TheVariants.{ReadFault, WriteFault, NoMemory}
 use Rattle.m36_program.specs.Goes.{Goes, FailsWith}
 use Rattle.m36_program.specs.Program.{done, puts_all}
 use Rattle.m36_debug.specs.Replies.{Reply, All, Quits, Breaks}

@@ -6,7 +6,7 @@ use Rattle.m36_world.specs.Happened.{IsInput, IsInputFailed}
 use Rattle.m36_world.specs.Seen.{Seen}
 use Rattle.m36_world.specs.declared.event.Event.TheVariants.{Input, InputFailed}
 use Rattle.m36_world.proofs.Following.{follow_on, follow_one, follow_none}
-use Rattle.m36_reading.specs.declared.status.Status.TheVariants.{ReadFault, WriteFault, NoMemory}
+use Rattle.m36_status.specs.declared.status.Status.TheVariants.{ReadFault, WriteFault, NoMemory}
 use Rattle.m36_program.specs.Goes.{Goes}
 use Rattle.m36_program.specs.Gathered.{Gathers, Loses}
 use Rattle.m36_program.specs.Performs.{Performs, Leads}

@@ -11,7 +11,7 @@ use Rattle.m36_world.specs.Follow.{Follow, outputs}
 use Rattle.m36_world.specs.Seen.{Seen}
 use Rattle.m36_world.specs.declared.event.Event.{Event}
 use Rattle.m36_world.specs.declared.event.Event.TheVariants.{Input, OutputFailed}
-use Rattle.m36_reading.specs.declared.status.Status.{Status}
+use Rattle.m36_status.specs.declared.status.Status.{Status}
 use Rattle.m36_program.specs.Goes.{Goes}
 use Rattle.m36_program.specs.Program.{done}
 use Rattle.m36_program.specs.Performs.{Performs}

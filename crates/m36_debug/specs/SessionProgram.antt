@@ -2,9 +2,9 @@
 -- are whole by then, and only after that takes the next piece.
 use Rattle.std.specs.Prelude.{ℕ, zero, suc, ◌≤◌, true, false, refl, List, [], ◌∷◌, ◌++◌, length}
 use Rattle.std.specs.Prelude.{codes, Result, Ok, Err}
-use Rattle.m36_reading.specs.declared.status.Code.TheVariants.{S1}
-use Rattle.m36_reading.specs.declared.status.Status.{Status}
-use Rattle.m36_reading.specs.declared.status.Status.TheVariants as status
+use Rattle.m36_status.specs.declared.status.Code.TheVariants.{S1}
+use Rattle.m36_status.specs.declared.status.Status.{Status}
+use Rattle.m36_status.specs.declared.status.Status.TheVariants as status
 use Rattle.m36_program.specs.Program.{May, Program, done, stops, takes, some, wants, puts_all}
 use Rattle.m36_program.specs.Readers.{refused}
 use Rattle.m36_debug.specs.declared.fault.SessionFault.{SessionFault}

@@ -7,7 +7,7 @@ use Rattle.m36_step.specs.declared.turns.Turn.{Turn}
 use Rattle.m36_step.specs.declared.turns.Turn.TheVariants as turns
 use Rattle.m36_step.specs.declared.turns.BackAnswer.{BackAnswer}
 use Rattle.m36_step.specs.declared.turns.BackAnswer.TheVariants as back
-use Rattle.m36_reading.specs.declared.status.Status.{Status}
+use Rattle.m36_status.specs.declared.status.Status.{Status}
 use Rattle.m36_program.specs.Alike.{IsEnd, OneText}
 use Rattle.m36_program.specs.Performs.{Performs}
 use Rattle.m36_program.specs.Trail.{pieces_of}

@@ -4,10 +4,10 @@ use Rattle.m36_text.specs.Packing.{unpacked}
 use Rattle.obj36.specs.ObjectOf.{object_of}
 use Rattle.m36_dir.specs.Catalog.{CatalogFields, catalog_of}
 use Rattle.m36_acl.specs.AccessLists.{lists_of}
-use Rattle.m36_catalog.specs.Catalogs.{boot_name, catalog_by, acl_name, lists_by, as_given, for_user}
-use Rattle.m36_reading.specs.declared.refusal.Refusal.{Refusal}
-use Rattle.m36_reading.specs.declared.refusal.Refusal.TheVariants.{BadFile, NoMemory}
-use Rattle.m36_reading.specs.Rules.{words_by, object_by}
+use Rattle.m36_files.specs.CatalogRules.{boot_name, catalog_by, acl_name, lists_by, as_given, for_user}
+use Rattle.m36_status.specs.declared.refusal.Refusal.{Refusal}
+use Rattle.m36_status.specs.declared.refusal.Refusal.TheVariants.{BadFile, NoMemory}
+use Rattle.m36_status.specs.Rules.{words_by, object_by}
 use Rattle.m36_program.specs.Alike.{Alike}
 use Rattle.m36_program.specs.Program.{May, Program, done, then_with}
 use Rattle.m36_program.specs.Readers.{file_bytes}

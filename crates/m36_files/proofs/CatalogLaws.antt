@@ -4,11 +4,11 @@ use Rattle.m36_dir.specs.Catalog.{CatalogFields, catalog_of}
 use Rattle.m36_acl.specs.Fields.{AclSegmentFields}
 use Rattle.m36_acl.specs.AccessLists.{lists_of}
 use Rattle.m36_world.specs.Seen.{Seen}
-use Rattle.m36_reading.specs.declared.refusal.Refusal.{Refusal}
-use Rattle.m36_reading.specs.declared.status.Status.{Status}
-use Rattle.m36_reading.specs.Refusing.{Gives}
-use Rattle.m36_catalog.specs.declared.access.Access.{Access}
-use Rattle.m36_catalog.specs.Catalogs.{boot_name, catalog_by, acl_name, lists_by, as_given, for_user}
+use Rattle.m36_status.specs.declared.refusal.Refusal.{Refusal}
+use Rattle.m36_status.specs.declared.status.Status.{Status}
+use Rattle.m36_status.specs.Refusing.{Gives}
+use Rattle.m36_files.specs.declared.access.Access.{Access}
+use Rattle.m36_files.specs.CatalogRules.{boot_name, catalog_by, acl_name, lists_by, as_given, for_user}
 use Rattle.m36_program.specs.Performs.{Performs}
 use Rattle.m36_program.specs.Program.{May}
 use Rattle.m36_program.specs.Readers.{file_bytes}

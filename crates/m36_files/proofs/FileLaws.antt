@@ -4,10 +4,10 @@ use Rattle.m36_text.specs.Packing.{unpacked}
 use Rattle.obj36_parts.specs.PartsFields.{PartsFields}
 use Rattle.obj36.specs.ObjectOf.{object_of}
 use Rattle.m36_world.specs.Seen.{Seen}
-use Rattle.m36_reading.specs.declared.refusal.Refusal.{Refusal}
-use Rattle.m36_reading.specs.declared.status.Status.{Status}
-use Rattle.m36_reading.specs.Refusing.{Gives}
-use Rattle.m36_reading.specs.Rules.{words_by, object_by}
+use Rattle.m36_status.specs.declared.refusal.Refusal.{Refusal}
+use Rattle.m36_status.specs.declared.status.Status.{Status}
+use Rattle.m36_status.specs.Refusing.{Gives}
+use Rattle.m36_status.specs.Rules.{words_by, object_by}
 use Rattle.m36_program.specs.Performs.{Performs}
 use Rattle.m36_program.specs.Program.{May}
 use Rattle.m36_program.specs.Readers.{file_bytes}

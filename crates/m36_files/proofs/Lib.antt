@@ -1,3 +1,4 @@
+pub mod CatalogRuleLaws
 pub mod DecidingLaws
 pub mod FileLaws
 pub mod EachLaws

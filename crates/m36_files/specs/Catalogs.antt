@@ -3,9 +3,9 @@ use Rattle.std.specs.Prelude.{ℕ, List, Option, Some, None, Ok}
 use Rattle.m36_dir.specs.Catalog.{CatalogFields, catalog_of}
 use Rattle.m36_acl.specs.Fields.{AclSegmentFields}
 use Rattle.m36_acl.specs.AccessLists.{lists_of}
-use Rattle.m36_catalog.specs.declared.access.Access.{Access}
-use Rattle.m36_catalog.specs.Catalogs.{boot_name, catalog_by, acl_name, lists_by}
-use Rattle.m36_catalog.specs.Catalogs.{as_given, for_user}
+use Rattle.m36_files.specs.declared.access.Access.{Access}
+use Rattle.m36_files.specs.CatalogRules.{boot_name, catalog_by, acl_name, lists_by}
+use Rattle.m36_files.specs.CatalogRules.{as_given, for_user}
 use Rattle.m36_program.specs.Program.{May, Program, done, then_with}
 use Rattle.m36_program.specs.Readers.{file_bytes}
 use Rattle.m36_files.specs.Deciding.{decides}

@@ -1,10 +1,10 @@
 -- Rules: what is computed from files that were read, a value or the refusal of a file.
 use Rattle.std.specs.Prelude.{⊤, Result, Ok, Err}
-use Rattle.m36_reading.specs.declared.refusal.Refusal.{Refusal}
-use Rattle.m36_reading.specs.declared.refusal.Refusal.TheVariants.{BadFile, NoMemory}
-use Rattle.m36_reading.specs.declared.status.Status.{Status}
-use Rattle.m36_reading.specs.declared.status.Status.TheVariants as status
-use Rattle.m36_reading.specs.Refusing.{status_of}
+use Rattle.m36_status.specs.declared.refusal.Refusal.{Refusal}
+use Rattle.m36_status.specs.declared.refusal.Refusal.TheVariants.{BadFile, NoMemory}
+use Rattle.m36_status.specs.declared.status.Status.{Status}
+use Rattle.m36_status.specs.declared.status.Status.TheVariants as status
+use Rattle.m36_status.specs.Refusing.{status_of}
 use Rattle.m36_program.specs.Program.{May, Program, done, stops, some, wants}
 
 -- a program that cannot continue or end

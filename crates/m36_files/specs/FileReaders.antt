@@ -3,7 +3,7 @@ use Rattle.std.specs.Prelude.{ℕ, List}
 use Rattle.m36_text.specs.Packing.{unpacked}
 use Rattle.obj36_parts.specs.PartsFields.{PartsFields}
 use Rattle.obj36.specs.ObjectOf.{object_of}
-use Rattle.m36_reading.specs.Rules.{words_by, object_by}
+use Rattle.m36_status.specs.Rules.{words_by, object_by}
 use Rattle.m36_program.specs.Program.{May, Program, then_with}
 use Rattle.m36_program.specs.Readers.{file_bytes}
 use Rattle.m36_files.specs.Deciding.{decides}

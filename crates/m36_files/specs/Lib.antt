@@ -1,3 +1,4 @@
+pub mod CatalogRules
 pub mod Deciding
 pub mod FileReaders
 pub mod EachFile

@@ -5,19 +5,19 @@ ghost use Rattle.m36_outside.specs.ReadAnswer.{file_limit};
 ghost use Rattle.m36_dir.specs.Catalog.{catalog_of};
 ghost use Rattle.m36_acl.specs.AccessLists.{lists_of};
 ghost use Rattle.m36_acl.specs.Granted.{first_unknown};
-ghost use Rattle.m36_reading.specs.Refusing.{Gives, Refuses};
-ghost use Rattle.m36_catalog.specs.Catalogs.{catalog_refused, catalog_by, acl_refused, lists_refused, known_by, lists_by, for_user};
+ghost use Rattle.m36_status.specs.Refusing.{Gives, Refuses};
+ghost use Rattle.m36_files.specs.CatalogRules.{catalog_refused, catalog_by, acl_refused, lists_refused, known_by, lists_by, for_user};
 ghost use Rattle.m36_program.specs.Performs.{Performs};
 ghost use Rattle.m36_program.specs.Program.{May};
 ghost use Rattle.m36_files.specs.Catalogs.{boot_catalog, access_lists, with_rights, catalog_access};
 
+use crate::access::Access;
+use crate::boot_refusal::refuse_boot;
 use crate::deciding::decide;
 use m36_acl::{Acl, AclFault, User};
-use m36_catalog::Access;
-use m36_catalog::reading::refuse_boot;
 use m36_dir::{Catalog, CatalogFault};
 use m36_program::read_bytes;
-use m36_reading::{Code, Refusal, Status, refuse};
+use m36_status::{Code, Refusal, Status, refuse};
 use m36_world::World;
 use std::alloc::Global;
 
@@ -37,7 +37,7 @@ fn refuse_catalog(alloc: Global, fault: CatalogFault) -> Refusal
 }
 
 // Parses the catalog from the bytes of a boot text, at most 16 MiB.
-#[tactic(auto, using(m36_catalog::proofs::CatalogReads::catalogs))]
+#[tactic(auto, using(crate::proofs::CatalogRuleLaws::catalogs))]
 fn catalog_in(alloc: Global, bytes: &[u8]) -> Result<Catalog, Refusal>
     requires { length bytes.now ≤ file_limit }
     ensures { Gives result (catalog_by (catalog_of bytes.now)) }
@@ -92,7 +92,7 @@ fn known(alloc: Global, catalog: &Catalog, lists: Acl) -> Result<Acl, Refusal>
 }
 
 // Parses the access lists for a catalog from the bytes of a text, at most 16 MiB.
-#[tactic(auto, using(m36_catalog::proofs::CatalogReads::lists_said))]
+#[tactic(auto, using(crate::proofs::CatalogRuleLaws::lists_said))]
 fn lists_in(alloc: Global, catalog: &Catalog, bytes: &[u8]) -> Result<Acl, Refusal>
     requires { length bytes.now ≤ file_limit }
     ensures { Gives result (lists_by catalog.now (lists_of bytes.now)) }

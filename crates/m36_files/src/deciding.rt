@@ -3,7 +3,7 @@
 ghost use Rattle.std.specs.Prelude.{◌≡◌};
 ghost use Rattle.m36_files.specs.Deciding.{by_refusal};
 
-use m36_reading::{Refusal, Status};
+use m36_status::{Refusal, Status};
 
 /// The value of a rule, or the status of its refusal.
 pub fn decide<T>(given: Result<T, Refusal>) -> Result<T, Status>

@@ -10,6 +10,13 @@
 //! | [`read_lists`] | `access_lists` | the access lists for a catalog | F1, F2, C1 to C3 |
 //! | [`read_access`] | `catalog_access` | the catalog with a user's rights | as the two before |
 //!
+//! A folder has a boot text, the file `boot`, which describes a catalog: its segments with their
+//! names, modes and brackets. It may have access lists, the file `acl`. For a user the segments of
+//! the catalog get the rights that the lists give to that user ([`Access`]). Without a user they
+//! keep those of the boot text, and `acl` is not read. `specs/CatalogRules.antt` defines what is
+//! refused and in which order, and the catalog that results. Access lists are those of the Multics
+//! Programmers' Manual AG91; both texts are this project's own.
+//!
 //! Each has the clause `(may : May) → Performs {may = may} (..) result ..`, so any command may use
 //! it, also one that writes files. `each_onto` (`specs/EachFile.antt`) is the program that reads
 //! something for each item of a list, one after another. `proofs/EachLaws.antt` has the lemmas for
@@ -24,10 +31,13 @@
 //! (`proofs/AlikeReaders.antt`).
 #![tactic(auto)]
 
+pub mod access;
+pub mod boot_refusal;
 pub mod catalogs;
 pub mod deciding;
 pub mod objects;
 
+pub use access::Access;
 pub use catalogs::{read_access, read_catalog, read_lists};
 pub use deciding::decide;
 pub use objects::{read_object, read_words};

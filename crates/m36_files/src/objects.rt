@@ -8,7 +8,7 @@ ghost use Rattle.m36_files.specs.FileReaders.{file_words, file_object};
 
 use crate::deciding::decide;
 use m36_program::read_bytes;
-use m36_reading::{Status, object_in, words_in};
+use m36_status::{Status, object_in, words_in};
 use m36_word::Words;
 use m36_world::World;
 use obj36::Object;

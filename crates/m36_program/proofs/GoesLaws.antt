@@ -6,8 +6,8 @@ use Rattle.m36_outside.specs.declared.folder.WriteAnswer.{WriteAnswer}
 use Rattle.m36_outside.specs.declared.folder.WriteAnswer.TheVariants as write
 use Rattle.m36_world.specs.declared.event.Event.{Event}
 use Rattle.m36_world.specs.declared.event.Event.TheVariants.{OutputFailed}
-use Rattle.m36_reading.specs.declared.status.Status.{Status}
-use Rattle.m36_reading.specs.declared.status.Status.TheVariants.{ReadFault, WriteFault, NoMemory}
+use Rattle.m36_status.specs.declared.status.Status.{Status}
+use Rattle.m36_status.specs.declared.status.Status.TheVariants.{ReadFault, WriteFault, NoMemory}
 use Rattle.m36_program.specs.Program.{Found, Content, Absent, TooLarge, May, Program, then_with}
 use Rattle.m36_program.specs.Program.{done, stops, reads, writes, puts, takes, some, wants}
 use Rattle.m36_program.specs.Goes.{Ends, AfterRead, AfterWrite, FailsWith, FailedOutput, FailedInput, Goes}

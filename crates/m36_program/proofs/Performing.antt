@@ -3,8 +3,8 @@ use Rattle.std.proofs.Common.{◌≡◌, ℕ, List, [], ◌++◌, Result, Ok, Er
 use Rattle.m36_world.specs.Seen.{Seen}
 use Rattle.m36_world.specs.declared.event.Event.{Event}
 use Rattle.m36_world.proofs.Following.{follow_none, follow_on}
-use Rattle.m36_reading.specs.declared.status.Status.{Status}
-use Rattle.m36_reading.specs.declared.status.Status.TheVariants.{NoMemory}
+use Rattle.m36_status.specs.declared.status.Status.{Status}
+use Rattle.m36_status.specs.declared.status.Status.TheVariants.{NoMemory}
 use Rattle.m36_program.specs.Program.{May, IsOwn, Program, done, stops, puts, some, wants, then_with}
 use Rattle.m36_program.specs.Goes.{Goes}
 use Rattle.m36_program.specs.Performs.{Performs}

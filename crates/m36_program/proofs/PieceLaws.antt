@@ -11,9 +11,9 @@ use Rattle.m36_outside.proofs.LinesTaken.{takes_lines_longer}
 use Rattle.m36_world.specs.Follow.{outputs}
 use Rattle.m36_world.specs.declared.event.Event.{Event}
 use Rattle.m36_world.specs.declared.event.Event.TheVariants.{Output, OutputFailed}
-use Rattle.m36_reading.specs.declared.status.Status.{Status}
-use Rattle.m36_reading.specs.declared.status.Status.TheVariants as status
-use Rattle.m36_reading.specs.declared.status.Status.TheVariants.{WriteFault}
+use Rattle.m36_status.specs.declared.status.Status.{Status}
+use Rattle.m36_status.specs.declared.status.Status.TheVariants as status
+use Rattle.m36_status.specs.declared.status.Status.TheVariants.{WriteFault}
 use Rattle.m36_program.specs.Program.{May, Program, puts_all}
 use Rattle.m36_program.specs.Goes.{FailsWith, Goes}
 use Rattle.m36_program.specs.Early.{early, MayEnd, ends}

@@ -6,12 +6,12 @@ use Rattle.m36_outside.specs.declared.folder.WriteAnswer.TheVariants as write
 use Rattle.m36_world.specs.declared.event.Event.TheVariants.{FileRead, FileWrite, Output, OutputFailed}
 use Rattle.m36_world.specs.Seen.{Seen}
 use Rattle.m36_world.specs.Happened.{IsFileRead, IsFileWrite, IsOutput, IsOutputFailed}
-use Rattle.m36_reading.specs.declared.status.Bad.{Bad}
-use Rattle.m36_reading.specs.declared.status.Code.TheVariants as code
-use Rattle.m36_reading.specs.declared.status.Status.{Status}
-use Rattle.m36_reading.specs.declared.status.Status.TheVariants.{ReadFault, WriteFault}
-use Rattle.m36_reading.specs.declared.status.Status.TheVariants.{BadFile}
-use Rattle.m36_reading.specs.declared.status.Status.TheVariants.{NoMemory}
+use Rattle.m36_status.specs.declared.status.Bad.{Bad}
+use Rattle.m36_status.specs.declared.status.Code.TheVariants as code
+use Rattle.m36_status.specs.declared.status.Status.{Status}
+use Rattle.m36_status.specs.declared.status.Status.TheVariants.{ReadFault, WriteFault}
+use Rattle.m36_status.specs.declared.status.Status.TheVariants.{BadFile}
+use Rattle.m36_status.specs.declared.status.Status.TheVariants.{NoMemory}
 use Rattle.m36_program.specs.Program.{Found, May, Program, reads}
 use Rattle.m36_program.specs.Goes.{AfterRead, Goes}
 use Rattle.m36_program.specs.Performs.{Performs}

@@ -5,7 +5,7 @@ use Rattle.std.specs.Prelude.{ℕ, ◌≡◌, ⊤, List, [], ◌∷◌, ◌++◌
 use Rattle.std.specs.List.{flat_map}
 use Rattle.m36_world.specs.Logs.{input_of}
 use Rattle.m36_world.specs.declared.event.Event.{Event}
-use Rattle.m36_reading.specs.declared.status.Status.{Status}
+use Rattle.m36_status.specs.declared.status.Status.{Status}
 use Rattle.m36_program.specs.Program.{Found, May, IsOwn, Program}
 use Rattle.m36_program.specs.Program.{done, stops, reads, writes, puts, takes, some, wants}
 

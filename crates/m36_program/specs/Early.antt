@@ -1,7 +1,7 @@
 -- Converts between the status of a whole command and the result of the call that performs it.
 use Rattle.std.specs.Prelude.{⊤, Result, Ok, Err}
-use Rattle.m36_reading.specs.declared.status.Status.{Status}
-use Rattle.m36_reading.specs.declared.status.Status.TheVariants as status
+use Rattle.m36_status.specs.declared.status.Status.{Status}
+use Rattle.m36_status.specs.declared.status.Status.TheVariants as status
 use Rattle.m36_program.specs.Program.{May, Program, done, stops}
 
 -- the result for a status: Done becomes the value

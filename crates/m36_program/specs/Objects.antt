@@ -5,7 +5,7 @@ use Rattle.m36_outside.specs.FolderCalls.{Asked, Wrote}
 use Rattle.m36_world.specs.declared.event.Event.{Event}
 use Rattle.m36_world.specs.Seen.{Seen}
 use Rattle.m36_world.specs.Follow.{Follow}
-use Rattle.m36_reading.specs.declared.status.Status.{Status}
+use Rattle.m36_status.specs.declared.status.Status.{Status}
 use Rattle.m36_program.specs.Goes.{Goes}
 use Rattle.m36_program.specs.Program.{May, Program}
 

@@ -4,7 +4,7 @@ use Rattle.m36_outside.specs.Files.{Files}
 use Rattle.m36_outside.specs.Passing.{joined}
 use Rattle.m36_outside.specs.Written.{GrewWithin}
 use Rattle.m36_world.specs.Seen.{Seen}
-use Rattle.m36_reading.specs.declared.status.Status.{Status}
+use Rattle.m36_status.specs.declared.status.Status.{Status}
 use Rattle.m36_program.specs.Alike.{Alike, IsEnd, OneText}
 use Rattle.m36_program.specs.Performs.{Performs}
 use Rattle.m36_program.specs.Program.{May, Program}

@@ -4,7 +4,7 @@ use Rattle.std.specs.Prelude.{List, ◌++◌, Result}
 use Rattle.m36_world.specs.declared.event.Event.{Event}
 use Rattle.m36_world.specs.Seen.{Seen}
 use Rattle.m36_world.specs.Follow.{Follow}
-use Rattle.m36_reading.specs.declared.status.Status.{Status}
+use Rattle.m36_status.specs.declared.status.Status.{Status}
 use Rattle.m36_program.specs.Program.{May, Program}
 use Rattle.m36_program.specs.Goes.{Goes}
 

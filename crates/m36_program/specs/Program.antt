@@ -1,7 +1,7 @@
 -- Programs: what a command does to the outside.
 use Rattle.std.specs.Prelude.{ℕ, ◌≡◌, Bool, true, false, ⊤, List, [], ◌∷◌}
-use Rattle.m36_reading.specs.declared.status.Status.{Status}
-use Rattle.m36_reading.specs.declared.status.Status.TheVariants as status
+use Rattle.m36_status.specs.declared.status.Status.{Status}
+use Rattle.m36_status.specs.declared.status.Status.TheVariants as status
 
 -- what a program may do besides reading files and putting output
 pub record May : Type 0 where

@@ -1,13 +1,13 @@
 -- Programs that several commands share: to refuse a file, read the bytes of a file, put a piece, and
 -- write a file.
 use Rattle.std.specs.Prelude.{ℕ, ◌≡◌, true, ⊤, List}
-use Rattle.m36_reading.specs.declared.status.Bad.{Bad}
-use Rattle.m36_reading.specs.declared.status.Code.{Code}
-use Rattle.m36_reading.specs.declared.status.Code.TheVariants as code
-use Rattle.m36_reading.specs.declared.status.Status.{Status}
-use Rattle.m36_reading.specs.declared.status.Status.TheVariants.{Done, Usage, ReadFault, WriteFault}
-use Rattle.m36_reading.specs.declared.status.Status.TheVariants.{BadFile, AuditNo, MachineStop}
-use Rattle.m36_reading.specs.declared.status.Status.TheVariants.{Steps, NoMemory}
+use Rattle.m36_status.specs.declared.status.Bad.{Bad}
+use Rattle.m36_status.specs.declared.status.Code.{Code}
+use Rattle.m36_status.specs.declared.status.Code.TheVariants as code
+use Rattle.m36_status.specs.declared.status.Status.{Status}
+use Rattle.m36_status.specs.declared.status.Status.TheVariants.{Done, Usage, ReadFault, WriteFault}
+use Rattle.m36_status.specs.declared.status.Status.TheVariants.{BadFile, AuditNo, MachineStop}
+use Rattle.m36_status.specs.declared.status.Status.TheVariants.{Steps, NoMemory}
 use Rattle.m36_program.specs.Program.{Found, Content, Absent, TooLarge, May, Program}
 use Rattle.m36_program.specs.Program.{done, stops, reads, writes, puts, wants}
 

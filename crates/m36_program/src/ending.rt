@@ -3,7 +3,7 @@
 ghost use Rattle.std.specs.Prelude.{◌≡◌};
 ghost use Rattle.m36_program.specs.Early.{early, status_by};
 
-use m36_reading::Status;
+use m36_status::Status;
 
 /// The result for a status: Ok for Done; every other status is an error.
 pub fn early(status: Status) -> Result<(), Status>

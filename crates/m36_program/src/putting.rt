@@ -6,7 +6,7 @@ ghost use Rattle.m36_program.specs.Performs.{Performs};
 ghost use Rattle.m36_program.specs.Readers.{put_one, write_one};
 
 use m36_outside::{Put, WriteAnswer};
-use m36_reading::Status;
+use m36_status::Status;
 use m36_world::World;
 use std::alloc::Global;
 

@@ -7,7 +7,7 @@ ghost use Rattle.m36_program.specs.Performs.{Performs};
 ghost use Rattle.m36_program.specs.Readers.{refused, refused_at, IsRefusal, file_bytes};
 
 use m36_outside::{ReadAnswer, Text};
-use m36_reading::{Bad, Code, Status};
+use m36_status::{Bad, Code, Status};
 use m36_world::World;
 use std::alloc::Global;
 

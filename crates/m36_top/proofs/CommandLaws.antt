@@ -4,14 +4,14 @@ use Rattle.m36_outside.specs.Files.{Files}
 use Rattle.m36_world.specs.Seen.{Seen}
 use Rattle.m36_world.proofs.Following.{follow_split}
 use Rattle.m36_world.specs.Follow.{Follow}
-use Rattle.m36_reading.specs.declared.status.Status.{Status}
+use Rattle.m36_status.specs.declared.status.Status.{Status}
 use Rattle.m36_program.specs.Alike.{IsEnd}
 use Rattle.m36_program.specs.Goes.{Goes}
 use Rattle.m36_program.specs.Performs.{Performs}
 use Rattle.m36_program.specs.Program.{May, Program, then_with}
 use Rattle.m36_program.specs.Reader.{IsReader, outcome_in}
 use Rattle.m36_program.proofs.ReaderLaws.{reader_split, reader_outcome, reader_pieces}
-use Rattle.m36_booted.proofs.OneRunLaws.{booted_law}
+use Rattle.cmd_folder.proofs.OneRunLaws.{booted_law}
 use Rattle.cmd_image.proofs.ImageEnded.{image_end_law}
 use Rattle.cmd_image.proofs.TextLaws.{image_text_law}
 use Rattle.cmd_procs.proofs.ProcsEnded.{procs_end_law}

@@ -2,10 +2,10 @@
 use Rattle.std.proofs.Common.{◌≡◌, ℕ, List, [], ◌∷◌, ◌++◌, Option, None, Result, Ok, Err, refl, sym, subst, inl, inr}
 use Rattle.m36_world.specs.declared.event.Event.{Event}
 use Rattle.m36_world.specs.Seen.{Seen}
-use Rattle.m36_reading.specs.declared.refusal.Refusal.{Refusal}
-use Rattle.m36_reading.specs.declared.refusal.Refusal.TheVariants as refusal
-use Rattle.m36_reading.specs.declared.setting.Set.{Set}
-use Rattle.m36_reading.specs.declared.status.Status.{Status}
+use Rattle.m36_status.specs.declared.refusal.Refusal.{Refusal}
+use Rattle.m36_status.specs.declared.refusal.Refusal.TheVariants as refusal
+use Rattle.m36_status.specs.declared.setting.Set.{Set}
+use Rattle.m36_status.specs.declared.status.Status.{Status}
 use Rattle.m36_program.specs.Alike.{IsEnd}
 use Rattle.m36_program.specs.Ended.{StartsWith}
 use Rattle.m36_program.specs.Goes.{Goes}
@@ -13,8 +13,8 @@ use Rattle.m36_program.specs.Performs.{Performs}
 use Rattle.m36_program.specs.Program.{quiet, Program, then_with}
 use Rattle.m36_program.specs.Reader.{IsReader}
 use Rattle.m36_program.specs.Trail.{pieces_of}
-use Rattle.m36_ran.specs.declared.command.ImageCommand.TheVariants as image
-use Rattle.m36_ran.specs.AuditText.{yes_line}
+use Rattle.cmd_image.specs.declared.command.ImageCommand.TheVariants as image
+use Rattle.cmd_image.specs.AuditText.{yes_line}
 use Rattle.m36_files.specs.Deciding.{decides}
 use Rattle.m36_files.specs.Writing.{writing}
 use Rattle.m36_files.proofs.AreReaders.{reader_decides}

@@ -6,8 +6,8 @@ use Rattle.m36_outside.specs.Counts.{Rose}
 use Rattle.m36_outside.proofs.Risen.{rose_never}
 use Rattle.m36_world.specs.Seen.{Seen}
 use Rattle.m36_world.proofs.Following.{follow_logs}
-use Rattle.m36_reading.specs.declared.status.Status.{Status}
-use Rattle.m36_reading.specs.declared.status.Status.TheVariants as status
+use Rattle.m36_status.specs.declared.status.Status.{Status}
+use Rattle.m36_status.specs.declared.status.Status.TheVariants as status
 use Rattle.m36_program.specs.Early.{IsGiven, early, status_by}
 use Rattle.m36_program.specs.Ended.{IsDoneOrNoMemory, SaysYes, Audited}
 use Rattle.m36_program.specs.Performs.{Performs}
@@ -18,7 +18,7 @@ use Rattle.m36_program.proofs.Objects.{SameObjects, performs_over, world_before,
 use Rattle.m36_program.proofs.Objects.{over_files, over_input}
 use Rattle.m36_program.proofs.ProgramLaws.{performs_given, performs_early}
 use Rattle.m36_program.proofs.ReaderLaws.{reader_comes_done, reader_says_yes}
-use Rattle.m36_ran.specs.AuditText.{yes_line}
+use Rattle.cmd_image.specs.AuditText.{yes_line}
 use Rattle.cmd_make.specs.Making.{sets_of}
 use Rattle.m36_top.specs.declared.command.Command.{Command}
 use Rattle.m36_top.specs.declared.command.Command.TheVariants.{Make}

@@ -4,12 +4,12 @@ use Rattle.std.specs.Prelude.{◌≡◌, List, [], Some, Result, Err}
 use Rattle.m36_outside.specs.Files.{Files}
 use Rattle.m36_world.specs.declared.event.Event.{Event}
 use Rattle.m36_world.specs.Seen.{Seen}
-use Rattle.m36_reading.specs.declared.status.Status.{Status}
+use Rattle.m36_status.specs.declared.status.Status.{Status}
 use Rattle.m36_program.specs.Alike.{IsEnd}
 use Rattle.m36_program.specs.Performs.{Performs}
 use Rattle.m36_program.specs.Reader.{outcome_in}
 use Rattle.m36_program.specs.Trail.{pieces_of}
-use Rattle.m36_booted.specs.BootedLaw.{BootedLaw}
+use Rattle.cmd_folder.specs.BootedLaw.{BootedLaw}
 use Rattle.cmd_image.specs.ImageEnds.{ImageEndLaw}
 use Rattle.cmd_image.specs.OneText.{ImageTextLaw}
 use Rattle.cmd_procs.specs.ProcsEnds.{ProcsEndLaw}

@@ -3,17 +3,17 @@
 use Rattle.std.specs.Prelude.{ℕ, ⊤, List, ◌++◌, Option, None, Result, Ok, Err}
 use Rattle.m36_model.specs.Store.{State}
 use Rattle.m36_procs.specs.ProcsFields.{ProcsFields}
-use Rattle.m36_reading.specs.declared.refusal.Refusal.{Refusal}
-use Rattle.m36_reading.specs.declared.setting.Set.{Set}
+use Rattle.m36_status.specs.declared.refusal.Refusal.{Refusal}
+use Rattle.m36_status.specs.declared.setting.Set.{Set}
 use Rattle.m36_program.specs.Program.{May, quiet, Program}
 use Rattle.m36_files.specs.Deciding.{decides}
 use Rattle.m36_files.specs.Writing.{writing}
-use Rattle.m36_told.specs.Told.{ToldFields}
-use Rattle.m36_ran.specs.declared.command.ImageCommand.TheVariants as image
-use Rattle.m36_ran.specs.AuditText.{yes_line}
-use Rattle.m36_ran.specs.Ran.{PassesAudit}
-use Rattle.m36_booted.specs.Folder.{FolderFields}
-use Rattle.m36_booted.specs.Promise.{PassesBooted}
+use Rattle.cmd_tools.specs.Reports.{ToldFields}
+use Rattle.cmd_image.specs.declared.command.ImageCommand.TheVariants as image
+use Rattle.cmd_image.specs.AuditText.{yes_line}
+use Rattle.cmd_image.specs.ImageAudit.{PassesAudit}
+use Rattle.cmd_folder.specs.Folder.{FolderFields}
+use Rattle.cmd_folder.specs.Promise.{PassesBooted}
 use Rattle.m36_debug.specs.SessionProgram.{talking}
 use Rattle.cmd_image.specs.ImageProgram.{image_state}
 use Rattle.cmd_image.specs.Needs.{ImageNeeds}

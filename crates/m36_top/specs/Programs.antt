@@ -1,11 +1,11 @@
 -- The program of each command.
 use Rattle.std.specs.Prelude.{⊤, Option, Some, None}
 use Rattle.m36_world.specs.Seen.{Seen}
-use Rattle.m36_reading.specs.declared.status.Status.{Status}
+use Rattle.m36_status.specs.declared.status.Status.{Status}
 use Rattle.m36_program.specs.Early.{early}
 use Rattle.m36_program.specs.Objects.{PerformsOver}
 use Rattle.m36_program.specs.Program.{Program}
-use Rattle.m36_ran.specs.declared.command.ImageCommand.TheVariants as image
+use Rattle.cmd_image.specs.declared.command.ImageCommand.TheVariants as image
 use Rattle.cmd_image.specs.ImageProgram.{image_program}
 use Rattle.cmd_debug.specs.DebugProgram.{debug_image, debug_folder}
 use Rattle.cmd_folder.specs.FolderProgram.{folder_program}

@@ -2,12 +2,12 @@
 use Rattle.std.specs.Prelude.{ℕ, List, [], ◌++◌, codes}
 use Rattle.m36_text.specs.Digits.{decimal_text}
 use Rattle.m36_text.specs.Lines.{as_line}
-use Rattle.m36_reading.specs.Names.{status_name, code_name}
-use Rattle.m36_reading.specs.declared.status.Bad.{Bad}
-use Rattle.m36_reading.specs.declared.status.Status.{Status}
-use Rattle.m36_reading.specs.declared.status.Status.TheVariants.{Done, Usage, ReadFault, WriteFault}
-use Rattle.m36_reading.specs.declared.status.Status.TheVariants.{BadFile, AuditNo, MachineStop}
-use Rattle.m36_reading.specs.declared.status.Status.TheVariants.{Steps, NoMemory}
+use Rattle.m36_status.specs.Names.{status_name, code_name}
+use Rattle.m36_status.specs.declared.status.Bad.{Bad}
+use Rattle.m36_status.specs.declared.status.Status.{Status}
+use Rattle.m36_status.specs.declared.status.Status.TheVariants.{Done, Usage, ReadFault, WriteFault}
+use Rattle.m36_status.specs.declared.status.Status.TheVariants.{BadFile, AuditNo, MachineStop}
+use Rattle.m36_status.specs.declared.status.Status.TheVariants.{Steps, NoMemory}
 
 -- the name of the file, the code, the place and the column, each after a blank
 abbrev pub bad_place : Bad → List ℕ

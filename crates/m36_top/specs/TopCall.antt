@@ -3,16 +3,16 @@
 use Rattle.std.specs.Prelude.{ℕ, ◌≡◌, ◌≢◌, ◌⊎◌, ⊤, false, Option, Some, None, Ok}
 use Rattle.m36_outside.specs.Files.{Files}
 use Rattle.m36_world.specs.Seen.{Seen}
-use Rattle.m36_reading.specs.declared.status.Status.{Status}
-use Rattle.m36_reading.specs.declared.status.Status.TheVariants.{Done, ReadFault, WriteFault}
-use Rattle.m36_reading.specs.declared.status.Status.TheVariants.{NoMemory}
+use Rattle.m36_status.specs.declared.status.Status.{Status}
+use Rattle.m36_status.specs.declared.status.Status.TheVariants.{Done, ReadFault, WriteFault}
+use Rattle.m36_status.specs.declared.status.Status.TheVariants.{NoMemory}
 use Rattle.m36_program.specs.Early.{early}
 use Rattle.m36_program.specs.Ended.{NoneRose, SaysYes, Audited}
 use Rattle.m36_program.specs.Performs.{Performs}
 use Rattle.m36_program.specs.Program.{May, quiet}
 use Rattle.m36_program.specs.Reader.{outcome_in}
 use Rattle.m36_program.specs.Trail.{HasCause, FilesKept, InputKept}
-use Rattle.m36_ran.specs.AuditText.{yes_line}
+use Rattle.cmd_image.specs.AuditText.{yes_line}
 use Rattle.m36_top.specs.declared.command.Command.{Command}
 use Rattle.m36_top.specs.Commands.{may_of, Subject, reader_of, Needs, Promised, yes_of}
 use Rattle.m36_top.specs.Programs.{program, TopPerforms}

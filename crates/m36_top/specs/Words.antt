@@ -31,8 +31,8 @@ use Rattle.std.specs.Option.{is_none, option_map, option_and_then}
 use Rattle.m36_text.specs.FileNames.{bindfile_suffix, source_of_object, bindfile_of_object}
 use Rattle.m36_text.specs.Texts.{name_limit, is_text}
 use Rattle.m36_text.specs.Numbers.{short_decimal_in}
-use Rattle.m36_booted.specs.declared.command.FolderRun.{FolderRun}
-use Rattle.m36_booted.specs.declared.command.FolderCommand.TheVariants as folder
+use Rattle.cmd_folder.specs.declared.command.FolderRun.{FolderRun}
+use Rattle.cmd_folder.specs.declared.command.FolderCommand.TheVariants as folder
 use Rattle.m36_dir.specs.BootLine.{name_of}
 use Rattle.m36_acl.specs.Users.{user_of}
 use Rattle.m36_top.specs.declared.names.Operand.{Operand}

@@ -1,10 +1,10 @@
 //! The commands.
 
+use cmd_folder::FolderCommand;
+use cmd_image::BareRun;
+use cmd_tools::{AlmFiles, BindFiles};
 use m36_acl::User;
-use m36_booted::FolderCommand;
-use m36_ran::BareRun;
 use m36_text::Name;
-use m36_told::{AlmFiles, BindFiles};
 
 /// What the words of the command line ask for.
 #[derive(Drop)]

@@ -90,13 +90,13 @@ mod table;
 pub mod top;
 pub mod words;
 
+pub use cmd_folder::{FolderCommand, FolderRun};
+pub use cmd_image::BareRun;
+pub use cmd_tools::{AlmFiles, BindFiles};
 pub use command::Command;
 pub use laws::law_commands;
-pub use m36_booted::{FolderCommand, FolderRun};
 pub use m36_image::{Image, ImageFault, read_image};
-pub use m36_ran::BareRun;
-pub use m36_reading::{Bad, Code, Status};
-pub use m36_told::{AlmFiles, BindFiles};
+pub use m36_status::{Bad, Code, Status};
 pub use status_report::report;
 pub use top::{m36, m36_in};
 pub use words::command_of;

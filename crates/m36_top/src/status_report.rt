@@ -4,7 +4,7 @@ ghost use Rattle.std.specs.Prelude.{◌≡◌, IfOk};
 ghost use Rattle.m36_top.specs.StatusLine.{bad_place, details, status_line, report_of};
 
 use m36_outside::Text;
-use m36_reading::{Bad, Status};
+use m36_status::{Bad, Status};
 use m36_text::decimal;
 use m36_word::NoMemory;
 use std::alloc::Global;

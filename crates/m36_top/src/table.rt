@@ -6,11 +6,11 @@ ghost use Rattle.m36_top.specs.Words.{file_given, user_given, bare, runs_nothing
 use crate::command::Command;
 use crate::names::{Operand, bindfile_of, source_of};
 use crate::words::Given;
+use cmd_folder::{FolderCommand, FolderRun};
+use cmd_image::BareRun;
+use cmd_tools::{AlmFiles, BindFiles};
 use m36_acl::User;
-use m36_booted::{FolderCommand, FolderRun};
-use m36_ran::BareRun;
 use m36_text::{Name, short_decimal_in};
-use m36_told::{AlmFiles, BindFiles};
 
 /// The most steps of a run without `--steps`.
 const DEFAULT_STEPS: u32 = 100000;

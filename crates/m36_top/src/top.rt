@@ -11,14 +11,13 @@ use crate::command::Command;
 use crate::words::command_of;
 use cmd_debug::{debug_folder, debug_image};
 use cmd_folder::folder_booted;
-use cmd_image::image_file;
+use cmd_image::{ImageCommand, image_file};
 use cmd_make::make_files;
 use cmd_procs::procs_file;
 use cmd_tools::{assemble_file, bind_objects, print_access, print_object};
 use m36_outside::{Folder, Lines, Sink, Text};
 use m36_program::status_by;
-use m36_ran::ImageCommand;
-use m36_reading::Status;
+use m36_status::Status;
 use m36_world::{Borrowed, World};
 use std::alloc::Global;
 

@@ -1,4 +1,4 @@
-use Rattle.m36_booted.proofs.OneRunLaws.{booted_law}
+use Rattle.cmd_folder.proofs.OneRunLaws.{booted_law}
 use Rattle.cmd_folder.proofs.laws.law_booted.Goals as goal
 
 pub returns : goal.returns

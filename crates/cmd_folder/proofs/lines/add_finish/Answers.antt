@@ -2,7 +2,7 @@
 use Rattle.std.proofs.Common.{[], ◌∷◌, ◌++◌, subst, List, ℕ}
 use Rattle.m36_text.specs.Lines.{as_line}
 use Rattle.m36_program.specs.Gathered.{Gathers, Loses}
-use Rattle.m36_booted.specs.RunText.{finish_line, denied_pieces}
+use Rattle.cmd_folder.specs.RunText.{finish_line, denied_pieces}
 use Rattle.cmd_folder.proofs.BlockLaws.{adds_then, loses_more}
 use Rattle.cmd_folder.proofs.lines.add_finish.Goals as goal
 

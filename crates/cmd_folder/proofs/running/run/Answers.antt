@@ -1,6 +1,6 @@
 -- After a step another may follow, the run has ended, or it failed; or no step is left.
 use Rattle.std.proofs.Common.{arith, ◌∙◌}
-use Rattle.m36_reading.specs.declared.status.Status.TheVariants.{WriteFault, NoMemory}
+use Rattle.m36_status.specs.declared.status.Status.TheVariants.{WriteFault, NoMemory}
 use Rattle.m36_super.specs.SuperFields.{booted_of}
 use Rattle.cmd_folder.specs.RunProgram.{run_from}
 use Rattle.cmd_folder.specs.RunSays.{run_of}

@@ -1,6 +1,6 @@
 -- The lines are put one after another.
 use Rattle.cmd_image.proofs.AuditPuts.{all_put, finding_unput, findings_end}
-use Rattle.m36_ran.proofs.AuditTexts.{pieces_of_findings}
+use Rattle.cmd_image.proofs.AuditTexts.{pieces_of_findings}
 use Rattle.cmd_image.proofs.findings.put_findings.Goals as goal
 
 pub returns-in-Err : goal.returns-in-Err

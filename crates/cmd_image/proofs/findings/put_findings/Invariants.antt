@@ -1,6 +1,6 @@
 use Rattle.std.proofs.Common.{drop}
 use Rattle.m36_program.specs.Performs.{Leads}
-use Rattle.m36_ran.proofs.AuditTexts.{pieces_of_findings}
+use Rattle.cmd_image.proofs.AuditTexts.{pieces_of_findings}
 use Rattle.cmd_image.proofs.AuditPuts.{all_put}
 use Rattle.cmd_image.proofs.findings.put_findings.Given as goal
 

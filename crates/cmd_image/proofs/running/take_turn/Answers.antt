@@ -4,7 +4,7 @@ use Rattle.m36_text.specs.Lines.{as_line}
 use Rattle.m36_model.specs.declared.record.Shown.{Shown}
 use Rattle.m36_trace.proofs.Lines.{shown_is}
 use Rattle.m36_program.specs.Gathered.{Gathers, Loses}
-use Rattle.m36_ran.specs.Machine.{told}
+use Rattle.cmd_image.specs.Machine.{told}
 use Rattle.cmd_image.proofs.running.take_turn.Goals as goal
 
 pub returns-in-Failed-clause-says : goal.returns-in-Failed-clause-says

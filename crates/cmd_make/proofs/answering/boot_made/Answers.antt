@@ -1,5 +1,5 @@
 -- The files were booted, or refused.
-use Rattle.m36_booted.specs.Systems.{given_by}
+use Rattle.cmd_folder.specs.BootedSystems.{given_by}
 use Rattle.cmd_make.proofs.MakeSteps.{boot_given, boot_stopped}
 use Rattle.cmd_make.proofs.answering.boot_made.Goals as goal
 

@@ -1,7 +1,7 @@
 -- All files were made.
 use Rattle.std.proofs.Common.{◌≡◌, ◌∙◌, ap, subst, ◌++◌, map, List, Ok}
 use Rattle.m36_gen.specs.declared.files.File.{File}
-use Rattle.m36_reading.specs.declared.setting.Set.{Set}
+use Rattle.m36_status.specs.declared.setting.Set.{Set}
 use Rattle.cmd_make.specs.Making.{set_of, with_objects}
 use Rattle.cmd_make.proofs.AllFiles.{made_all}
 use Rattle.cmd_make.proofs.making.made_from.Goals as goal

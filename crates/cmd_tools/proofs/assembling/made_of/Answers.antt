@@ -1,5 +1,5 @@
 -- The text is a source, or not.
-use Rattle.m36_told.proofs.AlmLaws.{made_read, read_refused}
+use Rattle.cmd_tools.proofs.AlmLaws.{made_read, read_refused}
 use Rattle.cmd_tools.proofs.assembling.made_of.Goals as goal
 
 pub returns-in-Ok : goal.returns-in-Ok

@@ -1,6 +1,6 @@
 -- The objects are bound, or not.
 use Rattle.m36_bind.specs.Bound.{bound_of}
-use Rattle.m36_told.proofs.BindLaws.{bound_given, bound_refused}
+use Rattle.cmd_tools.proofs.BindLaws.{bound_given, bound_refused}
 use Rattle.cmd_tools.proofs.binding.bound_in.Goals as goal
 
 pub returns-in-Ok : goal.returns-in-Ok

@@ -1,7 +1,7 @@
 -- The object is packed, and printed.
 use Rattle.std.proofs.Common.{[], ◌∷◌, Ok, sym, ap, ◌∙◌}
 use Rattle.m36_list.specs.Print.{print_of}
-use Rattle.m36_told.specs.Told.{ToldFields}
+use Rattle.cmd_tools.specs.Reports.{ToldFields}
 use Rattle.cmd_tools.proofs.binding.report_of.Goals as goal
 
 pub returns : goal.returns

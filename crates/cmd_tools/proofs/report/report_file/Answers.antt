@@ -1,7 +1,7 @@
 -- The file's name is a copy of the name.
 use Rattle.std.proofs.Common.{◌≡◌, [], ◌∷◌, ◌∙◌}
 use Rattle.std.proofs.lemmas.Result.{IfOk-weaker}
-use Rattle.m36_told.specs.Told.{ToldFields}
+use Rattle.cmd_tools.specs.Reports.{ToldFields}
 use Rattle.cmd_tools.proofs.report.report_file.Goals as goal
 
 pub returns : goal.returns

@@ -1,5 +1,5 @@
 -- Each command does what its program says.
-use Rattle.m36_ran.specs.declared.command.ImageCommand.TheVariants as image
+use Rattle.cmd_image.specs.declared.command.ImageCommand.TheVariants as image
 use Rattle.cmd_image.specs.ImageProgram.{image_program}
 use Rattle.cmd_procs.specs.ProcsProgram.{procs_program}
 use Rattle.cmd_tools.specs.ToolPrograms.{print_program}

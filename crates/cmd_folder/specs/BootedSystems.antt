@@ -1,0 +1,19 @@
+-- A booted system, and the folder that it was booted from.
+use Rattle.std.specs.Prelude.{Result, Ok}
+use Rattle.m36_text.specs.Results.{and_then}
+use Rattle.m36_super.specs.SuperFields.{SuperFields}
+use Rattle.m36_super.specs.BootSays.{IsBooted}
+use Rattle.m36_status.specs.declared.refusal.Refusal.{Refusal}
+use Rattle.cmd_folder.specs.declared.booting.BootedFolder.{BootedFolder}
+use Rattle.cmd_folder.specs.Folder.{FolderFields}
+
+-- The system is as it was booted: no turn was made.
+abbrev pub IsFresh : SuperFields → Type 0
+IsFresh system = IsBooted system.lib system
+
+-- the folder of a system
+abbrev pub given_by : BootedFolder → FolderFields
+given_by booted = record { lib = booted.system.lib; denied = booted.denied }
+
+abbrev pub given_in : Result BootedFolder Refusal → Result FolderFields Refusal
+given_in read = and_then read (λ booted. Ok (given_by booted))

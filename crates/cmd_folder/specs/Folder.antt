@@ -1,0 +1,46 @@
+-- What is booted from a folder: the catalog of its boot text, with the rights of a user if there is
+-- one, and the words of the file of each segment. They boot, or are refused with U1 to U4 under the
+-- name of the boot text.
+use Rattle.std.specs.Prelude.{ℕ, List, Result, Ok, Err}
+use Rattle.m36_link.specs.Fields.{SnapFields}
+use Rattle.m36_boot.specs.Refusals.{boot_answer}
+use Rattle.m36_boot.specs.declared.fault.BootFault.{BootFault}
+use Rattle.m36_boot.specs.declared.fault.BootFault.TheVariants as boot
+use Rattle.m36_super.specs.Library.{Library}
+use Rattle.m36_status.specs.declared.status.Code.TheVariants as code
+use Rattle.m36_status.specs.declared.refusal.Refusal.{Refusal}
+use Rattle.m36_status.specs.declared.refusal.Refusal.TheVariants.{NoMemory}
+use Rattle.m36_status.specs.Refusing.{Early}
+use Rattle.m36_files.specs.declared.access.Access.{Access}
+use Rattle.m36_files.specs.CatalogRules.{boot_refused}
+
+-- what is booted
+pub record FolderFields : Type 0 where
+  -- the catalog, with the words of the file of each segment
+  pub lib : Library
+  -- for each segment the line `denied` that follows the end line if a right to it was missing; no
+  -- lines without a user
+  pub denied : List (List ℕ)
+
+abbrev pub folder_with : Access → List (List ℕ) → FolderFields
+folder_with access files = record {
+  lib = record { catalog = access.catalog; files = files };
+  denied = access.denied;
+}
+
+-- ---- booting: U1 and U3, and U2 and U4 at the number of a segment
+
+abbrev pub fault_refused : BootFault → Refusal
+fault_refused boot.U1 = boot_refused code.U1 0
+fault_refused (boot.U2 segment) = boot_refused code.U2 segment
+fault_refused boot.U3 = boot_refused code.U3 0
+fault_refused (boot.U4 segment) = boot_refused code.U4 segment
+fault_refused boot.NoMemory = NoMemory
+
+abbrev pub booted_by : FolderFields → Result SnapFields BootFault → Early FolderFields
+booted_by given (Ok start) = Ok given
+booted_by given (Err fault) = Err (fault_refused fault)
+
+-- The folder boots, or is refused with a code.
+unfoldable pub boots : FolderFields → Early FolderFields
+boots given = booted_by given (boot_answer given.lib.catalog given.lib.files)

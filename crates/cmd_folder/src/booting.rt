@@ -1,0 +1,72 @@
+//! Boots the catalog of a folder with the files of its segments.
+
+ghost use Rattle.std.specs.Prelude.{ℕ, ◌≡◌, ◌≤◌, List, [], ◌∷◌, ◌++◌, Ok, length, IfOk};
+ghost use Rattle.obj36_parts.specs.ObjectSegment.{segment_limit};
+ghost use Rattle.m36_status.specs.Refusing.{Early, Gives, Refuses};
+ghost use Rattle.cmd_folder.specs.Folder.{folder_with, fault_refused, boots};
+ghost use Rattle.cmd_folder.specs.BootedSystems.{IsFresh, given_in};
+
+use crate::files::SegmentFiles;
+use m36_acl::DeniedLines;
+use m36_boot::BootFault;
+use m36_dir::Catalog;
+use m36_files::boot_refusal::refuse_boot;
+use m36_status::{Code, Refusal};
+use m36_super::Super;
+use m36_word::Words;
+use std::alloc::Global;
+
+/// A booted folder.
+#[derive(Drop)]
+pub struct BootedFolder {
+    pub system: Super,
+    /// For each segment of the catalog the line `denied` that is printed if a run ends because a
+    /// right to it was missing; no lines without a user.
+    pub denied: DeniedLines,
+}
+
+/// Adds the words of a file to those read before. Fails only with `NoMemory`.
+pub fn with_file(mut files: SegmentFiles, words: Words) -> Result<SegmentFiles, Refusal>
+    requires { length words ≤ segment_limit }
+    ensures gives { Gives result
+        (let more : Early (List (List ℕ)) = Ok (files ++ words ∷ []) in more) }
+    ensures more { IfOk result (λ more. more ≡ files ++ words ∷ []) }
+{
+    files.push(words)?;
+    Ok(files)
+}
+
+// U1 to U4, for a catalog and files that do not boot; U2 and U4 at the number of the segment.
+fn refuse_fault(alloc: Global, fault: BootFault) -> Refusal
+    ensures { Refuses result (fault_refused fault) }
+{
+    match fault {
+        BootFault::U1 => refuse_boot(alloc, Code::U1, 0),
+        BootFault::U2(segment) => refuse_boot(alloc, Code::U2, segment as u32),
+        BootFault::U3 => refuse_boot(alloc, Code::U3, 0),
+        BootFault::U4(segment) => refuse_boot(alloc, Code::U4, segment as u32),
+        BootFault::NoMemory => Refusal::NoMemory,
+    }
+}
+
+/// Boots a catalog with its files: U1 to U4 if they do not boot.
+#[tactic(auto, using(crate::proofs::FolderBoots::booting))]
+pub fn boot_files(
+    alloc: Global,
+    catalog: Catalog,
+    denied: DeniedLines,
+    files: SegmentFiles,
+) -> Result<BootedFolder, Refusal>
+    requires { length files ≡ length catalog.segments }
+    ensures gives { Gives (given_in result)
+        (boots (folder_with record { catalog = catalog; denied = denied } files)) }
+    ensures booted { IfOk result (λ booted. IsFresh booted.system) }
+{
+    match Super::boot(alloc, catalog, files.items) {
+        Ok(system) => Ok(BootedFolder { system, denied }),
+        Err(fault) => {
+            drop(denied);
+            Err(refuse_fault(alloc, fault))
+        }
+    }
+}

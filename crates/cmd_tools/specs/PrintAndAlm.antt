@@ -1,0 +1,49 @@
+-- The reports of `print NAME` and `alm NAME`.
+use Rattle.std.specs.Prelude.{ℕ, List, [], ◌∷◌, Result, Ok, Err}
+use Rattle.alm_parse.specs.declared.fault.AlmFault.{AlmFault}
+use Rattle.alm_parse.specs.declared.fault.AlmFault.TheVariants as alm
+use Rattle.obj36_parts.specs.PartsFields.{PartsFields}
+use Rattle.m36_list.specs.Print.{print_of}
+use Rattle.m36_list.specs.Listing.{listing_of}
+use Rattle.m36_status.specs.declared.status.Code.TheVariants as code
+use Rattle.m36_status.specs.declared.refusal.Refusal.{Refusal}
+use Rattle.m36_status.specs.declared.refusal.Refusal.TheVariants.{NoMemory}
+use Rattle.m36_status.specs.Refusing.{Early}
+use Rattle.m36_status.specs.Rules.{refused_at}
+use Rattle.cmd_tools.specs.declared.alm_files.AlmFiles.{AlmFiles}
+use Rattle.cmd_tools.specs.Reports.{ToldFields}
+use Rattle.cmd_tools.specs.Assemblies.{Assembly, object_set, MakingSays}
+
+-- ---- `print NAME`
+
+abbrev pub printed : List ℕ → PartsFields → ToldFields
+printed name parts = record { sets = []; text = print_of name parts }
+
+-- ---- `alm NAME`
+
+-- the refusal of a source, at a line and a column
+abbrev pub source_refused : List ℕ → AlmFault → Refusal
+source_refused name (alm.E1 line column) = refused_at name code.E1 line column
+source_refused name (alm.E2 line column) = refused_at name code.E2 line column
+source_refused name (alm.E3 line column) = refused_at name code.E3 line column
+source_refused name (alm.E4 line column) = refused_at name code.E4 line column
+source_refused name (alm.E5 line column) = refused_at name code.E5 line column
+source_refused name (alm.E6 line column) = refused_at name code.E6 line column
+source_refused name (alm.E7 line column) = refused_at name code.E7 line column
+source_refused name (alm.E8 line column) = refused_at name code.E8 line column
+source_refused name alm.NoMemory = NoMemory
+
+-- The object is written, and then the listing is printed.
+abbrev pub assembly_told : List ℕ → Assembly → ToldFields
+assembly_told name a =
+    record { sets = object_set name a.parts ∷ []; text = listing_of name a.source a.parts }
+
+abbrev pub told_by : AlmFiles → Result Assembly AlmFault → Early ToldFields
+told_by files (Ok a) = Ok (assembly_told files.object a)
+told_by files (Err fault) = Err (source_refused files.source fault)
+
+-- ---- the contract of the part of `alm` that works without files
+
+-- The result is the report of what a source means, or the refusal of the source.
+abbrev pub MadeSays : List ℕ → Result ToldFields AlmFault → Result Assembly AlmFault → Type 0
+MadeSays name result given = MakingSays (assembly_told name) result given

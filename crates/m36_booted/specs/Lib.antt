@@ -1,6 +1,0 @@
-pub mod Folder
-pub mod RunText
-pub mod Runs
-pub mod Promise
-pub mod Systems
-pub mod BootedLaw

@@ -1,0 +1,76 @@
+-- What the texts of a folder mean: the boot text, which describes a catalog, and for a user the
+-- access lists, by which the segments get their rights.
+use Rattle.std.specs.Prelude.{ℕ, List, [], codes, Option, Some, None, Result, Ok, Err}
+pub use Rattle.m36_text.specs.FileNames.{boot_name}
+use Rattle.m36_dir.specs.Catalog.{CatalogFields}
+use Rattle.m36_dir.specs.declared.fault.CatalogFault.{CatalogFault}
+use Rattle.m36_dir.specs.declared.fault.CatalogFault.TheVariants as catalog
+use Rattle.m36_acl.specs.declared.fault.AclFault.{AclFault}
+use Rattle.m36_acl.specs.declared.fault.AclFault.TheVariants as acl
+use Rattle.m36_acl.specs.Fields.{AclSegmentFields}
+use Rattle.m36_acl.specs.AccessLists.{Lists}
+use Rattle.m36_acl.specs.Granted.{first_unknown, granted}
+use Rattle.m36_acl.specs.AccessText.{denied_lines}
+use Rattle.m36_files.specs.declared.access.Access.{Access}
+use Rattle.m36_status.specs.declared.status.Code.{Code}
+use Rattle.m36_status.specs.declared.status.Code.TheVariants as code
+use Rattle.m36_status.specs.declared.refusal.Refusal.{Refusal}
+use Rattle.m36_status.specs.declared.refusal.Refusal.TheVariants.{NoMemory}
+use Rattle.m36_status.specs.Refusing.{Early}
+use Rattle.m36_status.specs.Rules.{refused}
+
+-- ---- the boot text: D1 to D6 at its line
+
+abbrev pub boot_refused : Code → ℕ → Refusal
+boot_refused code at = refused boot_name code at
+
+abbrev pub catalog_refused : CatalogFault → Refusal
+catalog_refused (catalog.D1 line) = boot_refused code.D1 line
+catalog_refused (catalog.D2 line) = boot_refused code.D2 line
+catalog_refused (catalog.D3 line) = boot_refused code.D3 line
+catalog_refused (catalog.D4 line) = boot_refused code.D4 line
+catalog_refused (catalog.D5 line) = boot_refused code.D5 line
+catalog_refused (catalog.D6 line) = boot_refused code.D6 line
+catalog_refused catalog.NoMemory = NoMemory
+
+-- the catalog of the boot text, or its refusal
+abbrev pub catalog_by : Result CatalogFields CatalogFault → Early CatalogFields
+catalog_by (Ok catalog) = Ok catalog
+catalog_by (Err fault) = Err (catalog_refused fault)
+
+-- ---- the access lists: C1 and C2 at the first line that has one, and then C3 at the first line of
+-- a segment that the boot text does not have
+
+abbrev pub acl_name : List ℕ
+acl_name = codes "acl"
+
+abbrev pub acl_refused : Code → ℕ → Refusal
+acl_refused code at = refused acl_name code at
+
+abbrev pub lists_refused : AclFault → Refusal
+lists_refused (acl.C1 line) = acl_refused code.C1 line
+lists_refused (acl.C2 line) = acl_refused code.C2 line
+lists_refused acl.NoMemory = NoMemory
+
+-- the lists, or C3 at the first line of a segment that the catalog does not have
+abbrev pub known_by : Lists → Option ℕ → Early (List AclSegmentFields)
+known_by lists None = Ok lists
+known_by lists (Some line) = Err (acl_refused code.C3 line)
+
+abbrev pub lists_by : CatalogFields → Result (List AclSegmentFields) AclFault
+    → Early (List AclSegmentFields)
+lists_by catalog (Ok lists) = known_by lists (first_unknown catalog lists)
+lists_by catalog (Err fault) = Err (lists_refused fault)
+
+-- ---- the catalog with the rights of a user
+
+-- a catalog with the rights of its boot text, without lines `denied`
+abbrev pub as_given : CatalogFields → Access
+as_given catalog = record { catalog = catalog; denied = [] }
+
+-- a catalog with the rights that the lists give to a user, and the line `denied` of each segment
+abbrev pub for_user : List ℕ → CatalogFields → Lists → Access
+for_user user catalog lists = record {
+  catalog = granted lists user catalog;
+  denied = denied_lines lists user catalog;
+}

@@ -1,0 +1,26 @@
+-- Rules: the value that is computed from files, or why there is none.
+use Rattle.std.specs.Prelude.{◌≡◌, ⊤, Result, Ok, Err}
+use Rattle.m36_status.specs.declared.refusal.Refusal.{Refusal}
+use Rattle.m36_status.specs.declared.refusal.Refusal.TheVariants.{BadFile, NoMemory}
+use Rattle.m36_status.specs.declared.status.Status.{Status}
+use Rattle.m36_status.specs.declared.status.Status.TheVariants as status
+
+-- the status with which a command ends
+abbrev pub status_of : Refusal → Status
+status_of (BadFile bad) = status.BadFile bad
+status_of NoMemory = status.NoMemory
+
+-- the value of a rule, or the refusal of a file
+abbrev pub Early : Type 0 → Type 0
+Early A = Result A Refusal
+
+-- The result of a call is that of the rule, or NoMemory.
+abbrev pub Gives : {A : Type 0} → Result A Refusal → Early A → Type 0
+Gives (Ok a) rule = rule ≡ Ok a
+Gives (Err (BadFile bad)) rule = rule ≡ Err (BadFile bad)
+Gives (Err NoMemory) rule = ⊤
+
+-- The same for a refusal alone.
+abbrev pub Refuses : Refusal → Refusal → Type 0
+Refuses (BadFile bad) rule = rule ≡ BadFile bad
+Refuses NoMemory rule = ⊤

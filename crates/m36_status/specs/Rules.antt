@@ -1,0 +1,52 @@
+-- The words of a file (T3, T4, F3), and its object (O1 to O8), or the refusal of the file.
+use Rattle.std.specs.Prelude.{ℕ, nat_lt, if◌then◌else◌, List, length, Result, Ok, Err}
+use Rattle.m36_text.specs.declared.packing.PackFault.{PackFault}
+use Rattle.m36_text.specs.declared.packing.PackFault.TheVariants as pack
+use Rattle.obj36_parts.specs.PartsFields.{PartsFields}
+use Rattle.obj36_parts.specs.ObjectSegment.{segment_limit}
+use Rattle.obj36.specs.declared.fault.ObjectFault.{ObjectFault}
+use Rattle.obj36.specs.declared.fault.ObjectFault.TheVariants as fault
+use Rattle.m36_status.specs.declared.status.Code.{Code}
+use Rattle.m36_status.specs.declared.status.Code.TheVariants as code
+use Rattle.m36_status.specs.declared.refusal.Refusal.{Refusal}
+use Rattle.m36_status.specs.declared.refusal.Refusal.TheVariants.{BadFile, NoMemory}
+use Rattle.m36_status.specs.Refusing.{Early}
+
+-- the refusal of a file, by its name, a code, a place and a column
+abbrev pub refused_at : List ℕ → Code → ℕ → ℕ → Refusal
+refused_at name code at column =
+    BadFile (record { name = name; code = code; at = at; column = column })
+
+abbrev pub refused : List ℕ → Code → ℕ → Refusal
+refused name code at = refused_at name code at 0
+
+-- ---- words
+
+-- F3 if there are more words than a segment can have
+abbrev pub sized : List ℕ → List ℕ → Early (List ℕ)
+sized name words =
+    if nat_lt segment_limit (length words) then Err (refused name code.F3 0) else Ok words
+
+abbrev pub words_by : List ℕ → Result (List ℕ) PackFault → Early (List ℕ)
+words_by name (Ok words) = sized name words
+words_by name (Err (pack.T3 count)) = Err (refused name code.T3 count)
+words_by name (Err (pack.T4 place)) = Err (refused name code.T4 place)
+words_by name (Err pack.NoMemory) = Err NoMemory
+
+-- ---- objects
+
+-- the refusal of words that are no object, by their first fault
+abbrev pub object_refused : List ℕ → ObjectFault → Refusal
+object_refused name (fault.O1 at) = refused name code.O1 at
+object_refused name (fault.O2 at) = refused name code.O2 at
+object_refused name (fault.O3 at) = refused name code.O3 at
+object_refused name (fault.O4 at) = refused name code.O4 at
+object_refused name (fault.O5 at) = refused name code.O5 at
+object_refused name (fault.O6 at) = refused name code.O6 at
+object_refused name (fault.O7 at) = refused name code.O7 at
+object_refused name (fault.O8 at) = refused name code.O8 at
+object_refused name fault.NoMemory = NoMemory
+
+abbrev pub object_by : List ℕ → Result PartsFields ObjectFault → Early PartsFields
+object_by name (Ok parts) = Ok parts
+object_by name (Err fault) = Err (object_refused name fault)
