@@ -24,8 +24,8 @@
 //!
 //! [`law_folder`] says what the program means (`specs/FolderLaw.antt`):
 //!
-//! - Each call of the program of a run is a booted run of `cmd_folder`, up to its finish or to where
-//!   the call stopped (`specs/RunIs.antt`). Each booted run that finishes is such a call.
+//! - Each call of the program of a run is a booted run (`specs/Runs.antt`), up to its finish or to
+//!   where the call stopped (`specs/RunIs.antt`). Each booted run that finishes is such a call.
 //! - `audit` has one text over the same files. `run` and `trace` have one text up to the first ABSA
 //!   or LDBR that a turn executes. After that the run depends on which pages are evicted.
 //! - The conditions of the audit decide which findings there are. Some call ends, if some run

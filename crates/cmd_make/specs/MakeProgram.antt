@@ -51,7 +51,7 @@ on_system lib system =
     wants (some (AreFolderFindings lib system) (found_told lib (booted_of system)))
 
 -- What is done with the system that the library boots to. There is at most one, by `system` of
--- `FolderDueLaw` of `cmd_folder`.
+-- `BootedLaw` of `cmd_folder`.
 unfoldable pub on_booted : FolderFields → Program quiet (Unit {0})
 on_booted given = some (IsBooted given.lib) (on_system given.lib)
 

@@ -27,11 +27,11 @@
 //!   or a prefix of them if the output failed.
 //! - `limit`: how many steps each line takes in such events.
 //!
-//! [`law_session`] states two laws of all calls that perform the program
-//! (`specs/SessionText.antt`). Each is a session as in `says`, up to some machine after it. And if
-//! each state of the machine has one turn and one answer to going back, the text of a session
-//! follows from the bytes of the input, whatever the pieces in which they come: a call puts a
-//! prefix of what any call with the same bytes puts that ends as the program says.
+//! [`law_session`] states two laws of all calls that perform the program (`specs/SessionText.antt`).
+//! Each is a session as in `says`, up to some machine after it. And if each state of the machine has
+//! one turn and one answer to going back, the text of a session follows from the bytes of the input,
+//! whatever the pieces in which they come: a call puts a prefix of what any call with the same bytes
+//! puts that ends as the program says.
 //!
 //! A session event is a line that is taken, a turn of the machine, or going back. Each may follow
 //! the one before: a line is taken if the session waits for one, a turn is made if a command runs,
