@@ -17,7 +17,7 @@ frame_words core f = slice_range core (1024 * f) (1024 * f + 1024)
 abbrev pub with_frame : List ℕ → ℕ → List ℕ → List ℕ
 with_frame core f words = overwritten core (1024 * f) words
 
--- `new` has these words in frame f, and is as core everywhere else
+-- `new` has these words in frame f, and is as `core` everywhere else
 pub record IsFrameWritten (core words new : List ℕ) (f : ℕ) : Type 0 where
   pub size : length new ≡ length core
   pub inside : (k : ℕ) → k < 1024 → slice_index new (1024 * f + k) ≡ slice_index words k

@@ -116,6 +116,7 @@ pub(crate) fn deallocate<T, A: Allocator>(
 impl<T> Cells<T> {
     ghost use Rattle.m36_core.specs.Lends.{lends_run};
 
+    /// Writes a value into the slot at an index. `base` has to be the pointer to these slots.
     pub(crate) fn write(&mut self, base: Base<T>, index: usize, item: T)
         requires { (base.ptr ≡ self.old.at) × (index < length self.old.slots) }
         ensures { (self.new.at ≡ self.old.at)
@@ -124,6 +125,8 @@ impl<T> Cells<T> {
         unsafe { base.ptr.add(index).write(item) }
     }
 
+    /// The value in the slot at an index. Every slot has to hold a value, and `base` has to be the
+    /// pointer to these slots.
     pub(crate) fn get(&self, base: Base<T>, index: usize) -> &T
         requires { (base.ptr ≡ self.now.at) × IsWhole self.now.slots
             × (index < length self.now.slots) }

@@ -38,6 +38,7 @@ impl Model for Core {
 }
 
 impl Drop for Core {
+    // Returns the block to its allocator.
     fn drop(self) {
         let Core {
             base,

@@ -18,17 +18,17 @@ use Rattle.m36_desc.specs.Violations.{no_write_right, not_a_gate, out_of_call_br
 use Rattle.m36_desc.specs.Violations.{bad_outward_call, crossing_ring_transfer}
 use Rattle.m36_desc.specs.declared.access.Acv.{Acv}
 
--- the number of the first row whose condition holds
+-- the access violation of the first row whose condition holds; None if the reference is allowed
 abbrev pub first_of : List (Bool × ℕ) → Option ℕ
 first_of [] = None
 first_of (row ∷ rows) = if row.0 then Some row.1 else first_of rows
 
--- the ring brackets are in order: r1 <= r2 <= r3
+-- whether three rings are in order: r1 <= r2 <= r3
 abbrev pub are_in_order : ℕ → ℕ → ℕ → Bool
 are_in_order r1 r2 r3 = nat_le r1 r2 && nat_le r2 r3
 
--- The brackets of a segment are in order. If they are not, this refuses every reference to the
--- segment, before any other condition.
+-- Whether the brackets of a segment are in order. If they are not, every reference to the segment
+-- is refused, before any other condition.
 abbrev pub in_order : SdwFields → Bool
 in_order s = are_in_order s.r1 s.r2 s.r3
 
@@ -36,7 +36,7 @@ in_order s = are_in_order s.r1 s.r2 s.r3
 abbrev pub ordered_rows : SdwFields → List (Bool × ℕ) → List (Bool × ℕ)
 ordered_rows s more = (not (in_order s), illegal_ring_order) ∷ more
 
--- A read. A segment needs no R bit to be read by the instructions in it.
+-- The rows of a read. A segment needs no R bit to be read by the instructions in it.
 abbrev pub read_rows : SdwFields → ℕ → Bool → List (Bool × ℕ)
 read_rows s trr same =
     ordered_rows s (
@@ -45,7 +45,7 @@ read_rows s trr same =
     ∷ []
     )
 
--- a write
+-- the rows of a write
 abbrev pub write_rows : SdwFields → ℕ → List (Bool × ℕ)
 write_rows s trr =
     ordered_rows s (
@@ -54,7 +54,8 @@ write_rows s trr =
     ∷ []
     )
 
--- an execution in a ring, followed by more rows; the execute bracket has a lower end too
+-- The rows of an execution in a ring, followed by more rows. The execute bracket has a lower end
+-- too.
 abbrev pub execute_rows : SdwFields → ℕ → List (Bool × ℕ) → List (Bool × ℕ)
 execute_rows s ring more =
     ordered_rows s (
@@ -64,15 +65,16 @@ execute_rows s ring more =
     ∷ more
     )
 
--- a fetch of an instruction, in the ring of execution
+-- the rows of a fetch of an instruction, in the ring of execution
 abbrev pub fetch_rows : SdwFields → ℕ → List (Bool × ℕ)
 fetch_rows s prr = execute_rows s prr []
 
--- a transfer: checked as a fetch in the ring of the reference, which has to be that of execution
+-- the rows of a transfer: those of a fetch in the ring of the reference, which has to be the ring
+-- of execution
 abbrev pub transfer_rows : SdwFields → ℕ → ℕ → List (Bool × ℕ)
 transfer_rows s trr prr = execute_rows s trr ((not (trr == prr), crossing_ring_transfer) ∷ [])
 
--- a call to a word
+-- the rows of a call to a word
 abbrev pub call_rows : SdwFields → ℕ → ℕ → Bool → ℕ → List (Bool × ℕ)
 call_rows s trr prr same word =
     ordered_rows s (
@@ -84,7 +86,7 @@ call_rows s trr prr same word =
     ∷ []
     )
 
--- the ring in which a segment executes for a caller: the caller's ring, but at most R2
+-- the ring, but at most R2: that in which a segment executes for a caller in this ring
 abbrev pub ring_under : ℕ → ℕ → ℕ
 ring_under r2 ring = if nat_lt r2 ring then r2 else ring
 

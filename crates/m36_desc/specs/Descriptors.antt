@@ -31,12 +31,12 @@ sdw_of even odd =
       limit = field odd 22 14;
     }
 
--- the even word of a descriptor
+-- the even word of a segment descriptor
 abbrev pub sdw_even : SdwFields → ℕ
 sdw_even s =
     s.addr * 2 ^ 12 + s.r1 * 2 ^ 9 + s.r2 * 2 ^ 6 + s.r3 * 2 ^ 3 + of_bit s.f * 2 ^ 2 + s.fc
 
--- the odd word of a descriptor
+-- the odd word of a segment descriptor
 abbrev pub sdw_odd : SdwFields → ℕ
 sdw_odd s =
     s.bound * 2 ^ 21 + of_bit s.readable * 2 ^ 20 + of_bit s.executable * 2 ^ 19
@@ -54,7 +54,7 @@ ptw_of w =
       fc = field w 34 2;
     }
 
--- the word of these fields
+-- the page table word with these fields
 abbrev pub ptw_word : PtwFields → ℕ
 ptw_word p =
     p.addr * 2 ^ 18 + of_bit p.used * 2 ^ 9 + of_bit p.modified * 2 ^ 6 + of_bit p.f * 2 ^ 2 + p.fc
@@ -69,11 +69,11 @@ dbr_of even odd =
       stack = field odd 24 12;
     }
 
--- the even word of the register
+-- the even word of the pair that stores the DBR
 abbrev pub dbr_even : DbrFields → ℕ
 dbr_even d = d.addr * 2 ^ 12
 
--- the odd word of the register
+-- the odd word of the pair that stores the DBR
 abbrev pub dbr_odd : DbrFields → ℕ
 dbr_odd d = d.bnd * 2 ^ 21 + of_bit d.unpaged * 2 ^ 16 + d.stack
 
@@ -81,11 +81,11 @@ dbr_odd d = d.bnd * 2 ^ 21 + of_bit d.unpaged * 2 ^ 16 + d.stack
 abbrev pub wordno_of : ℕ → ℕ
 wordno_of odd = field odd 0 18
 
--- the bit number in that word: BITNO 21-26; its tag is in 30-35
+-- the bit number in the odd word of an ITS or ITP pair: BITNO 21-26
 abbrev pub bitno_of : ℕ → ℕ
 bitno_of odd = field odd 21 6
 
--- the tag of an indirect word, and of either word of a pair
+-- the tag of an indirect word, and of either word of a pair: bits 30-35
 abbrev pub tag_of : ℕ → ℕ
 tag_of w = field w 30 6
 
@@ -168,7 +168,7 @@ its_of_ptr p = record { seg = p.seg; ring = p.ring; word = p.word; bit = p.bit; 
 abbrev pub ptr_even : PtrFields → ℕ
 ptr_even p = its_even (its_of_ptr p)
 
--- the odd word of that pair
+-- the odd word of the ITS pair that stores a pointer register
 abbrev pub ptr_odd : PtrFields → ℕ
 ptr_odd p = its_odd (its_of_ptr p)
 
@@ -177,7 +177,7 @@ ptr_odd p = its_odd (its_of_ptr p)
 abbrev pub unpacked_segment : ℕ → ℕ
 unpacked_segment seg = if seg == 2 ^ 12 - 1 then 2 ^ 15 - 1 else seg
 
--- the pointer of a packed pointer, for a given ring
+-- the pointer that a packed pointer encodes, in a given ring, since it has no ring of its own
 abbrev pub packed_of : ℕ → ℕ → PtrFields
 packed_of w ring =
     record {

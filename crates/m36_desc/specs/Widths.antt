@@ -76,7 +76,7 @@ ItpFits = (even odd : ℕ) → IsItp (itp_of even odd)
 abbrev pub PackedFits : Type 0
 PackedFits = (w ring : ℕ) → ring < 2 ^ 3 → IsPtr (packed_of w ring)
 
--- both numbers have 36 bits
+-- both numbers are below 2^36, as words are
 pub record AreWords (first second : ℕ) : Type 0 where
   pub even : first < 2 ^ 36
   pub odd : second < 2 ^ 36

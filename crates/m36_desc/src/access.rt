@@ -97,6 +97,7 @@ pub fn call_ring(s: &Sdw, trr: u8, prr: u8, same: bool, word: u32) -> Result<u8,
     Ok(trr.min(s.r2))
 }
 
+// Checks that R1 <= R2 <= R3. If not, each reference to the segment is refused, whatever its kind.
 #[inline(always)]
 fn brackets_in_order(s: &Sdw) -> Result<(), Acv>
     ensures { result ≡ allowed tt (first_of (ordered_rows s.now [])) }

@@ -89,6 +89,7 @@ impl Sdw {
         }
     }
 
+    // The even word: the address, the brackets, F and FC.
     fn even(&self) -> Word
         ensures value { result ≡ sdw_even self.now }
         ensures widths { IsSdw self.now }
@@ -97,6 +98,7 @@ impl Sdw {
         Word::low(((self.addr as u64) << 12) + brackets + ((self.f as u64) << 2) + self.fc as u64)
     }
 
+    // The odd word: the bound, the modes and the call limiter.
     fn odd(&self) -> Word
         ensures { result ≡ sdw_odd self.now }
     {

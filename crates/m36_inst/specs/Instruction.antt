@@ -5,7 +5,7 @@ use Rattle.m36_word.specs.Field.{field, offset_limit}
 use Rattle.m36_word.specs.Bits.{is_on, of_bit}
 use Rattle.m36_inst.specs.Fields.{InstFields, IsInst}
 
--- the fields of a word
+-- the fields of an instruction word
 abbrev pub inst_of : ℕ → InstFields
 inst_of w =
     record {
@@ -17,17 +17,17 @@ inst_of w =
       tag = field w 30 6;
     }
 
--- the word of these fields
+-- the instruction word with these fields
 abbrev pub inst_word : InstFields → ℕ
 inst_word i =
     i.y * 2 ^ 18 + i.code * 2 ^ 9 + of_bit i.bit27 * 2 ^ 8 + of_bit i.inhibit * 2 ^ 7
     + of_bit i.by_pr * 2 ^ 6 + i.tag
 
--- if the address is relative to a pointer register: the register's number, bits 0-2
+-- the number of the pointer register to which an address is relative: its bits 0-2
 abbrev pub pr_number : InstFields → ℕ
 pr_number i = i.y / 2 ^ 15
 
--- the offset from a pointer register, bits 3-17
+-- the offset from a pointer register, unsigned: bits 3-17 of the address
 abbrev pub offset_field : InstFields → ℕ
 offset_field i = i.y % 2 ^ 15
 

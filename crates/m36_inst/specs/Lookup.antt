@@ -48,7 +48,7 @@ row_at code bit27 = option_map (λ e. row_of e.effect e.reg) (entry_at code bit2
 abbrev pub name_at : ℕ → Bool → Option (List ℕ)
 name_at code bit27 = option_map (λ e. e.name) (entry_at code bit27)
 
--- the operation code and bit 27 of an entry
+-- the operation code of an entry and its bit 27
 abbrev pub code_of : Entry → ℕ × Bool
 code_of e = (e.code, e.bit27)
 
@@ -56,8 +56,8 @@ code_of e = (e.code, e.bit27)
 abbrev pub code_named : List ℕ → Option (ℕ × Bool)
 code_named name = option_map code_of (entry_named name)
 
--- the operand, `direct` and `privileged` of a row are those of its effect, and its register is
--- below 8
+-- What holds of each row: the operand, `direct` and `privileged` are those of its effect, and its
+-- register is below 8.
 pub record IsRow (row : Row) : Type 0 where
   pub operand : row.operand ≡ operand_of row.effect
   pub direct : row.direct ≡ takes_direct row.effect

@@ -162,7 +162,7 @@ is_privileged effect.Camp = true
 is_privileged effect.Absa = true
 is_privileged _ = false
 
--- an operand of one word that is read
+-- whether the operand is one word that is only read
 abbrev pub is_one_word : Operand → Bool
 is_one_word operand.R = true
 is_one_word _ = false

@@ -80,7 +80,7 @@ group_of effect.Call6 = group.Call
 group_of effect.Rtcd = group.Return
 group_of _ = group.Other
 
--- the quick row of a row; a code without an instruction is in the group `Other`
+-- what a quick step needs of a row; a code without an instruction is in the group `Other`
 abbrev pub quick_of : Option Row → Quick
 quick_of None = record { effect = effect.Nop; group = group.Other; reg = 0 }
 quick_of (Some row) = record { effect = row.effect; group = group_of row.effect; reg = row.reg }
@@ -106,7 +106,7 @@ pub record IsQuick (q : Quick) : Type 0 where
   pub group : q.group ≡ group_of q.effect
   pub reg : q.reg < 8
 
--- how the instructions of a group reference their operand; `Other` is not used
+-- How the instructions of a group reference their operand. The line of `Other` is not used.
 abbrev pub operand_in : Group → Operand
 operand_in group.Read = operand.R
 operand_in group.Store = operand.W
@@ -122,7 +122,7 @@ operand_in group.Call = operand.Call6
 operand_in group.Return = operand.R2
 operand_in group.Other = operand.N
 
--- the instructions of a group accept a direct operand: only those that read one word
+-- whether the instructions of a group accept a direct operand: only those that read one word do
 abbrev pub direct_in : Group → Bool
 direct_in group.Read = true
 direct_in _ = false
@@ -133,7 +133,7 @@ pub record IsGrouped (g : Group) (e : Effect) : Type 0 where
   pub direct : takes_direct e ≡ direct_in g
   pub privileged : is_privileged e ≡ false
 
--- as `IsGrouped`, for an instruction in any group except `Other`
+-- `IsGrouped`, except that every effect fits the group `Other`
 abbrev pub Fits : Group → Effect → Type 0
 Fits group.Other e = Unit {0}
 Fits g e = IsGrouped g e

@@ -13,12 +13,12 @@ pub record Entry : Type 0 where
   pub effect : Effect
   pub reg : ℕ
 
--- an instruction with bit 27 off that has no register
+-- a list of one entry: an instruction with bit 27 off that has no register
 abbrev pub off : ℕ → List ℕ → Effect → List Entry
 off code name effect =
     record { code = code; bit27 = false; name = name; effect = effect; reg = 0 } ∷ []
 
--- an instruction with bit 27 on that has no register
+-- a list of one entry: an instruction with bit 27 on that has no register
 abbrev pub on : ℕ → List ℕ → Effect → List Entry
 on code name effect =
     record { code = code; bit27 = true; name = name; effect = effect; reg = 0 } ∷ []
@@ -55,7 +55,7 @@ even_off low high stem effect = in_fours low high false true stem effect
 abbrev pub even_on : ℕ → ℕ → List ℕ → Effect → List Entry
 even_on low high stem effect = in_fours low high true false stem effect
 
--- eight consecutive codes with bit 27 off, for registers 0 to 7
+-- as `in_fours`, with eight consecutive codes and bit 27 off for all
 abbrev pub entries_of_eight : ℕ → List ℕ → Effect → List Entry
 entries_of_eight code stem effect = entries_of_two_fours code (code + 4) stem effect
 

@@ -66,7 +66,7 @@ pub(crate) fn named(code: u16, bit27: bool) -> Option<Named>
     place(code, bit27)
 }
 
-// The row and name of an operation code with bit 27, if it has an instruction.
+// The row and the name of an operation code with bit 27, from the block that has the code.
 #[tactic(auto, using(crate::proofs::Blocks::in_block, crate::proofs::Entries::none_above))]
 fn place(code: u16, bit27: bool) -> Option<Named>
     ensures { result ≡ place_of bit27 code }
@@ -82,7 +82,7 @@ fn place(code: u16, bit27: bool) -> Option<Named>
     block[(code % 64) as usize]
 }
 
-// The 64 codes from 64 times `high` on, with bit 27 off.
+// The rows of the 64 codes that begin at 64 times `high`, with bit 27 off.
 fn block_off(high: u16) -> &'static [Option<Named>; 64]
     requires { high < 8 }
     ensures { result.now ≡ block false (64 * high) }
@@ -100,7 +100,7 @@ fn block_off(high: u16) -> &'static [Option<Named>; 64]
     }
 }
 
-// The 64 codes from 64 times `high` on, with bit 27 on.
+// The rows of the 64 codes that begin at 64 times `high`, with bit 27 on.
 fn block_on(high: u16) -> &'static [Option<Named>; 64]
     requires { high < 8 }
     ensures { result.now ≡ block true (64 * high) }

@@ -89,6 +89,7 @@ fn key(name: &[u8]) -> u64
         + letter(name, 4)
 }
 
+// A character of a name, or a blank if the name is shorter.
 fn letter(name: &[u8], i: usize) -> u64
     ensures value { result ≡ letter name.now i }
     ensures bound { result < 256 }
@@ -99,6 +100,7 @@ fn letter(name: &[u8], i: usize) -> u64
     b' ' as u64
 }
 
+// The key of the name of row `i`.
 #[tactic(auto, using(crate::proofs::NamesInOrder::columns))]
 fn key_at(rows: &[CodeOfName], i: usize) -> u64
     requires { i < length rows.now }
@@ -107,6 +109,7 @@ fn key_at(rows: &[CodeOfName], i: usize) -> u64
     key(&rows[i].name)
 }
 
+// The operation code of row `i`.
 #[tactic(auto, using(crate::proofs::NamesInOrder::columns))]
 fn code_at(rows: &[CodeOfName], i: usize) -> u16
     requires { i < length rows.now }
@@ -115,6 +118,7 @@ fn code_at(rows: &[CodeOfName], i: usize) -> u16
     rows[i].code
 }
 
+// Bit 27 of row `i`.
 #[tactic(auto, using(crate::proofs::NamesInOrder::columns))]
 fn bit27_at(rows: &[CodeOfName], i: usize) -> bool
     requires { i < length rows.now }
@@ -144,6 +148,7 @@ fn text(name: &[u8; 5]) -> &[u8]
     }
 }
 
+// The index of the first blank of a padded name; None if all five characters are used.
 fn first_blank(name: &[u8; 5]) -> Option<usize>
     ensures value { result ≡ position is_blank name.now }
     ensures inside { IfSome result (λ end. end < 5) }
@@ -151,6 +156,7 @@ fn first_blank(name: &[u8; 5]) -> Option<usize>
     name.iter().position(|b| *b == b' ')
 }
 
+// The characters of a name, at most five and all ASCII, as a string.
 #[tactic(auto, using(std::proofs::lemmas::Str::encode_ascii))]
 fn spelled(name: &[u8]) -> ArrayString<8>
     requires { IsPlain name.now }

@@ -7,7 +7,7 @@ use Rattle.m36_model.specs.declared.outcome.Fault.{Fault}
 use Rattle.m36_model.specs.declared.outcome.Halt.{Halt}
 use Rattle.m36_model.specs.declared.outcome.Halt.TheVariants as halt
 
--- the purposes of references
+-- the purpose of a request
 pub data RequestKind : Type 0 where
   Fetch : RequestKind
   Indirect : RequestKind
@@ -28,8 +28,8 @@ pub data Part : Type 0 where
   Left : Part
   Right : Part
 
--- A value for a word that a Write of this step has claimed under this number. A half is
--- right-justified in the value.
+-- A value for a word that this step has claimed under a number, or for a half of that word. A half
+-- is right-justified in the value.
 pub record Put : Type 0 where
   pub claim : ℕ
   pub part : Part
@@ -69,11 +69,11 @@ answered k (Err f) = done (Err (halt.Fault f))
 abbrev pub refer : {A : Type 0} → Request → (Answer → Act (Result A Halt)) → Act (Result A Halt)
 refer q k = ask q (answered k)
 
--- continues with a value, or ends as `halted` says
+-- continues with a value, or with the halt
 abbrev pub either : {A B : Type 0} → (A → Act B) → (Halt → Act B) → Result A Halt → Act B
 either k halted (Ok a) = k a
 either k halted (Err h) = halted h
 
--- continues with the result of the first program, or ends as `halted` says if it was refused
+-- runs a program and continues with its value, or with the halt that ended it
 abbrev pub otherwise : {A B : Type 0} → Act (Result A Halt) → (A → Act B) → (Halt → Act B) → Act B
 otherwise m k halted = and_then m (either k halted)

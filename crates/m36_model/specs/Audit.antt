@@ -106,7 +106,8 @@ pub record IsNoGate (sdws : ℕ → Result SdwFields Refusal) (seg : ℕ) : Type
   pub callable : IsCallable sdws seg sdw
   pub open_everywhere : sdw.no_gate ≡ true
 
--- the segment is live, R and W are on, and R1 and R2 are this ring
+-- whether a segment can be the stack of a ring: it is live, R and W are on, and R1 and R2 are this
+-- ring
 abbrev pub is_stack_of : ℕ → Result SdwFields Refusal → Bool
 is_stack_of ring (Ok d) = (d.readable && d.writable) && (d.r1 == ring && d.r2 == ring)
 is_stack_of ring (Err e) = false
@@ -143,7 +144,8 @@ abbrev pub Finds : (ℕ → Type 0) → Option ℕ → Type 0
 Finds Breaks None = (p : ℕ) → Breaks p → ⊥
 Finds Breaks (Some p) = Breaks p × ((q : ℕ) → Breaks q → p ≤ q)
 
--- a finding with the number of its condition
+-- the finding of a condition as a list of one, with the number of the condition; an empty list if
+-- the condition holds
 abbrev pub noted : ℕ → Option ℕ → List (ℕ × ℕ)
 noted condition None = []
 noted condition (Some p) = (condition, p) ∷ []

@@ -10,7 +10,7 @@ use Rattle.m36_model.specs.Place.{core_sdw, last_page}
 use Rattle.m36_model.specs.Core.{unmarked}
 use Rattle.m36_model.specs.declared.outcome.Refusal.{Refusal}
 
--- the descriptor segment: unpaged, at core address 0; its number of words
+-- the number of words of the descriptor segment, which is unpaged and begins at core address 0
 abbrev pub descriptor_words : ℕ
 descriptor_words = 2048
 

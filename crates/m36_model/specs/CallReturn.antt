@@ -11,12 +11,12 @@ use Rattle.m36_model.specs.Place.{ring_stack}
 use Rattle.m36_model.specs.Pointers.{with_pr, pointer}
 use Rattle.m36_model.specs.Results.{OperandFields, EffectFields, leaves}
 
--- PR7 after CALL6 is the base of a stack in the new ring. If the ring changes, this is the stack of
--- the new ring by the DBR, and otherwise the segment of PR6.
+-- The segment of the stack that CALL6 puts into PR7. If the ring changes, it is the stack of the
+-- new ring by the DBR, and otherwise the segment of PR6.
 abbrev pub stack_segment : RegsFields → ℕ → ℕ
 stack_segment g ring = if ring == g.ppr.prr then (ptr g 6).seg else ring_stack g.dbr ring
 
--- a pointer to word 0 of that stack
+-- what PR7 is after CALL6: a pointer to word 0 of the stack of the new ring
 abbrev pub stack_pointer : RegsFields → ℕ → PtrFields
 stack_pointer g ring = pointer (stack_segment g ring) ring 0
 
@@ -29,7 +29,7 @@ in_ring f ring g = record g { ppr = record { psr = f.at.seg; prr = ring; ic = f.
 unfoldable pub call : FinalFields → ℕ → RegsFields → Result EffectFields ℕ
 call f ring g = leaves (in_ring f ring (with_pr 7 (stack_pointer g ring) g))
 
--- the ring after RTCD: the ring after its pair (`pair_ring`)
+-- the ring after RTCD, which is the ring after its pair (`pair_ring`)
 abbrev pub return_ring : ItsFields → FinalFields → OperandFields → ℕ
 return_ring its f o = pair_ring f.at.ring o.ring its.ring
 
@@ -49,7 +49,7 @@ returned its ring g =
       ppr = record { psr = its.seg; prr = ring; ic = its.word };
     }
 
--- RTCD through this ITS pair
+-- RTCD, given the ITS pair that it reads
 abbrev pub return_by : ItsFields → FinalFields → OperandFields → RegsFields → Result EffectFields ℕ
 return_by its f o g = leaves (returned its (return_ring its f o) g)
 

@@ -34,11 +34,11 @@ Formation = Act (Result ChainEnd Halt)
 abbrev pub without_tally : FinalFields → ChainEnd
 without_tally last = record { last = last; pending = []; runout = None }
 
--- the program of a chain that ends here, without a tally word
+-- the program that ends a chain here, without a tally word
 abbrev pub ends_plain : FinalFields → Formation
 ends_plain last = done (Ok (without_tally last))
 
--- the reference to an indirect word, in the segment and the ring of its point
+-- the request for an indirect word, in the segment and the ring of its point
 abbrev pub indirect : RequestKind → Point → ℕ → Request
 indirect kind p word = record { kind = kind; at = at_point p word; count = 1; pending = [] }
 
@@ -57,7 +57,7 @@ found_by_tag tag = if tag == its_tag then Its else if tag == itp_tag then Itp el
 abbrev pub indirect_tag : ℕ → ℕ
 indirect_tag w = tag_of w
 
--- what the word at this word number is
+-- what an indirect word is, by its word number and its tag
 unfoldable pub found : ℕ → ℕ → Found
 found word w = if word % 2 == 0 then found_by_tag (indirect_tag w) else Plain
 
@@ -134,15 +134,16 @@ tally_end p claim counted =
       runout = Some counted.runs_out;
     }
 
--- Ends a chain at a tally word. I does not change the word. The other four tags reference it once
--- more, as a Write in the same ring.
+-- Ends a chain after its tally word was read. The tag I (true) does not change the word. The other
+-- four reference it once more, as a Write in the same ring.
 abbrev pub after_tally : Point → ℕ → Answer → Bool → Formation
 after_tally p td a true = ends_plain (tally_final p (tally_address (slice_index a.words 0)))
 after_tally p td a false =
     refer (indirect Write p p.y) (λ b.
     done (Ok (tally_end p b.first (tally td (slice_index a.words 0)))))
 
--- the chain from a point, while more indirect words may be read
+-- the chain from a point at which an indirect word may be read, by what its tag does; `next` is the
+-- chain from the next point
 abbrev pub chain_by : (Point → Formation) → RegsFields → Point → Move → Formation
 chain_by next g p (Ends last) = ends_plain last
 chain_by next g p (Fails h) = done (Err h)
@@ -153,24 +154,24 @@ chain_by next g p Counts =
     refer (indirect Indirect p p.y) (λ a.
     after_tally p (p.tag % 16) a (p.tag % 16 == indirect_only))
 
--- A 17th indirect word is not read, nor are the rights to it checked: the fault is lockup, at this
--- word.
+-- The halt by a 17th indirect word: a lockup fault at this word. The word is not read, nor are the
+-- rights to it checked.
 abbrev pub lockup : Point → ℕ → Halt
 lockup p word = fault_at lockup_fault (at_point p word)
 
--- the chain from a point at which no more indirect word may be read
+-- the chain from a point at which no indirect word may be read, by what its tag does
 abbrev pub chain_exhausted : Point → Move → Formation
 chain_exhausted p (Ends last) = ends_plain last
 chain_exhausted p (Fails h) = done (Err h)
 chain_exhausted p (Reads word held) = done (Err (lockup p word))
 chain_exhausted p Counts = done (Err (lockup p p.y))
 
--- the chain from a point, with at most n more indirect words
+-- the chain from a point, in which at most n more indirect words may be read
 unfoldable pub chain : ℕ → RegsFields → Point → Formation
 chain zero g p = chain_exhausted p (move_of_point g p)
 chain (suc n) g p = chain_by (chain n g) g p (move_of_point g p)
 
--- the new value of a tally word, as the first claim of the step
+-- the put of the new value of a tally word, which is the first claim of the step
 abbrev pub tally_put : Tally → Put
 tally_put t = record { claim = 0; part = Whole; value = t.word }
 

@@ -29,7 +29,7 @@ pub data Turn (S : Type 0) : Type 0 where
   Goes : Stage S → Turn S
   Closes : Ran (Result ChainEnd Halt) S → Turn S
 
--- the chain continues at the next point, with one more indirect word
+-- the chain continues at this point, after one more indirect word
 abbrev pub goes_on_at : {S : Type 0} → Stage S → Point → Midstep S → Turn S
 goes_on_at s next m = Goes (record { point = next; count = s.count + 1; mid = m })
 
@@ -41,12 +41,12 @@ ends_with end m = Closes (record { value = Ok end; mid = m })
 abbrev pub refused_with : {S : Type 0} → Halt → Midstep S → Turn S
 refused_with h m = Closes (record { value = Err h; mid = m })
 
--- after the odd word of a pair: the next point, or the refusal of this word
+-- what follows the reference to the odd word of a pair: the next point, or the refusal of this word
 abbrev pub turn_odd : {S : Type 0} → Stage S → (ℕ → Point) → Midstep S → Result Answer Fault → Turn S
 turn_odd s next m (Ok b) = goes_on_at s (next (slice_index b.words 0)) m
 turn_odd s next m (Err f) = refused_with (halt.Fault f) m
 
--- after the word that was read: it is plain, or the even word of a pair
+-- what follows a word that was read, by what it is; the odd word of a pair is read too
 abbrev pub turn_found :
     {S : Type 0} → Store S → RegsFields → Stage S → ℕ → Option ℕ → Answer → Midstep S → Found → Turn S
 turn_found o g s word held a m Plain =
@@ -60,7 +60,7 @@ turn_found o g s word held a m Itp =
     turn_odd s (λ odd. itp_point g s.point word held (slice_index a.words 0) odd a.sdw.r1) t.mid
     t.reply
 
--- after the reference to an indirect word: the fault, or what the word is
+-- what follows the reference to an indirect word: as `turn_found`, or the refusal of this word
 abbrev pub turn_even :
     {S : Type 0} → Store S → RegsFields → Stage S → ℕ → Option ℕ → Midstep S → Result Answer Fault
     → Turn S
@@ -68,20 +68,22 @@ turn_even o g s word held m (Ok a) =
     turn_found o g s word held a m (found word (slice_index a.words 0))
 turn_even o g s word held m (Err f) = refused_with (halt.Fault f) m
 
--- what follows at a point that reads an indirect word; a 17th one is not read
+-- what follows a point that reads an indirect word, if one more may be read (true); otherwise the
+-- lockup
 abbrev pub turn_reads : {S : Type 0} → Store S → RegsFields → Stage S → ℕ → Option ℕ → Bool → Turn S
 turn_reads o g s word held true =
     let t = serve o g s.mid (indirect Indirect s.point word) in
     turn_even o g s word held t.mid t.reply
 turn_reads o g s word held false = refused_with (lockup s.point word) s.mid
 
--- after the claim of the tally word: the chain ends, or is refused
+-- what follows the claim of the tally word: the chain ends, or is refused
 abbrev pub turn_claimed : {S : Type 0} → Stage S → Answer → Midstep S → Result Answer Fault → Turn S
 turn_claimed s a m (Ok b) =
     ends_with (tally_end s.point b.first (tally (s.point.tag % 16) (slice_index a.words 0))) m
 turn_claimed s a m (Err f) = refused_with (halt.Fault f) m
 
--- after the tally word: I does not change it, and the other tags reference it as a Write
+-- what follows the read of the tally word: the tag I (true) does not change it, and the other tags
+-- reference it as a Write
 abbrev pub turn_tally_by :
     {S : Type 0} → Store S → RegsFields → Stage S → Answer → Midstep S → Bool → Turn S
 turn_tally_by o g s a m true =
@@ -89,26 +91,27 @@ turn_tally_by o g s a m true =
 turn_tally_by o g s a m false =
     let t = serve o g m (indirect Write s.point s.point.y) in turn_claimed s a t.mid t.reply
 
--- after the read of the tally word: the fault, or as `turn_tally_by`
+-- what follows the reference to the tally word: as `turn_tally_by`, or the refusal of this word
 abbrev pub turn_tally :
     {S : Type 0} → Store S → RegsFields → Stage S → Midstep S → Result Answer Fault → Turn S
 turn_tally o g s m (Ok a) = turn_tally_by o g s a m (s.point.tag % 16 == indirect_only)
 turn_tally o g s m (Err f) = refused_with (halt.Fault f) m
 
--- what follows at a point that reads a tally word, which may be the 16th indirect word at most
+-- what follows a point that reads a tally word, if one more indirect word may be read (true);
+-- otherwise the lockup
 abbrev pub turn_counts : {S : Type 0} → Store S → RegsFields → Stage S → Bool → Turn S
 turn_counts o g s true =
     let t = serve o g s.mid (indirect Indirect s.point s.point.y) in turn_tally o g s t.mid t.reply
 turn_counts o g s false = refused_with (lockup s.point s.point.y) s.mid
 
--- what follows from a point, by what its tag does
+-- what follows a point, by what its tag does
 abbrev pub turn_by : {S : Type 0} → Store S → RegsFields → Stage S → Move → Turn S
 turn_by o g s (Ends last) = ends_with (without_tally last) s.mid
 turn_by o g s (Fails h) = refused_with h s.mid
 turn_by o g s (Reads word held) = turn_reads o g s word held (nat_lt s.count indirect_words)
 turn_by o g s Counts = turn_counts o g s (nat_lt s.count indirect_words)
 
--- what follows from a point
+-- what follows a point
 unfoldable pub turn : {S : Type 0} → Store S → RegsFields → Stage S → Turn S
 turn o g s = turn_by o g s (move_of_point g s.point)
 

@@ -21,11 +21,11 @@ IsPtwWord core dbr a =
     ((seg : ℕ) × IsDirectoryWord dbr seg a)
     ⊎ ((seg : ℕ) × (page : ℕ) × IsPageWord core dbr seg page a)
 
--- a PTW with its used bit turned on, and perhaps its modified bit
+-- `new` is `old` with its used bit turned on, and perhaps its modified bit
 abbrev pub IsMarked : ℕ → ℕ → Type 0
 IsMarked old new = (new ≡ marked_word false old) ⊎ (new ≡ marked_word true old)
 
--- the word is unchanged, or is a PTW with marks turned on
+-- The core word at an address is unchanged, or is a PTW on which marks were turned on.
 abbrev pub IsButMarked : List ℕ → DbrFields → ℕ → ℕ → ℕ → Type 0
 IsButMarked core dbr a old new = (new ≡ old) ⊎ (IsPtwWord core dbr a × IsMarked old new)
 

@@ -44,7 +44,8 @@ use Rattle.m36_model.specs.Transfers.{transfer_and_set_index, transfer_and_set_p
 use Rattle.m36_model.specs.CallReturn.{call, return_to}
 use Rattle.m36_model.specs.Privileged.{load_dbr, store_dbr, load_absolute_address}
 
--- ABSA asks for a core address; no other instruction that uses only its address does
+-- whether an instruction is ABSA, the only one that uses just its address and asks for the core
+-- address
 abbrev pub is_absa : Effect → Bool
 is_absa effect.Absa = true
 is_absa _ = false
@@ -189,12 +190,12 @@ exec effect.Cams n g f o = completes g  -- nothing
 exec effect.Camp n g f o = completes g  -- nothing
 exec effect.Absa n g f o = load_absolute_address o g  -- core address → C(A)0-23, 0 → C(A)24-35
 
--- the result of the code's effect of an instruction, as numbers and lists
+-- the effect of an instruction as the code returns it, as numbers and lists, or its fault
 abbrev pub answer_fields : Result Effect36 Fault → Result EffectFields Fault
 answer_fields (Ok e) = Ok (effect_fields e)
 answer_fields (Err f) = Err f
 
--- a refusal is a fault at the instruction
+-- the effect, or the fault with this number at the instruction
 abbrev pub refused_here : RegsFields → Result EffectFields ℕ → Result EffectFields Fault
 refused_here g (Ok e) = Ok e
 refused_here g (Err number) = Err (fault_here number g)

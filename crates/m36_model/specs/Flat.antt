@@ -16,7 +16,7 @@ pub record Flat : Type 0 where
   pub descriptors : List ℕ
   pub content : ℕ → ℕ → ℕ
 
--- the descriptor of a segment, if it is in bounds and live
+-- the descriptor of a segment, if it is in bounds (true) and live
 abbrev pub flat_sdw_by : Bool → List ℕ → ℕ → Result SdwFields Refusal
 flat_sdw_by true words seg = sdw_words (slice_get words (2 * seg)) (slice_get words (2 * seg + 1))
 flat_sdw_by false words seg = Err (violation out_of_segment_bounds)
@@ -50,7 +50,7 @@ unfoldable pub flat_put : Flat → List Change → Flat
 flat_put s [] = s
 flat_put s (p ∷ puts) = flat_put (flat_put_one s p.spot p.part p.value) puts
 
--- the table words of a segment: its descriptor, if it is in bounds
+-- the table words of a segment: its descriptor, if it is in bounds (true)
 abbrev pub flat_table_by : Bool → List ℕ → ℕ → SegTable
 flat_table_by true words seg =
     record {

@@ -88,16 +88,17 @@ pub record JointFound : Type 0 where
   pub condition : ℕ
   pub place : ℕ
 
--- findings of an audit, as those of a process or of the whole
+-- findings of an audit as joint findings, of a process or of none
 abbrev pub found_of : Option ℕ → List (ℕ × ℕ) → List JointFound
 found_of process findings =
     map (λ f. record { process = process; condition = f.0; place = f.1 }) findings
 
--- findings of the audit of process i
+-- findings of the audit of process i as joint findings
 abbrev pub of_process : ℕ → List (ℕ × ℕ) → List JointFound
 of_process i findings = found_of (Some i) findings
 
--- the finding of a condition between processes
+-- the finding of a condition between processes as a list of one; an empty list if the condition
+-- holds
 abbrev pub between : ℕ → Option ℕ → List JointFound
 between condition place = found_of None (noted condition place)
 

@@ -34,8 +34,9 @@ pub record IsCalled (g : RegsFields) (f : FinalFields) (o : OperandFields)
   pub pointer : HasPointers g → slice_get x.regs.pr 7 ≡ Some (stack_pointer g o.ring)
   pub overflow : x.overflow ≡ false
 
--- Only CALL6 and RTCD change the ring, and RTCD does not enter a ring below that of the address.
--- Only LDBR changes the DBR. An effect gives as many words to write as its operand kind requires.
+-- What holds of every effect. Only CALL6 and RTCD change the ring, and RTCD does not enter a ring
+-- below that of the address. Only LDBR changes the DBR. An effect gives as many words to write as
+-- its operand kind requires.
 pub record IsEffect (e : Effect) (g : RegsFields) (f : FinalFields) (o : OperandFields)
     (x : EffectFields) : Type 0 where
   pub ring :
@@ -64,7 +65,8 @@ pub record IsAbove {S : Type 0} (o : Store S) (T : Tables) (r : ℕ) (s : State 
   pub tables : tables_of o s ≡ T
   pub low : r ≤ s.regs.ppr.prr
 
--- ring r can see a segment that is read, and can change a segment that is written
+-- Whether ring r may make a reference of this kind to a segment: it can see the segment or, for a
+-- Write, change it.
 abbrev pub MayRefer : {S : Type 0} → Store S → ℕ → State S → ℕ → Kind → Type 0
 MayRefer o r s seg reference.Fetch = InSight o s r seg
 MayRefer o r s seg reference.Indirect = InSight o s r seg
@@ -75,8 +77,8 @@ MayRefer o r s seg reference.Write = InReach o s r seg
 abbrev pub IsWithin : {S : Type 0} → Store S → ℕ → State S → Reference → Type 0
 IsWithin o r s e = MayRefer o r s e.at.seg e.kind
 
--- Each completed reference of a step is to a segment that ring r can see or, for a Write, can
--- change.
+-- Each completed reference of a step in ring r or above is to a segment that ring r can see or, for
+-- a Write, can change.
 abbrev pub SightLaw : {S : Type 0} → Store S → Tables → Type 0
 SightLaw {S} o T =
     (r : ℕ) (s : State S) → IsAbove o T r s → Each (IsWithin o r s) (record_of o s).refs.items

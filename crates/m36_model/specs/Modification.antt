@@ -33,19 +33,19 @@ pub record Point : Type 0 where
 abbrev pub here : RegsFields → AtFields
 here g = record { seg = g.ppr.psr; word = g.ppr.ic; ring = g.ppr.prr }
 
--- a fault at a place that is not an access violation
+-- a fault at a word, other than an access violation
 abbrev pub plain_fault : ℕ → AtFields → Fault
 plain_fault number at = fault_by (plain_refusal number) at
 
--- such a fault, as what ends a step
+-- the halt by a fault at a word, other than an access violation
 abbrev pub fault_at : ℕ → AtFields → Halt
 fault_at number at = halt.Fault (plain_fault number at)
 
--- a fault at the instruction
+-- a fault at the instruction, other than an access violation
 abbrev pub fault_here : ℕ → RegsFields → Fault
 fault_here number g = plain_fault number (here g)
 
--- a fault at the instruction, as what ends a step
+-- the halt by a fault at the instruction, other than an access violation
 abbrev pub halt_here : ℕ → RegsFields → Halt
 halt_here number g = halt.Fault (fault_here number g)
 
@@ -54,7 +54,7 @@ halt_here number g = halt.Fault (fault_here number g)
 abbrev pub pair_ring : ℕ → ℕ → ℕ → ℕ
 pair_ring trr r1 named = max (max trr r1) named
 
--- the value for a pointer register that does not exist
+-- the result for the number of a pointer register that does not exist
 abbrev pub no_ptr : PtrFields
 no_ptr = record { seg = 0; ring = 0; word = 0; bit = 0 }
 
@@ -82,7 +82,7 @@ direct_upper = 3
 abbrev pub direct_lower : ℕ
 direct_lower = 7
 
--- Td is du or dl
+-- whether Td is du or dl
 abbrev pub is_direct : ℕ → Bool
 is_direct td = (td == direct_upper) || (td == direct_lower)
 
@@ -97,7 +97,7 @@ pub data Move : Type 0 where
   -- the tally word at y is read
   Counts : Move
 
--- a word of the point's segment, in the ring of the point
+-- a word of the point's segment, referenced in the ring of the point
 abbrev pub at_point : Point → ℕ → AtFields
 at_point p word = record { seg = p.seg; word = word; ring = p.ring }
 
@@ -152,7 +152,7 @@ second_fault_tag = 0o6
 abbrev pub third_fault_tag : ℕ
 third_fault_tag = 0o7
 
--- Td is that of a tag of a pair; these have Tm IT too
+-- whether Td is that of the tag ITP or ITS; these tags have Tm IT too
 abbrev pub is_pair_tag : ℕ → Bool
 is_pair_tag td = (td == itp_tag % 16) || (td == its_tag % 16)
 
@@ -169,7 +169,7 @@ move_indirect_then_tally g p td =
     else if is_tally_tag td then Counts
     else Fails (halt.Stop stop.Tag)
 
--- A tag has Tm in its first two bits (R, RI, IT, IR) and Td in the other four.
+-- What the tag of a point does. Its first two bits are Tm (R, RI, IT, IR), the other four are Td.
 unfoldable pub move_of_point : RegsFields → Point → Move
 move_of_point g p =
     let tm = p.tag / 16 in

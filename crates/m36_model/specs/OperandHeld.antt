@@ -6,27 +6,27 @@ use Rattle.m36_inst.specs.declared.operand.Operand.TheVariants as operand
 use Rattle.m36_model.specs.declared.effects.Held.{Held}
 use Rattle.m36_model.specs.declared.effects.Held.TheVariants as held
 
--- the effect gets no word
+-- whether the effect gets no word
 abbrev pub is_empty : Held → Bool
 is_empty held.Empty = true
 is_empty _ = false
 
--- the effect gets one word
+-- whether the effect gets one word
 abbrev pub is_word : Held → Bool
 is_word (held.One w) = true
 is_word _ = false
 
--- the effect gets a pair
+-- whether the effect gets a pair
 abbrev pub is_pair : Held → Bool
 is_pair (held.Two p) = true
 is_pair _ = false
 
--- the effect gets a block
+-- whether the effect gets a block of 16 words
 abbrev pub is_block : Held → Bool
 is_block (held.Block b) = true
 is_block _ = false
 
--- the words have the form that this kind of operand requires
+-- whether the words have the form that this kind of operand requires
 abbrev pub holds_for : Operand → Held → Bool
 holds_for operand.R got = is_word got
 holds_for operand.Rw got = is_word got
@@ -35,6 +35,6 @@ holds_for operand.R2 got = is_pair got
 holds_for operand.R16 got = is_block got
 holds_for _ got = is_empty got
 
--- the words have this form, as a property
+-- `holds_for` as a proposition
 abbrev pub HoldsFor : Operand → Held → Type 0
 HoldsFor kind got = IsTrue (holds_for kind got)

@@ -78,19 +78,18 @@ pub record IsPagedStep (frames : ℕ) (kept : ℕ → ℕ → ℕ) (s : State (L
       (seg page : ℕ) → IsPage s.store seg page
       → page_word (state_after core_store s).store seg page ≡ page_word s.store seg page
 
--- Every step of a booted image with its own DBR is such a step.
+-- `IsPagedStep` holds of every step of a booted image with its own DBR.
 abbrev pub PagedStepLaw : Type 0
 PagedStepLaw =
     (frames : ℕ) (kept : ℕ → ℕ → ℕ) (s : State (List ℕ)) → s.regs.dbr ≡ booted_dbr
     → IsLaid s.store frames → IsPagedStep frames kept s
 
--- After pages have moved, core is that of the same booted image, and represents the same flat
--- memory.
+-- Core is still that of a booted image, and represents the same flat memory.
 pub record IsSameImage (frames : ℕ) (old new : Paged) : Type 0 where
   pub laid : IsLaid new.core frames
   pub flat : flat_of new ≡ flat_of old
 
--- After pages have moved, the image is the same.
+-- After pages of a booted core have moved, `IsSameImage` holds.
 abbrev pub MovedLaw : Type 0
 MovedLaw =
     (frames : ℕ) (old new : Paged) → IsLaid old.core frames → IsMoved frames old new

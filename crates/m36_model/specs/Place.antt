@@ -12,11 +12,11 @@ use Rattle.m36_desc.specs.Violations.{out_of_segment_bounds}
 use Rattle.m36_model.specs.Store.{Spot, Core_word, violation, plain_refusal, claims_words}
 use Rattle.m36_model.specs.declared.outcome.Refusal.{Refusal}
 
--- a table word, or the word itself, is past the end of core
+-- the store fault: a table word, or the word itself, is past the end of core
 abbrev pub store_fault : Refusal
 store_fault = plain_refusal 1
 
--- the directed fault with the number in FC, of a descriptor or PTW whose F is off
+-- the directed fault of a descriptor or PTW whose F is off; its number is in FC
 abbrev pub directed : ℕ → Refusal
 directed fc = plain_refusal (directed_fault fc)
 
@@ -33,12 +33,13 @@ frame_named p = p.addr / 16
 abbrev pub frame_at : PtwFields → ℕ
 frame_at p = frame_named p * 1024
 
--- the address of a word of a page, by its PTW, whose F is on or not
+-- the address of a word of a page, if F of its PTW is on (true); otherwise the directed fault
 abbrev pub in_frame_by : Bool → PtwFields → ℕ → Result ℕ Refusal
 in_frame_by true p offset = Ok (wrapped (frame_at p + offset))
 in_frame_by false p offset = Err (directed p.fc)
 
--- the address of a word of a page, or a store fault if its PTW is past the end of core
+-- The address of a word of a page, by its PTW. A store fault if the PTW is past the end of core
+-- (None), and its directed fault if F is off.
 abbrev pub in_frame : Option PtwFields → ℕ → Result ℕ Refusal
 in_frame None offset = Err store_fault
 in_frame (Some p) offset = in_frame_by p.f p offset
@@ -47,13 +48,13 @@ in_frame (Some p) offset = in_frame_by p.f p offset
 abbrev pub ptw_at : List ℕ → ℕ → Option PtwFields
 ptw_at core a = option_map ptw_of (slice_get core a)
 
--- A segment, or the descriptor segment, is contiguous or paged. `addr` is the address of its first
--- word, or of its page table. This is the address of the PTW for a page.
+-- The address of the PTW for a page, where `addr` is the address of the page table: that of a
+-- segment, or that of the descriptor segment.
 abbrev pub ptw_from : ℕ → ℕ → ℕ
 ptw_from addr page = wrapped (addr + page)
 
--- the address of word w: by `addr` if the segment is contiguous, and otherwise by the PTW of its
--- page
+-- The address of word w of a segment or of the descriptor segment. `addr` is that of its first
+-- word, if it is contiguous (true); otherwise p is the PTW of the page of the word.
 abbrev pub place_from : Bool → ℕ → ℕ → Option PtwFields → Result ℕ Refusal
 place_from true addr w p = Ok (wrapped (addr + w))
 place_from false addr w p = in_frame p (w % 1024)
@@ -74,7 +75,8 @@ last_page d = d.bound / 64
 abbrev pub page_count : SdwFields → ℕ
 page_count d = last_page d + 1
 
--- the descriptor of the segment is within the bound, and the segment number has 15 bits
+-- whether the descriptor of a segment is within the bound of the descriptor segment, and the
+-- segment number has 15 bits
 abbrev pub in_bounds : DbrFields → ℕ → Bool
 in_bounds dbr seg = nat_lt (2 * seg) (16 * (dbr.bnd + 1)) && nat_lt seg (2 ^ 15)
 
@@ -82,7 +84,8 @@ in_bounds dbr seg = nat_lt (2 * seg) (16 * (dbr.bnd + 1)) && nat_lt seg (2 ^ 15)
 abbrev pub ring_stack : DbrFields → ℕ → ℕ
 ring_stack dbr ring = 8 * dbr.stack + ring
 
--- the address of the descriptor's even word
+-- The core address of the even word of a descriptor, if it is in bounds (first argument). `unpaged`
+-- and p, the PTW of its page, are those of the descriptor segment.
 abbrev pub sdw_place_by : Bool → Bool → DbrFields → ℕ → Option PtwFields → Result ℕ Refusal
 sdw_place_by false unpaged dbr seg p = Err (violation out_of_segment_bounds)
 sdw_place_by true unpaged dbr seg p = place_from unpaged dbr.addr (2 * seg) p
@@ -92,12 +95,13 @@ abbrev pub sdw_place : List ℕ → DbrFields → ℕ → Result ℕ Refusal
 sdw_place core dbr seg =
     sdw_place_by (in_bounds dbr seg) dbr.unpaged dbr seg (ptw_at core (directory_at dbr seg))
 
--- The descriptor in two words, if F is on. Both words have to be in core; this is checked before F.
+-- the descriptor in two words, if its F is on (true); otherwise its directed fault
 abbrev pub live_by : Bool → ℕ → ℕ → Result SdwFields Refusal
 live_by true even odd = Ok (sdw_of even odd)
 live_by false even odd = Err (directed (sdw_of even odd).fc)
 
--- the descriptor in two words, each of which may be past the end of core
+-- The descriptor in two words. A store fault if one of them is past the end of core (None); this is
+-- checked before F.
 abbrev pub sdw_words : Option ℕ → Option ℕ → Result SdwFields Refusal
 sdw_words None odd = Err store_fault
 sdw_words (Some even) None = Err store_fault
@@ -112,12 +116,12 @@ sdw_at core (Ok a) = sdw_words (slice_get core a) (slice_get core (wrapped (a + 
 unfoldable pub core_sdw : List ℕ → DbrFields → ℕ → Result SdwFields Refusal
 core_sdw core dbr seg = sdw_at core (sdw_place core dbr seg)
 
--- the address as a spot, if it is in core
+-- an address as a spot, if it is in core (true); otherwise the store fault
 abbrev pub inside_core_by : Bool → ℕ → Result Spot Refusal
 inside_core_by true a = Ok (Core_word a)
 inside_core_by false a = Err store_fault
 
--- an address as a spot, if it is below the size of core
+-- an address as a spot; a store fault if it is not below the size of core
 abbrev pub inside_core : ℕ → Result ℕ Refusal → Result Spot Refusal
 inside_core size (Ok a) = inside_core_by (nat_lt a size) a
 inside_core size (Err e) = Err e
@@ -161,7 +165,7 @@ abbrev pub marked_word : Bool → ℕ → ℕ
 marked_word true w = with_modified (with_used w)
 marked_word false w = with_used w
 
--- a Write sets the modified bit in the PTW of the page that it writes
+-- whether a reference of this kind sets the modified bit of the page to which it refers
 abbrev pub is_write : RequestKind → Bool
 is_write kind = claims_words kind
 
@@ -180,7 +184,8 @@ page_marks write w (Err e) = []
 page_marks write w (Ok d) =
     marks_passed d.unpaged (page_at d (w / 1024)) write
 
--- the marks of a reference: one in each PTW through which it passes
+-- the marks of a reference: one in each PTW through which it passes, first that of the descriptor
+-- segment
 abbrev pub marks_by : DbrFields → ℕ → Bool → ℕ → Result SdwFields Refusal → List Mark
 marks_by dbr seg write w sdw = directory_marks dbr seg ++ page_marks write w sdw
 

@@ -7,11 +7,11 @@ use Rattle.m36_model.specs.Registers.{RegsFields}
 use Rattle.m36_model.specs.Results.{OperandFields, EffectFields, A, completes, completes_with}
 use Rattle.m36_model.specs.Results.{becomes}
 
--- LDBR: the fields of the pair to the descriptor segment base register
+-- LDBR: the fields of the pair to the DBR
 unfoldable pub load_dbr : OperandFields → RegsFields → Result EffectFields ℕ
 load_dbr o g = completes (record g { dbr = dbr_of (slice_index o.got 0) (slice_index o.got 1) })
 
--- SDBR: the fields of the register to the pair, and zeros to the rest
+-- SDBR: the fields of the DBR to the pair, and zeros to the rest
 unfoldable pub store_dbr : RegsFields → Result EffectFields ℕ
 store_dbr g = completes_with g (dbr_even g.dbr ∷ dbr_odd g.dbr ∷ [])
 

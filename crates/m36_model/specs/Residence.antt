@@ -17,11 +17,12 @@ pub record Paged : Type 0 where
   pub core : List ℕ
   pub kept : ℕ → ℕ → ℕ
 
--- the refusal of a page that is in no frame
+-- the refusal of a word whose page is in no frame
 abbrev pub absence : Refusal
 absence = directed missing_page_code
 
--- The content of a word: the word in core if its page is in a frame, and otherwise its kept word.
+-- The content of a word by its place: the word in core, or its kept word if its page is in no
+-- frame. It is 0 if the word has no place for another reason.
 abbrev pub word_at : Paged → ℕ → ℕ → Result Spot Refusal → ℕ
 word_at m seg w (Ok spot) = core_word m.core spot
 word_at m seg w (Err why) = if why.number == missing_page then m.kept seg w else 0
@@ -55,7 +56,7 @@ pub record IsResidence (core : List ℕ) (frames : ℕ) (frame_of : ℕ → ℕ 
       (seg page seg' page' frame : ℕ) → frame_of seg page ≡ Some frame
       → frame_of seg' page' ≡ Some frame → (seg ≡ seg') × (page ≡ page')
 
--- a word by the frame of its page, or its kept word if there is no frame
+-- a word by the frame of its page, if it is in one; otherwise its kept word, which is given
 abbrev pub word_in : Option ℕ → List ℕ → ℕ → ℕ → ℕ
 word_in (Some frame) core w kept = slice_index core (1024 * frame + w % 1024)
 word_in None core w kept = kept

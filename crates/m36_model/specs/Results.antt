@@ -67,7 +67,7 @@ effect_fields e = record { regs = e.regs; put = words_of_held e.put; overflow = 
 abbrev pub word : OperandFields → ℕ
 word o = slice_index o.got 0
 
--- bits 0 to 17 of the operand word
+-- bits 0 to 17 of the operand word Y
 abbrev pub upper : OperandFields → ℕ
 upper o = field (word o) 0 18
 
@@ -99,14 +99,14 @@ pub data Working : Type 0 where
   AQ : Working
   X : (n : ℕ) → Working
 
--- the width in bits
+-- the width of a working register, in bits
 abbrev pub width : Working → ℕ
 width A = 36
 width Q = 36
 width AQ = 72
 width (X n) = 18
 
--- half of the range: 2^(width - 1)
+-- half of the range of a working register: 2^(width - 1)
 abbrev pub half : Working → ℕ
 half A = 2 ^ 35
 half Q = 2 ^ 35
@@ -117,7 +117,7 @@ half (X n) = 2 ^ 17
 abbrev pub aq_pair : RegsFields → Pair
 aq_pair g = record { even = g.a; odd = g.q }
 
--- the number in a register
+-- the number that a working register holds
 abbrev pub value : Working → RegsFields → ℕ
 value A g = g.a
 value Q g = g.q
@@ -132,7 +132,7 @@ upper_word v = v / 2 ^ 36
 abbrev pub lower_word : ℕ → ℕ
 lower_word v = v % 2 ^ 36
 
--- the registers with another number in a register
+-- the registers with another number in a working register
 unfoldable pub with_value : Working → ℕ → RegsFields → RegsFields
 with_value A v g = record g { a = v }
 with_value Q v g = record g { q = v }
@@ -146,15 +146,16 @@ operand Q o = word o
 operand AQ o = pair o
 operand (X n) o = upper o
 
--- the words of a number of the register's width
+-- a number of the register's width as words to write; that of an index register is right-justified
+-- in its word
 abbrev pub words : Working → ℕ → List ℕ
 words A v = v ∷ []
 words Q v = v ∷ []
 words AQ v = upper_word v ∷ lower_word v ∷ []
 words (X n) v = v ∷ []
 
--- Zero is on exactly if the number is 0, and negative exactly if its first bit is on. Indicators
--- that are not named do not change.
+-- The indicators after a number: zero is on exactly if it is 0, and negative exactly if its first
+-- bit is on. Here and below, indicators that are not named are unchanged.
 unfoldable pub zn : ℕ → ℕ → Ind → Ind
 zn h v i =
     let s = result_of h v false false in
@@ -207,11 +208,12 @@ next_word g = (g.ppr.ic + 1) % 2 ^ 18
 unfoldable pub moved_on : RegsFields → RegsFields
 moved_on g = record g { ppr = record g.ppr { ic = next_word g } }
 
--- a result that consists of the new registers
+-- the effect with these registers, which writes nothing and does not overflow
 abbrev pub leaves : RegsFields → Result EffectFields ℕ
 leaves g = Ok (record { regs = g; put = []; overflow = false })
 
--- new registers, with the instruction counter at the next instruction
+-- the effect with these registers, except that the instruction counter advances to the next
+-- instruction
 abbrev pub completes : RegsFields → Result EffectFields ℕ
 completes g = leaves (moved_on g)
 
@@ -224,23 +226,24 @@ completes_or_overflows g put overflow =
 abbrev pub completes_with : RegsFields → List ℕ → Result EffectFields ℕ
 completes_with g put = completes_or_overflows g put false
 
--- a register and the indicators with new values
+-- the registers with a new value in a register, and with these indicators
 abbrev pub takes : Working → ℕ → Ind → RegsFields → RegsFields
 takes r v i g = with_indicators i (with_value r v g)
 
--- zero and negative are set by a number; h is half of its range
+-- the registers with zero and negative set by a number; h is half of its range
 abbrev pub tested : ℕ → ℕ → RegsFields → RegsFields
 tested h v g = with_indicators (zn h v g.ind) g
 
--- a register with a new value, by which zero and negative are set
+-- the registers with a new value in a register, and with zero and negative set by it
 abbrev pub takes_tested : Working → ℕ → RegsFields → RegsFields
 takes_tested r v g = takes r v (zn (half r) v g.ind) g
 
--- an effect that gives a register a value, by which zero and negative are set
+-- the effect that puts a value into a register and sets zero and negative by it
 abbrev pub becomes : Working → ℕ → RegsFields → Result EffectFields ℕ
 becomes r v g = completes (takes_tested r v g)
 
--- a register gets the negative of a value, by which zero, negative and overflow are set
+-- the effect that puts the negative of a value into a register, and sets zero, negative and
+-- overflow by it
 abbrev pub becomes_negative : Working → ℕ → RegsFields → Result EffectFields ℕ
 becomes_negative r v g =
     let s = negation (half r) v in

@@ -12,13 +12,13 @@ pub record Visited (S : Type 0) : Type 0 where
   pub told : StepRecord
   pub after : State S
 
--- the run continues after this outcome
+-- whether the run continues after this outcome
 abbrev pub is_next : Outcome → Bool
 is_next Next = true
 is_next (Faulted f) = false
 is_next (Stopped s) = false
 
--- a list, or the empty list
+-- the list if the condition holds, and otherwise the empty list
 abbrev pub only_if : {A : Type 0} → Bool → List A → List A
 only_if true xs = xs
 only_if false xs = []

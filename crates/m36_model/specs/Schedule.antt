@@ -37,15 +37,16 @@ abbrev pub event : {S : Type 0} → Store S → Processes S → ℕ → RegsFiel
 event o s i g =
     record { process = i; before = s; told = record_of o (process_of s g); after = stepped o s i g }
 
--- The events of a schedule, which is a list of process numbers. Each event is a step of its
--- process, even if this has stopped or faulted before. A number that no process has is no event.
+-- The events of a schedule that begins with process i: a step of this process, and then the events
+-- of `rest`. A number that no process has (None) is no event.
 abbrev pub events_by :
     {S : Type 0} → Store S → Processes S → ℕ → Option RegsFields → (Processes S → List (Event S))
     → List (Event S)
 events_by o s i None rest = rest s
 events_by o s i (Some g) rest = event o s i g ∷ rest (stepped o s i g)
 
--- the events of a schedule
+-- The events of a schedule, which is a list of process numbers. Each event is a step of its
+-- process, even if this has stopped or faulted before.
 unfoldable pub events : {S : Type 0} → Store S → List ℕ → Processes S → List (Event S)
 events o [] s = []
 events o (i ∷ schedule) s = events_by o s i (slice_get s.regs i) (events o schedule)

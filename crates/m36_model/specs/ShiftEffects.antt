@@ -8,7 +8,7 @@ use Rattle.m36_model.specs.Results.{EffectFields, Working, half, width, value, t
 use Rattle.m36_model.specs.Results.{becomes}
 use Rattle.m36_model.specs.declared.registers.Ind.{Ind}
 
--- indicators with this carry
+-- the indicators with this carry
 abbrev pub with_carry : Bool → Ind → Ind
 with_carry c i = record i { carry = c }
 

@@ -14,12 +14,12 @@ count_of address = address % 128
 unfoldable pub left_shift : ℕ → ℕ → ℕ → ℕ
 left_shift k v c = v * 2 ^ c % 2 ^ k
 
--- the first c + 1 bits of the number followed by zeros, as a number
+-- the first c + 1 bits of a number of k bits that zeros follow, as a number
 unfoldable pub first_bits : ℕ → ℕ → ℕ → ℕ
 first_bits k v c = v * 2 ^ (c + 1) / 2 ^ k
 
--- Carry is on exactly if these bits are neither all zeros nor all ones: the sign changes during the
--- shift.
+-- The carry of a left shift by c: on exactly if the first c + 1 bits are neither all zeros nor all
+-- ones, so that the sign changes during the shift.
 unfoldable pub left_shift_carry : ℕ → ℕ → ℕ → Bool
 left_shift_carry k v c = not (first_bits k v c == 0) && not (first_bits k v c == 2 ^ (c + 1) - 1)
 

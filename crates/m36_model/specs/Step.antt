@@ -58,17 +58,19 @@ pub record Performed : Type 0 where
 abbrev pub Operation : Type 0
 Operation = Act (Result Performed Halt)
 
--- puts of these words into the claimed words from number `first` on
+-- puts that write these words, or the same part of each, into the claimed words from number `first`
+-- on
 abbrev pub puts_from : Part → ℕ → List ℕ → List Put
 puts_from part first [] = []
 puts_from part first (w ∷ words) =
     record { claim = first; part = part; value = w } ∷ puts_from part (first + 1) words
 
--- the tally word is written first, and then the words of the operand
+-- the puts of a step: the new tally word, if there is one, and then the words of the operand
 abbrev pub puts_with : List Put → Part → ℕ → List ℕ → List Put
 puts_with pending part first words = pending ++ puts_from part first words
 
--- an operation by the result of its effect; a refusal is a fault at the instruction
+-- The result of an operation, from that of its effect. A refusal of the effect is a fault at the
+-- instruction.
 abbrev pub performed :
     RegsFields → ChainEnd → Part → ℕ → Result EffectFields ℕ → Result Performed Halt
 performed g c part first (Ok e) =
@@ -79,7 +81,7 @@ performed g c part first (Ok e) =
     })
 performed g c part first (Err number) = Err (halt_here number g)
 
--- the tally runout indicator after a chain that may have set it
+-- the tally runout indicator after a chain, which may have set it (Some)
 abbrev pub tally_by : Bool → Option Bool → Bool
 tally_by old None = old
 tally_by old (Some b) = b
@@ -92,26 +94,27 @@ with_tally runout g = record g { ind = record g.ind { tally = runout } }
 unfoldable pub tallied : RegsFields → ChainEnd → RegsFields
 tallied g c = with_tally (tally_by g.ind.tally c.runout) g
 
--- the effect, once the operand is known; tally runout is set before it
+-- The operation that performs the effect with an operand that is known. The effect sees tally
+-- runout as the chain has set it.
 abbrev pub perform : Effect → ℕ → RegsFields → ChainEnd → Part → ℕ → OperandFields → Operation
 perform e n g c part first o = done (performed g c part first (exec e n (tallied g c) c.last o))
 
--- the operand of an effect that gets none
+-- the operand of an effect that gets no word, ring or address
 abbrev pub no_operand : OperandFields
 no_operand = words_only []
 
--- the word number with the low bits dropped for a pair or a block, so that it is a multiple of
--- count
+-- the word number rounded down to a multiple of count, which is 1, 2 or 16: a pair or a block
+-- begins there
 abbrev pub aligned : ℕ → ℕ → ℕ
 aligned zero w = w
 aligned (suc zero) w = w
 aligned (suc (suc n)) w = w - w % suc (suc n)
 
--- a place with its word number aligned in this way
+-- a place with its word number rounded down to a multiple of count
 abbrev pub aligned_at : ℕ → AtFields → AtFields
 aligned_at count at = record { seg = at.seg; word = aligned count at.word; ring = at.ring }
 
--- a reference to `count` words at the end of the chain; it sees the new tally word
+-- a request for `count` words at the end of the chain; a read sees the new tally word
 abbrev pub request_at : RequestKind → ChainEnd → ℕ → Request
 request_at kind c count =
     record {
@@ -121,66 +124,71 @@ request_at kind c count =
       at = aligned_at count c.last.at;
     }
 
--- the operand of an effect, from the answer to its reference: the word that is read
+-- what the effect gets of the answer to a read of one word: the word
 abbrev pub got_word : Answer → OperandFields
 got_word a = words_only a.words
 
--- for a pair or a block, its words and R1 of their segment
+-- what the effect gets of the answer to a read of a pair or a block: its words, and R1 of their
+-- segment
 abbrev pub got_words : Answer → OperandFields
 got_words a = words_in_ring a.words a.sdw.r1
 
--- for ABSA, the core address
+-- what ABSA gets of the answer to its Locate: the core address
 abbrev pub got_place : Answer → OperandFields
 got_place a = place_only a.place
 
--- for a transfer, nothing
+-- what a transfer gets of the answer to the check of its target: nothing
 abbrev pub got_nothing : Answer → OperandFields
 got_nothing a = no_operand
 
--- for a call, the new ring
+-- what CALL6 gets of the answer to the check of its target: the new ring, for a reference in ring
+-- trr
 abbrev pub got_ring : ℕ → Answer → OperandFields
 got_ring trr a = ring_only (ring_called a.sdw trr)
 
--- reads a word
+-- the operation that reads one word and performs the effect with it
 abbrev pub reading_word : Effect → ℕ → RegsFields → ChainEnd → Operation
 reading_word e n g c =
     refer (request_at Read c 1) (λ a. perform e n g c Whole 0 (got_word a))
 
--- reads a pair or a block
+-- the operation that reads a pair or a block and performs the effect with it and with R1 of its
+-- segment
 abbrev pub reading_words : Effect → ℕ → RegsFields → ChainEnd → ℕ → Operation
 reading_words e n g c count =
     refer (request_at Read c count) (λ a. perform e n g c Whole 0 (got_words a))
 
--- writes words, or a half of one word
+-- the operation that claims words, or a half of one word, and performs the effect, which gives
+-- their values
 abbrev pub writing : Effect → ℕ → RegsFields → ChainEnd → ℕ → Part → Operation
 writing e n g c count part =
     refer (request_at Write c count) (λ a. perform e n g c part a.first no_operand)
 
--- reads a word and then writes it: two references
+-- the operation that reads a word, claims the same word, and performs the effect: two references
 abbrev pub changing : Effect → ℕ → RegsFields → ChainEnd → Part → Operation
 changing e n g c part =
     refer (request_at Read c 1) (λ a.
     refer (request_at Write c 1) (λ b.
     perform e n g c part b.first (got_word a)))
 
--- uses only the address; ABSA also asks for its core address
+-- The operation that performs the effect with the address alone. For ABSA (true), the effect also
+-- gets the core address.
 abbrev pub addressing : Effect → ℕ → RegsFields → ChainEnd → Bool → Operation
 addressing e n g c false = perform e n g c Whole 0 no_operand
 addressing e n g c true =
     refer (request_at Locate c 1) (λ a. perform e n g c Whole 0 (got_place a))
 
--- examines the target of a transfer, if the transfer is taken
+-- the operation of a transfer: examines the target only if the transfer is taken (true)
 abbrev pub transferring : Effect → ℕ → RegsFields → ChainEnd → Bool → Operation
 transferring e n g c false = perform e n g c Whole 0 no_operand
 transferring e n g c true =
     refer (request_at Transfer c 1) (λ a. perform e n g c Whole 0 (got_nothing a))
 
--- CALL6 examines its target, whose descriptor gives the new ring
+-- the operation of CALL6: examines the target, whose descriptor gives the new ring
 abbrev pub calling : Effect → ℕ → RegsFields → ChainEnd → Operation
 calling e n g c =
     refer (request_at Call c 1) (λ a. perform e n g c Whole 0 (got_ring c.last.at.ring a))
 
--- references the operand by its kind, if it is not direct
+-- the operation of an instruction whose operand is not direct, by how it references its operand
 abbrev pub by_kind : Effect → ℕ → RegsFields → ChainEnd → Operand → Operation
 by_kind e n g c kind.R = reading_word e n g c
 by_kind e n g c kind.R2 = reading_words e n g c 2
@@ -197,33 +205,34 @@ by_kind e n g c kind.T = transferring e n g c (is_taken e (tallied g c))
 by_kind e n g c kind.N = perform e n g c Whole 0 no_operand
 by_kind e n g c kind.Call6 = calling e n g c
 
--- A direct operand is the operand word of an instruction that reads one word. NOP accepts one and
--- does not use it.
+-- The words that the effect gets of the direct operand w. NOP accepts one and does not use it.
 abbrev pub direct_word : Operand → ℕ → List ℕ
 direct_word kind.R w = w ∷ []
 direct_word _ w = []
 
--- the operand of a direct operand: itself, if the instruction accepts one
+-- what the effect gets of the direct operand w, if the instruction accepts one (true); otherwise an
+-- illegal procedure
 abbrev pub takes_word : Effect → RegsFields → ℕ → Bool → Result OperandFields Fault
 takes_word e g w true = Ok (words_only (direct_word (operand_of e) w))
 takes_word e g w false = Err (fault_here illegal_procedure g)
 
--- what follows with this operand, or the fault
+-- performs the effect with this operand, or ends with the fault
 abbrev pub with_operand :
     Effect → ℕ → RegsFields → ChainEnd → Result OperandFields Fault → Operation
 with_operand e n g c (Ok o) = perform e n g c Whole 0 o
 with_operand e n g c (Err f) = done (Err (halt.Fault f))
 
--- performs the effect with a direct operand, if the instruction accepts one
+-- the operation with the direct operand w; an illegal procedure unless the instruction accepts one
+-- (true)
 abbrev pub by_direct : Effect → ℕ → RegsFields → ChainEnd → ℕ → Bool → Operation
 by_direct e n g c w taken = with_operand e n g c (takes_word e g w taken)
 
--- performs the effect with the operand at the end of the chain, or with a direct one
+-- the operation with a direct operand (Some), or with the operand at the end of the chain (None)
 abbrev pub operate_on : Effect → ℕ → RegsFields → ChainEnd → Option ℕ → Operation
 operate_on e n g c None = by_kind e n g c (operand_of e)
 operate_on e n g c (Some w) = by_direct e n g c w (takes_direct e)
 
--- references the operand, and then performs the effect
+-- The operation of an instruction: references its operand, and then performs the effect.
 unfoldable pub operate : Effect → ℕ → RegsFields → ChainEnd → Operation
 operate e n g c = operate_on e n g c c.last.direct
 
@@ -241,18 +250,18 @@ abbrev pub outcome_of : Halt → Outcome
 outcome_of (halt.Fault f) = Faulted f
 outcome_of (halt.Stop s) = Stopped s
 
--- A step that is refused leaves the registers unchanged, and writes nothing.
+-- The end of a step that is refused or stops: the registers are unchanged, and nothing is written.
 abbrev pub halted : RegsFields → Option ℕ → Option FinalFields → Halt → Act Ending
 halted g word at h =
     done (record { word = word; at = at; after = g; puts = []; outcome = outcome_of h })
 
--- A step that has turned the overflow indicator on ends with an overflow fault, unless the overflow
--- mask is on. Its effect is kept.
+-- The outcome of a step whose effect happened: an overflow fault (true), or the next instruction.
 abbrev pub outcome_by : Bool → RegsFields → Outcome
 outcome_by true g = Faulted (fault_here overflow_fault g)
 outcome_by false g = Next
 
--- the outcome of a step whose effect happened
+-- The outcome of a step whose effect happened. It is an overflow fault if the effect has turned the
+-- overflow indicator on and the overflow mask is off; the effect is kept.
 abbrev pub outcome_after : Bool → Bool → RegsFields → Outcome
 outcome_after overflow mask g = outcome_by (overflow && not mask) g
 
@@ -267,7 +276,7 @@ completed g w last e =
       outcome = outcome_after e.overflow e.regs.ind.mask g;
     })
 
--- the operation, once the address is formed
+-- performs the operation, once the address is formed, and ends the step
 abbrev pub operated : Effect → ℕ → RegsFields → ℕ → ChainEnd → Act Ending
 operated e n g w c =
     otherwise (operate e n g c) (completed g w c.last) (halted g (Some w) (Some c.last))
@@ -280,7 +289,7 @@ indirect_words = 16
 abbrev pub formation : RegsFields → InstFields → Formation
 formation g i = chain indirect_words g (first_point g i)
 
--- forms the address, and then performs the operation
+-- forms the address, performs the operation, and ends the step
 abbrev pub addressed : Effect → ℕ → RegsFields → ℕ → Act Ending
 addressed e n g w =
     otherwise (formation g (inst_of w)) (operated e n g w) (halted g (Some w) None)
@@ -291,33 +300,34 @@ at_once effect.Mme g = halt_here master_mode_entry g
 at_once effect.Drl g = halt_here derail g
 at_once _ g = halt.Stop stop.Dis
 
--- MME, DRL and DIS form no address (this project's choice): they end the step at once.
+-- The end of a step of MME, DRL or DIS. They form no address (this project's choice).
 abbrev pub no_address : Effect → RegsFields → ℕ → Act Ending
 no_address e g w = halted g (Some w) None (at_once e g)
 
--- an instruction that may be executed
+-- executes an instruction that may be executed, in the word w, by how it references its operand
 abbrev pub started : Effect → ℕ → RegsFields → ℕ → Operand → Act Ending
 started e n g w kind.N = no_address e g w
 started e n g w _ = addressed e n g w
 
--- a privileged instruction without the right to it
+-- whether an instruction is privileged and there is no right to it
 abbrev pub is_barred : Effect → Bool → Bool
 is_barred e right = is_privileged e && not right
 
--- an instruction; it is an illegal procedure if it is privileged and the step has no right to it
+-- executes an instruction, unless it is barred (true): then it is an illegal procedure
 abbrev pub admitted : Effect → ℕ → RegsFields → ℕ → Bool → Act Ending
 admitted e n g w true = halted g (Some w) None (halt_here illegal_procedure g)
 admitted e n g w false = started e n g w (operand_of e)
 
--- The instruction in a word, with the number in its name. The inhibit bit is ignored.
+-- the effect of a row, and the number of the register in the name of its instruction
 abbrev pub effect_and_number : Row → Effect × ℕ
 effect_and_number row = (row.effect, row.reg)
 
--- the instruction in a word and the number in its name, or None
+-- The instruction in a word and the number in its name; None if its code has no instruction. The
+-- inhibit bit is ignored.
 unfoldable pub decode : ℕ → Option (Effect × ℕ)
 decode w = option_map effect_and_number (row_at (inst_of w).code (inst_of w).bit27)
 
--- a word that was fetched, and the instruction in it, if there is one
+-- executes the instruction that was decoded from the word w; the machine stops if there is none
 abbrev pub decoded : RegsFields → ℕ → Bool → Option (Effect × ℕ) → Act Ending
 decoded g w privileged None = halted g (Some w) None (halt.Stop stop.Operation)
 decoded g w privileged (Some row) = admitted row.0 row.1 g w (is_barred row.0 privileged)
@@ -327,13 +337,13 @@ decoded g w privileged (Some row) = admitted row.0 row.1 g w (is_barred row.0 pr
 abbrev pub has_right : SdwFields → ℕ → Bool
 has_right d ring = d.privileged && (ring == 0)
 
--- what follows the reply to the fetch
+-- executes the instruction that was fetched, or ends with the fault of the fetch
 abbrev pub fetched : RegsFields → Result Answer Fault → Act Ending
 fetched g (Err f) = halted g None None (halt.Fault f)
 fetched g (Ok a) =
     decoded g (slice_index a.words 0) (has_right a.sdw g.ppr.prr) (decode (slice_index a.words 0))
 
--- the fetch of the instruction, in the ring of execution
+-- the request for the instruction word, in the ring of execution
 abbrev pub fetch_request : RegsFields → Request
 fetch_request g = record { kind = Fetch; at = here g; count = 1; pending = [] }
 
@@ -341,7 +351,7 @@ fetch_request g = record { kind = Fetch; at = here g; count = 1; pending = [] }
 unfoldable pub program : RegsFields → Act Ending
 program g = ask (fetch_request g) (fetched g)
 
--- the record of a step that was run over a store
+-- the record of a step, from the run of its program over a store; g are the registers before it
 abbrev pub step_record : {S : Type 0} → RegsFields → Ran Ending S → StepRecord
 step_record g t =
     record {
@@ -359,7 +369,7 @@ abbrev pub stepped : {S : Type 0} → Store S → Ran Ending S → State S
 stepped o t =
     record { regs = t.value.after; store = o.put t.mid.store (changes t.mid.claims t.value.puts) }
 
--- the state within a step at its beginning
+-- the state within a step at its beginning: nothing is claimed or completed
 abbrev pub start : {S : Type 0} → State S → Midstep S
 start s = begun s.store
 

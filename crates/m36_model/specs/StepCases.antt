@@ -55,7 +55,8 @@ pub record ChangedOnlyMarks {S : Type 0} (s : State S) (e : StepRecord) (t : Sta
       }
   pub left : t ≡ record { regs = s.regs; store = m.store }
 
--- The instruction word was fetched; `right` is the right to privileged instructions.
+-- The instruction word was fetched. `right` says whether the step may execute privileged
+-- instructions.
 pub record IsFetched {S : Type 0} (o : Store S) (s : State S) (word : ℕ) (right : Bool)
     (m : Midstep S) : Type 0 where
   pub answer : Answer
@@ -89,14 +90,14 @@ pub record Reached (S : Type 0) : Type 0 where
   pub spots : List Spot
   pub mid : Midstep S
 
--- nothing is referenced
+-- Nothing was referenced; the effect gets `got`.
 pub record IsUnreferenced {S : Type 0} (m : Midstep S) (got : OperandFields)
     (u : Reached S) : Type 0 where
   pub operand : u.operand ≡ got
   pub nothing : u.spots ≡ []
   pub mid : u.mid ≡ m
 
--- a reference that writes nothing; the effect gets what its answer gives
+-- One reference was made that claims nothing; the effect gets what `gives` takes of its answer.
 pub record IsReferenced {S : Type 0} (o : Store S) (g : RegsFields) (q : Request)
     (gives : Answer → OperandFields) (m : Midstep S) (u : Reached S) : Type 0 where
   pub answer : Answer
@@ -104,7 +105,7 @@ pub record IsReferenced {S : Type 0} (o : Store S) (g : RegsFields) (q : Request
   pub operand : u.operand ≡ gives answer
   pub nothing : u.spots ≡ []
 
--- words to be written are claimed
+-- One request claimed words to be written; the effect gets `got`.
 pub record IsClaimed {S : Type 0} (o : Store S) (g : RegsFields) (q : Request) (part : Part)
     (got : OperandFields) (m : Midstep S) (u : Reached S) : Type 0 where
   pub answer : Answer
@@ -113,7 +114,7 @@ pub record IsClaimed {S : Type 0} (o : Store S) (g : RegsFields) (q : Request) (
   pub part_is : u.part ≡ part
   pub claims : u.mid.claims ≡ m.claims ++ u.spots
 
--- a word is read and then claimed, to be written
+-- A word was read and then claimed, to be written.
 pub record IsChanged {S : Type 0} (o : Store S) (g : RegsFields) (c : ChainEnd) (part : Part)
     (m : Midstep S) (u : Reached S) : Type 0 where
   pub answer : Answer
@@ -121,19 +122,21 @@ pub record IsChanged {S : Type 0} (o : Store S) (g : RegsFields) (c : ChainEnd) 
   pub read : serve o g m (request_at Read c 1) ≡ record { reply = Ok answer; mid = between }
   pub write : IsClaimed o g (request_at Write c 1) part (got_word answer) between u
 
--- the operand of an instruction that uses only its address; ABSA locates the word
+-- The operand of an instruction that uses only its address: nothing was referenced, or the word was
+-- located for ABSA (true).
 abbrev pub IsAddressed :
     {S : Type 0} → Store S → RegsFields → ChainEnd → Bool → Midstep S → Reached S → Type 0
 IsAddressed o g c false m u = IsUnreferenced m no_operand u
 IsAddressed o g c true m u = IsReferenced o g (request_at Locate c 1) got_place m u
 
--- the operand of a transfer: its target, if it is taken
+-- The target of a transfer was checked, if the transfer is taken (true); otherwise nothing was
+-- referenced.
 abbrev pub IsTargeted :
     {S : Type 0} → Store S → RegsFields → ChainEnd → Bool → Midstep S → Reached S → Type 0
 IsTargeted o g c false m u = IsUnreferenced m no_operand u
 IsTargeted o g c true m u = IsReferenced o g (request_at Transfer c 1) got_nothing m u
 
--- the words that an operand kind writes are claimed
+-- The words that an operand kind writes were claimed.
 abbrev pub IsClaimedFor :
     {S : Type 0} → Store S → RegsFields → ChainEnd → Operand → Midstep S → Reached S → Type 0
 IsClaimedFor o g c k m u =
@@ -165,7 +168,7 @@ IsOperand o g e c None m u = IsOperandOf o g e c (operand_of e) m u
 IsOperand o g e c (Some w) m u =
     (takes_direct e ≡ true) × IsUnreferenced m (words_only (direct_word (operand_of e) w)) u
 
--- words to be written at spots, in order
+-- the changes that write words, or a part of each, at spots, in order
 abbrev pub at_spots : Part → List Spot → List ℕ → List Change
 at_spots part [] words = []
 at_spots part (spot ∷ spots) [] = []

@@ -29,7 +29,7 @@ pub record Change : Type 0 where
   pub part : Part
   pub value : ℕ
 
--- a word with a part of it replaced; a half is right-justified in the value
+-- a word with a part of it replaced by v; a half is right-justified in v
 abbrev pub written : Part → ℕ → ℕ → ℕ
 written Whole old v = v
 written Left old v = v * 2 ^ 18 + old % 2 ^ 18
@@ -43,11 +43,11 @@ violation acv = record { number = access_violation; acv = acv }
 abbrev pub plain_refusal : ℕ → Refusal
 plain_refusal number = record { number = number; acv = 0 }
 
--- the fault of a refusal, at a word
+-- the fault at a word, for a refusal
 abbrev pub fault_by : Refusal → AtFields → Fault
 fault_by why at = record { at = at; number = why.number; acv = why.acv }
 
--- the fault of a refused word, with the segment and ring of its reference
+-- the fault at word `word` of the segment of a reference, for a refusal
 abbrev pub fault_in : AtFields → ℕ → Refusal → Fault
 fault_in at word why = fault_by why (record { seg = at.seg; word = word; ring = at.ring })
 
@@ -110,7 +110,8 @@ touches kind = (conduct kind).touches
 abbrev pub claims_words : RequestKind → Bool
 claims_words kind = (conduct kind).claims
 
--- whether a reference of this kind only checks the bound of the target
+-- whether a reference of this kind only checks its target, by its rights and bound, and references
+-- no word
 abbrev pub is_target : RequestKind → Bool
 is_target kind = (conduct kind).target
 
@@ -126,11 +127,13 @@ rows Transfer d trr prr same word = transfer_rows d trr prr
 rows Call d trr prr same word = call_rows d trr prr same word
 rows Locate d trr prr same word = ordered_rows d []
 
--- the access violation, if any, by the order of the brackets and the rights
+-- The number of the access violation of a reference, if there is one: that of the first row whose
+-- condition holds.
 unfoldable pub denied : RequestKind → SdwFields → ℕ → ℕ → Bool → ℕ → Option ℕ
 denied kind d trr prr same word = first_of (rows kind d trr prr same word)
 
--- the word is within the bound, which counts blocks of 16 words
+-- Whether a word is within the bound of its segment. The bound is the number of the last block of
+-- 16 words.
 abbrev pub within : SdwFields → ℕ → Bool
 within d word = nat_le (word / 16) d.bound
 
@@ -138,17 +141,18 @@ within d word = nat_le (word / 16) d.bound
 abbrev pub past_bound : Refusal
 past_bound = violation out_of_segment_bounds
 
--- the descriptor allows a place to the word: its brackets are in order, and the word is within the
--- bound
+-- Whether a word may have a place: the brackets of its descriptor are in order, and it is within
+-- the bound.
 abbrev pub placed : SdwFields → ℕ → Bool
 placed d word = in_order d && within d word
 
--- a spot, if the word is within the bound
+-- the spot that is given, if the word is within the bound (true); otherwise the refusal
 abbrev pub place_within : Bool → Result Spot Refusal → Result Spot Refusal
 place_within true spot = spot
 place_within false spot = Err past_bound
 
--- a result, if the ring brackets of the descriptor are in order
+-- the result that is given, if the ring brackets are in order (true); otherwise the access
+-- violation
 abbrev pub when_ordered : {A : Type 0} → Bool → Result A Refusal → Result A Refusal
 when_ordered true given = given
 when_ordered false given = Err (violation illegal_ring_order)
@@ -165,21 +169,22 @@ place_by (Err e) spot word = Err e
 unfoldable pub place : {S : Type 0} → Store S → S → DbrFields → ℕ → ℕ → Result Spot Refusal
 place o s dbr seg word = place_by (o.sdw s dbr seg) (λ d. o.spot s dbr d seg word) word
 
--- R1 of a segment, if it has a live descriptor and its brackets are in order
+-- R1 of the segment with this descriptor, if its brackets are in order
 abbrev pub first_ring_by : Result SdwFields Refusal → Result ℕ Refusal
 first_ring_by (Ok d) = when_ordered (in_order d) (Ok d.r1)
 first_ring_by (Err e) = Err e
 
--- R1 of a segment
+-- R1 of a segment, if it has a live descriptor and its brackets are in order
 unfoldable pub first_ring : {S : Type 0} → Store S → S → DbrFields → ℕ → Result ℕ Refusal
 first_ring o s dbr seg = first_ring_by (o.sdw s dbr seg)
 
--- a spot before those of the words after it
+-- a spot put before the spots of the words after it, or the refusal of one of these
 abbrev pub placed_next : Result (List Spot) (ℕ × Refusal) → Spot → Result (List Spot) (ℕ × Refusal)
 placed_next (Ok spots) spot = Ok (spot ∷ spots)
 placed_next (Err e) spot = Err e
 
--- the spots of a word and those after it; the first word that is refused is reported
+-- The spots of a word and of the words after it (`rest`), or the first word that is refused and
+-- why. The Boolean says whether the word is within the bound.
 abbrev pub placed_one :
     Bool → ℕ → Result Spot Refusal → Result (List Spot) (ℕ × Refusal)
     → Result (List Spot) (ℕ × Refusal)
@@ -195,12 +200,12 @@ spots_of o s dbr d seg word zero = Ok []
 spots_of o s dbr d seg word (suc n) =
     placed_one (within d word) word (o.spot s dbr d seg word) (spots_of o s dbr d seg (word + 1) n)
 
--- a Transfer and a CALL6 only check the bound, and reference no page of the target
+-- The spots of a check of a target: none. The word is refused if it is past the bound (false).
 abbrev pub bound_only : Bool → ℕ → Result (List Spot) (ℕ × Refusal)
 bound_only true word = Ok []
 bound_only false word = Err (word, past_bound)
 
--- the spots of the words of a reference, which are none for a target (true)
+-- the spots of a request: `target` for a check of a target (true), and otherwise `spots`
 abbrev pub places_by :
     Bool → Result (List Spot) (ℕ × Refusal) → Result (List Spot) (ℕ × Refusal)
     → Result (List Spot) (ℕ × Refusal)
@@ -221,11 +226,11 @@ pub record Midstep (S : Type 0) : Type 0 where
   pub claims : List Spot
   pub refs : List Reference
 
--- the state at the beginning of a step
+-- the state within a step at its beginning: nothing is claimed or completed
 abbrev pub begun : {S : Type 0} → S → Midstep S
 begun s = record { store = s; claims = []; refs = [] }
 
--- the change that a put makes; none if its number is not claimed
+-- the change that a put makes, before other changes; no change if its number is not claimed
 abbrev pub change_of : Put → Option Spot → List Change → List Change
 change_of p None rest = rest
 change_of p (Some spot) rest = record { spot = spot; part = p.part; value = p.value } ∷ rest
@@ -235,12 +240,12 @@ unfoldable pub changes : List Spot → List Put → List Change
 changes claims [] = []
 changes claims (p ∷ puts) = change_of p (slice_get claims p.claim) (changes claims puts)
 
--- a reply, and the state after it
+-- the reply to a request, and the state within the step after it
 pub record Served (S : Type 0) : Type 0 where
   pub reply : Result Answer Fault
   pub mid : Midstep S
 
--- a refused reference changes nothing
+-- the reply to a request that is refused at a word; the state is unchanged
 abbrev pub refused : {S : Type 0} → Midstep S → Request → ℕ → Refusal → Served S
 refused m q word why = record { reply = Err (fault_in q.at word why); mid = m }
 
@@ -248,7 +253,8 @@ refused m q word why = record { reply = Err (fault_in q.at word why); mid = m }
 abbrev pub after_marks : {S : Type 0} → Store S → S → DbrFields → Request → S
 after_marks o s dbr q = if touches q.kind then o.marked s dbr q.kind q.at.seg q.at.word else s
 
--- an odd word joins the even one before it: they are one reference to two words
+-- The completed references after the odd word of an indirect pair. It joins its even word, the last
+-- reference so far: they are one reference to two words.
 abbrev pub with_odd : Request → List Reference → List Reference
 with_odd q [] = []
 with_odd q (e ∷ []) =
@@ -269,13 +275,13 @@ recorded_kind Write = reference.Write
 recorded_kind Indirect = reference.Indirect
 recorded_kind _ = reference.Indirect
 
--- the references with one more that has touched its words
+-- the completed references after a request of a kind that sets marks
 abbrev pub with_touched : RequestKind → Request → List Reference → List Reference
 with_touched Odd q refs = with_odd q refs
 with_touched kind q refs =
     refs ++ record { kind = recorded_kind kind; at = q.at; count = q.count } ∷ []
 
--- the references with one more, if its kind sets marks
+-- the completed references after a request, which is among them if its kind sets marks
 abbrev pub with_reference : RequestKind → Request → List Reference → List Reference
 with_reference kind q refs = if touches kind then with_touched kind q refs else refs
 
@@ -288,8 +294,8 @@ abbrev pub located : RequestKind → List Spot → ℕ
 located Locate (Core_word a ∷ spots) = a
 located _ _ = 0
 
--- The reply to a reference that is served, and the state after it: its claims are added after
--- earlier ones, and the reference after earlier references.
+-- The reply to a request that is served, and the state after it. The spots that it claims follow
+-- earlier claims, and its reference follows earlier references.
 abbrev pub answered_with :
     {S : Type 0} → Store S → S → List Spot → List Reference → Request → SdwFields → List Spot
     → Served S
@@ -340,13 +346,13 @@ serve o g m q = serve_sdw o g m q (o.sdw m.store g.dbr q.at.seg)
 abbrev pub without_marks : {S : Type 0} → Store S → Store S
 without_marks o = record o { marked = λ s dbr kind seg word. s }
 
--- a word that is read outside of any step, with access checks, but without marks
+-- the reply to a read of one word outside of any step: with access checks, but without marks
 unfoldable pub examined : {S : Type 0} → Store S → RegsFields → S → AtFields → Result Answer Fault
 examined o g s at =
     (serve (without_marks o) g (begun s)
     (record { kind = Read; at = at; count = 1; pending = [] })).reply
 
--- the result of a program, and the state within the step after it
+-- the result of a program that was run, and the state within the step after it
 pub record Ran (A S : Type 0) : Type 0 where
   pub value : A
   pub mid : Midstep S
@@ -356,7 +362,7 @@ unfoldable pub run : {A S : Type 0} → Store S → RegsFields → Act A → Mid
 run o g (done a) m = record { value = a; mid = m }
 run o g (ask q next) m = let t = serve o g m q in run o g (next t.reply) t.mid
 
--- the registers and the store
+-- the state of a processor: its registers and its store
 pub record State (S : Type 0) : Type 0 where
   pub regs : RegsFields
   pub store : S

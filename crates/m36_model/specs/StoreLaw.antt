@@ -13,7 +13,7 @@ abbrev pub Each : {A : Type 0} → (A → Type 0) → List A → Type 0
 Each P [] = Unit {0}
 Each P (x ∷ xs) = P x × Each P xs
 
--- two spots are the same
+-- whether two spots are the same
 abbrev pub same_spot : Spot → Spot → Bool
 same_spot (Core_word a) (Core_word b) = a == b
 same_spot (Core_word a) (Segment_word s w) = false

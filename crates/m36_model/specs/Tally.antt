@@ -32,7 +32,7 @@ decrement_increment = 0o14
 abbrev pub increment_decrement : ℕ
 increment_decrement = 0o16
 
--- Td is one of these five
+-- whether Td is one of these five
 abbrev pub is_tally_tag : ℕ → Bool
 is_tally_tag td =
     (td == subtract_delta) || (td == indirect_only) || (td == add_delta)
@@ -42,11 +42,11 @@ is_tally_tag td =
 abbrev pub tally_address : ℕ → ℕ
 tally_address w = field w 0 18
 
--- the tally: bits 18 to 29
+-- the tally in a tally word: bits 18 to 29
 abbrev pub tally_count : ℕ → ℕ
 tally_count w = field w 18 12
 
--- the delta: bits 30 to 35
+-- the increment in a tally word: bits 30 to 35
 abbrev pub tally_delta : ℕ → ℕ
 tally_delta w = field w 30 6
 
@@ -61,7 +61,8 @@ pub record Counted : Type 0 where
   pub word : ℕ
   pub runs_out : Bool
 
--- ID and AD: the address is used and then increased, and the tally is decreased
+-- counts a tally word for ID (step 1) and AD: the address is used and then increased, and the tally
+-- is decreased
 abbrev pub counted_down : ℕ → ℕ → Counted
 counted_down w step =
     let a = tally_address w in
@@ -72,7 +73,8 @@ counted_down w step =
       runs_out = t == 0;
     }
 
--- DI and SD: the address is decreased and then used, and the tally is increased
+-- counts a tally word for DI (step 1) and SD: the address is decreased and then used, and the tally
+-- is increased
 abbrev pub counted_up : ℕ → ℕ → Counted
 counted_up w step =
     let a = (tally_address w + (2 ^ 18 - step)) % 2 ^ 18 in

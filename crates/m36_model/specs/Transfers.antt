@@ -27,17 +27,18 @@ is_taken _ g = true
 unfoldable pub gone_to : FinalFields → RegsFields → RegsFields
 gone_to f g = record g { ppr = record g.ppr { psr = f.at.seg; ic = f.at.word } }
 
--- a transfer to the final address
+-- the effect that transfers to the final address and writes nothing
 abbrev pub goes_to : FinalFields → RegsFields → Result EffectFields ℕ
 goes_to f g = leaves (gone_to f g)
 
--- A transfer that is taken goes to its target with the registers `left`. One that is not taken
--- continues with the next instruction.
+-- A transfer that is taken (true) goes to the final address with the registers `left`. One that is
+-- not taken continues with the next instruction and the registers g.
 abbrev pub transfer_by : Bool → FinalFields → RegsFields → RegsFields → Result EffectFields ℕ
 transfer_by true f left g = goes_to f left
 transfer_by false f left g = completes g
 
--- TRA, and the conditional transfers except TOV
+-- TRA, and the conditional transfers except TOV: goes to the final address if the transfer is taken
+-- (true)
 unfoldable pub transfer_where : Bool → FinalFields → RegsFields → Result EffectFields ℕ
 transfer_where taken f g = transfer_by taken f g g
 

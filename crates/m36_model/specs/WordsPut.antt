@@ -17,7 +17,7 @@ words_written kind.Rw = 1
 words_written kind.Rwl = 1
 words_written _ = 0
 
--- the part of a word that it writes
+-- the part of each word that an instruction writes
 abbrev pub part_written : Operand → Part
 part_written kind.Wl = Left
 part_written kind.Wr = Right
@@ -32,7 +32,8 @@ FitsHalf w = w < 2 ^ 18
 abbrev pub IsHalf : List ℕ → Type 0
 IsHalf words = (length words ≡ 1) × All (λ w. FitsHalf w) words
 
--- the words to be written: as many as the instruction writes, and 18 bits if they replace a half
+-- What holds of the words that an effect gives to be written: they are as many as the instruction
+-- writes, and one of 18 bits if they replace a half.
 abbrev pub PutsFor : Operand → List ℕ → Type 0
 PutsFor kind.Wl words = IsHalf words
 PutsFor kind.Wr words = IsHalf words

@@ -25,7 +25,7 @@ placed (w ∷ words) core = placed words (slice_set core w.0 w.1)
 abbrev pub core_of : ℕ → List (ℕ × ℕ) → List ℕ
 core_of size words = placed words (replicate size 0)
 
--- consecutive words that begin at an address
+-- consecutive words with their addresses, the first of which is `place`
 abbrev pub words_from : ℕ → List ℕ → List (ℕ × ℕ)
 words_from place [] = []
 words_from place (w ∷ words) = (place, w) ∷ words_from (place + 1) words
@@ -51,36 +51,38 @@ rings r1 r2 r3 =
       limit = 0;
     }
 
--- a descriptor that also gives the right to read
+-- the descriptor with the right to read added
 abbrev pub readable : SdwFields → SdwFields
 readable d = record d { readable = true }
 
--- a descriptor that also gives the right to execute
+-- the descriptor with the right to execute added
 abbrev pub executable : SdwFields → SdwFields
 executable d = record d { executable = true }
 
--- a descriptor that also gives the right to write
+-- the descriptor with the right to write added
 abbrev pub writable : SdwFields → SdwFields
 writable d = record d { writable = true }
 
--- a descriptor that also gives the right to be privileged
+-- the descriptor with the privileged bit on
 abbrev pub privileged : SdwFields → SdwFields
 privileged d = record d { privileged = true }
 
--- the descriptor of a gate with n entries
+-- the descriptor as that of a gate whose first n words are entries
 abbrev pub gate_with_entries : ℕ → SdwFields → SdwFields
 gate_with_entries n d = record d { no_gate = false; limit = n }
 
--- a descriptor with n + 1 blocks of 16 words
+-- the descriptor with n as the number of the last block of 16 words: n + 1 blocks are within the
+-- bound
 abbrev pub last_block : ℕ → SdwFields → SdwFields
 last_block n d = record d { bound = n }
 
--- the words of the descriptor of a segment at an address; the descriptor segment begins at word 0
+-- The two words of the descriptor of segment n, with their addresses, if the segment begins at core
+-- address `place`. The descriptor segment begins at word 0.
 abbrev pub segment : ℕ → ℕ → SdwFields → List (ℕ × ℕ)
 segment n place d =
     words_from (2 * n) (sdw_even (record d { addr = place }) ∷ sdw_odd d ∷ [])
 
--- a segment of instructions that may be read too
+-- the descriptor with the rights to read and to execute added
 abbrev pub procedure : SdwFields → SdwFields
 procedure d = readable (executable d)
 
@@ -102,20 +104,21 @@ at_instruction seg ring word =
 abbrev pub at_word : ℕ → ℕ → ℕ → AtFields
 at_word seg word ring = record { seg = seg; word = word; ring = ring }
 
--- the end of a chain at a word
+-- the final address at a word, with bit 0 and no direct operand
 abbrev pub ends_in : ℕ → ℕ → ℕ → FinalFields
 ends_in seg word ring = record { at = at_word seg word ring; bit = 0; direct = None }
 
--- a reference to `count` words, from a word of a segment on
+-- the reference to `count` words that begin at a word of a segment
 abbrev pub referred : Kind → ℕ → ℕ → ℕ → ℕ → Reference
 referred kind seg word ring count =
     record { at = at_word seg word ring; kind = kind; count = count }
 
--- the outcome of a fault
+-- the outcome of a step that ends with a fault of this number, other than an access violation, at a
+-- word
 abbrev pub faults : ℕ → AtFields → Outcome
 faults number at = Faulted (plain_fault number at)
 
--- the outcome of an access violation
+-- the outcome of a step that ends with an access violation of this number, at a word
 abbrev pub violates : ℕ → AtFields → Outcome
 violates acv at = Faulted (fault_by (violation acv) at)
 

@@ -26,6 +26,7 @@ load_core =
     (segment 1 0o40 (privileged (procedure (rings 0 0 0)))
     ++ words_from 0o40 (0o000002235000 ∷ 0o000000616000 ∷ 5 ∷ []))
 
+-- this core, at the load, in ring 0
 abbrev pub at_load : State (List ℕ)
 at_load = record { regs = at_instruction 1 0 0; store = load_core }
 
@@ -51,15 +52,17 @@ StopFollows = record_of core_store (state_after core_store at_load) ≡ record {
   ppr = record { psr = 1; prr = 0; ic = 1 };
 }
 
--- The bound counts blocks of 16 words. With bound 0, word 17 is read (here by `lda 15`), and word
--- 20 is not (`lda 16`).
+-- The core of the load, with another instruction at word 0 of segment 1. The bound counts blocks of
+-- 16 words. With bound 0, word 17 is read (here by `lda 15`), and word 20 is not (`lda 16`).
 abbrev pub bound_state : ℕ → State (List ℕ)
 bound_state instruction =
     record { regs = at_instruction 1 0 0; store = slice_set load_core 0o40 instruction }
 
+-- `lda 15` reads word 17, the last one within the bound.
 abbrev pub LastWordOfTheBoundIsRead : Type 0
 LastWordOfTheBoundIsRead = outcome_of_step (bound_state 0o000017235000) ≡ Next
 
+-- `lda 16` of word 20 is an access violation: out of segment bounds.
 abbrev pub WordPastTheBoundIsNot : Type 0
 WordPastTheBoundIsNot =
     outcome_of_step (bound_state 0o000020235000) ≡ violates out_of_segment_bounds (at_word 1 0o20 0)
@@ -75,6 +78,7 @@ pair_core =
     ++ words_from 0o320 (0o000000235120 ∷ [])
     ++ words_from 0o340 (0o000123100043 ∷ []))
 
+-- this core, at the instruction in ring 1; pointer register 0 points to segment 2
 abbrev pub at_pair : State (List ℕ)
 at_pair =
     record {
@@ -84,6 +88,7 @@ at_pair =
       store = pair_core;
     }
 
+-- The address has ring 4, the read is refused, and the pair is one reference to two words.
 abbrev pub PairTakesTheBracketOfItsSegment : Type 0
 PairTakesTheBracketOfItsSegment =
     (address_of_step at_pair ≡ Some (ends_in 0o123 0 4))
@@ -104,13 +109,16 @@ long_chain_core instruction =
     ∷ 0o000016000020 ∷ 0o000017000020 ∷ 0o000020000020 ∷ 0o000021000020
     ∷ 0o000022000000 ∷ 5 ∷ []))
 
+-- this core, at the instruction in ring 0
 abbrev pub long_chain : ℕ → State (List ℕ)
 long_chain instruction = record { regs = at_instruction 1 0 0; store = long_chain_core instruction }
 
+-- The 17th indirect word is a lockup fault at this word.
 abbrev pub SeventeenthIndirectWordLocksUp : Type 0
 SeventeenthIndirectWordLocksUp =
     outcome_of_step (long_chain 0o000001235020) ≡ faults lockup_fault (at_word 1 0o21 0)
 
+-- With 16 indirect words the load reads the 5.
 abbrev pub SixteenIndirectWordsAreServed : Type 0
 SixteenIndirectWordsAreServed =
     (outcome_of_step (long_chain 0o000002235020) ≡ Next)
@@ -125,6 +133,7 @@ held_core =
     ++ words_from 0o40 (0o000010235071 ∷ [])
     ++ words_from 0o50 (0o000020000000 ∷ []))
 
+-- this core, at the instruction in ring 0, with 5 in X1
 abbrev pub at_held : State (List ℕ)
 at_held =
     record {
@@ -132,6 +141,7 @@ at_held =
       store = held_core;
     }
 
+-- The index that was held is added to the address of the last indirect word.
 abbrev pub HeldIndexIsAddedAtTheEnd : Type 0
 HeldIndexIsAddedAtTheEnd = address_of_step at_held ≡ Some (ends_in 1 0o25 0)
 
@@ -156,11 +166,13 @@ TallyWordsCount =
     })
     × (tally 0o14 0 ≡ record { address = 0o777777; word = 0o777777000100; runs_out = false })
 
--- The tally word at 10 of segment 1 is 000010000200, so its own address is its first operand. `lda
--- 8,id` loads its new value. `sta 8,id` leaves A in it, since the operand is written after it.
+-- a segment of instructions that may be read and written too
 abbrev pub data_and_procedure : SdwFields → SdwFields
 data_and_procedure d = writable (procedure d)
 
+-- Core with one segment, with these rights. Its tally word at 10 is 000010000200, so its own
+-- address is its first operand. `lda 8,id` loads its new value. `sta 8,id` leaves A in it, since
+-- the operand is written after it.
 abbrev pub tally_core : (SdwFields → SdwFields) → ℕ → List ℕ
 tally_core rights instruction =
     core_of 0o100
@@ -168,6 +180,7 @@ tally_core rights instruction =
     ++ words_from 0o40 (instruction ∷ [])
     ++ words_from 0o50 (0o000010000200 ∷ []))
 
+-- this core, at the instruction in ring 0, with 123456 in A
 abbrev pub at_tally : (SdwFields → SdwFields) → ℕ → State (List ℕ)
 at_tally rights instruction =
     record {
@@ -175,12 +188,15 @@ at_tally rights instruction =
       store = tally_core rights instruction;
     }
 
+-- the state at `lda 8,id`, in a segment that may be written
 abbrev pub load_through_tally : State (List ℕ)
 load_through_tally = at_tally data_and_procedure 0o000010235056
 
+-- the state at `sta 8,id`, in a segment that may be written
 abbrev pub store_through_tally : State (List ℕ)
 store_through_tally = at_tally data_and_procedure 0o000010755056
 
+-- The load gets the new value of the tally word; the Write of this word comes before the Read.
 abbrev pub LoadSeesTheNewTallyWord : Type 0
 LoadSeesTheNewTallyWord =
     (outcome_of_step load_through_tally ≡ Next)
@@ -190,6 +206,7 @@ LoadSeesTheNewTallyWord =
     ≡ referred Fetch 1 0 0 1 ∷ referred Indirect 1 0o10 0 1 ∷ referred Write 1 0o10 0 1
     ∷ referred Read 1 0o10 0 1 ∷ [])
 
+-- The store overwrites the new value of the tally word.
 abbrev pub StoreComesAfterTheTallyWord : Type 0
 StoreComesAfterTheTallyWord =
     (outcome_of_step store_through_tally ≡ Next) × (word_after store_through_tally 0o50 ≡ 0o123456)
@@ -242,6 +259,7 @@ TagsOfTheInstruction =
 abbrev pub at_fault_tag : State (List ℕ)
 at_fault_tag = record { regs = at_pair.regs; store = slice_set pair_core 0o340 0o000000000046 }
 
+-- The fault is reported in ring 4, although the reference was made in ring 1.
 abbrev pub FaultTagTakesTheBracketOfItsSegment : Type 0
 FaultTagTakesTheBracketOfItsSegment =
     outcome_of_step at_fault_tag ≡ faults fault_tag_2 (at_word 2 0 4)

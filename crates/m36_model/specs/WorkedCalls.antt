@@ -15,8 +15,8 @@ use Rattle.m36_model.specs.Worked.{core_of, at_instruction, at_word, faults, vio
 use Rattle.m36_model.specs.Worked.{outcome_of_step, registers_after, word_after}
 use Rattle.m36_model.specs.declared.outcome.Outcome.TheVariants.{Next}
 
--- Segment 1 has one instruction and may be executed in every ring. Segment 3 is a gate: E on, G
--- off, brackets 0, 0, 5, two entries. Pointer register 2 points to its word 0.
+-- Core with two segments. Segment 1 has one instruction and may be executed in every ring. Segment
+-- 3 is a gate: E on, G off, brackets 0, 0, 5, two entries.
 abbrev pub gate_core : ℕ → List ℕ
 gate_core instruction =
     core_of 0o100
@@ -24,6 +24,7 @@ gate_core instruction =
     ++ segment 3 0o60 (gate_with_entries 2 (executable (rings 0 0 5)))
     ++ words_from 0o40 (instruction ∷ []))
 
+-- this core, at the instruction in a ring; pointer register 2 points to word 0 of the gate
 abbrev pub at_gate : ℕ → ℕ → State (List ℕ)
 at_gate ring instruction =
     record {
@@ -41,18 +42,18 @@ CallThroughAGate =
     × ((registers_after (at_gate 4 0o200001713100)).ppr ≡ record { psr = 3; prr = 0; ic = 1 })
     × (ptr (registers_after (at_gate 4 0o200001713100)) 7 ≡ pointer 0o10 0 0)
 
--- Word 2 is not an entry.
+-- `call6 pr2|2` is refused: word 2 is not an entry.
 abbrev pub CallPastTheLimiter : Type 0
 CallPastTheLimiter =
     outcome_of_step (at_gate 4 0o200002713100) ≡ violates not_a_gate (at_word 3 2 4)
 
--- Ring 6 is above the call bracket.
+-- A call from ring 6 is refused: the ring is above the call bracket.
 abbrev pub CallFromAboveTheBracket : Type 0
 CallFromAboveTheBracket =
     outcome_of_step (at_gate 6 0o200001713100) ≡ violates out_of_call_bracket (at_word 3 1 6)
 
--- Segment 4 has E and G on and brackets 2, 3, 3. Pointer register 2 points to it, in the ring
--- `pointed`; pointer register 6 points to segment 5.
+-- Core with two segments. Segment 1 has `call6 pr2|1`. Segment 4 has E and G on and brackets 2, 3,
+-- 3.
 abbrev pub call_core : List ℕ
 call_core =
     core_of 0o100
@@ -60,6 +61,8 @@ call_core =
     ++ segment 4 0o60 (executable (rings 2 3 3))
     ++ words_from 0o40 (0o200001713100 ∷ []))
 
+-- This core, at the call in a ring. Pointer register 2 points to segment 4, in the ring `pointed`;
+-- pointer register 6 points to segment 5.
 abbrev pub at_call : ℕ → ℕ → State (List ℕ)
 at_call ring pointed =
     record {
@@ -72,12 +75,15 @@ at_call ring pointed =
       store = call_core;
     }
 
+-- A call from ring 1, which is below R1, is refused.
 abbrev pub OutwardCall : Type 0
 OutwardCall = outcome_of_step (at_call 1 1) ≡ violates outward_call (at_word 4 1 1)
 
+-- A call from ring 1 through a pointer of ring 3 is refused: R2 is above ring 1.
 abbrev pub CallWithRaisedRing : Type 0
 CallWithRaisedRing = outcome_of_step (at_call 1 3) ≡ violates bad_outward_call (at_word 4 1 3)
 
+-- A call from ring 3 stays in ring 3, and PR7 is the base of the segment of PR6.
 abbrev pub CallWithinTheRing : Type 0
 CallWithinTheRing =
     (outcome_of_step (at_call 3 3) ≡ Next)
@@ -94,6 +100,7 @@ return_core brackets pair =
     ++ words_from 0o40 (0o200000610100 ∷ 0o000000616000 ∷ [])
     ++ words_from 0o100 (pair ∷ 0o000001000000 ∷ []))
 
+-- this core, at the return in a ring; pointer register 2 points to the pair
 abbrev pub at_return : ℕ → SdwFields → ℕ → State (List ℕ)
 at_return ring brackets pair =
     record {
@@ -103,11 +110,12 @@ at_return ring brackets pair =
       store = return_core brackets pair;
     }
 
--- From ring 0 through a pair of ring 4: every register has ring 4, and DIS is an illegal procedure
--- there.
+-- at the return, in ring 0, through a pair of ring 4
 abbrev pub returns_outward : State (List ℕ)
 returns_outward = at_return 0 (rings 0 0 0) 0o000001400043
 
+-- The return goes to ring 4, all pointer registers get this ring, and the DIS there is an illegal
+-- procedure.
 abbrev pub ReturnTakesThePairsRing : Type 0
 ReturnTakesThePairsRing =
     ((registers_after returns_outward).ppr ≡ record { psr = 1; prr = 4; ic = 1 })
@@ -124,16 +132,18 @@ ReturnTakesTheGreatestRing =
     (registers_after (at_return 4 (rings 4 4 4) 0o000001000043)).ppr
     ≡ record { psr = 1; prr = 4; ic = 1 }
 
--- `lprp4 1` of a word that begins with octal 60 is a command fault, and PR4 is unchanged.
+-- core with one segment: `lprp4 1`, and a word that begins with octal 60
 abbrev pub packed_core : List ℕ
 packed_core =
     core_of 0o100
     (segment 1 0o40 (procedure (rings 0 7 7))
     ++ words_from 0o40 (0o000001764000 ∷ 0o600003000007 ∷ []))
 
+-- this core, at the instruction in ring 0
 abbrev pub at_packed : State (List ℕ)
 at_packed = record { regs = at_instruction 1 0 0; store = packed_core }
 
+-- The load of that word is a command fault, and PR4 is unchanged.
 abbrev pub PackedPointerWithAWrongBitNumber : Type 0
 PackedPointerWithAWrongBitNumber =
     (outcome_of_step at_packed ≡ faults command (at_word 1 0 0))
@@ -148,6 +158,7 @@ lock_core =
     ++ segment 2 0o100 (readable (writable (rings 4 4 4)))
     ++ words_from 0o42 (0o100000354100 ∷ []))
 
+-- at the first `stac`, in ring 4; A has the value for the lock
 abbrev pub at_lock : State (List ℕ)
 at_lock =
     record {
@@ -157,6 +168,7 @@ at_lock =
       store = lock_core;
     }
 
+-- at the same `stac`, with another value in A, after the first one was executed
 abbrev pub at_taken_lock : State (List ℕ)
 at_taken_lock =
     record {
@@ -164,6 +176,7 @@ at_taken_lock =
       store = (state_after core_store at_lock).store;
     }
 
+-- The first `stac` stores its value and turns zero on; the second stores nothing and turns it off.
 abbrev pub OneTakesTheLock : Type 0
 OneTakesTheLock =
     ((registers_after at_lock).ind.zero ≡ true) × (word_after at_lock 0o100 ≡ 0o000002000000)

@@ -33,9 +33,11 @@ sum_core =
     core_of 0o100
     (segment 1 0o40 (procedure (rings 0 0 0)) ++ words_from 0o40 (0o000001075000 ∷ 1 ∷ []))
 
+-- this core, at the sum, with 377777777777 in A
 abbrev pub at_sum : State (List ℕ)
 at_sum = record { regs = record (at_instruction 1 0 0) { a = 0o377777777777 }; store = sum_core }
 
+-- as `at_sum`, with the overflow mask on
 abbrev pub at_masked_sum : State (List ℕ)
 at_masked_sum =
     record {
@@ -43,6 +45,7 @@ at_masked_sum =
       store = sum_core;
     }
 
+-- Without the mask the step is an overflow fault, and the sum is in A.
 abbrev pub OverflowStoresAndFaults : Type 0
 OverflowStoresAndFaults =
     (outcome_of_step at_sum ≡ faults overflow_fault (at_word 1 0 0))
@@ -51,6 +54,7 @@ OverflowStoresAndFaults =
       ind = record no_indicators { negative = true; overflow = true };
     })
 
+-- With the mask the run continues, and overflow is on.
 abbrev pub MaskedOverflowGoesOn : Type 0
 MaskedOverflowGoesOn =
     (outcome_of_step at_masked_sum ≡ Next)
@@ -59,14 +63,15 @@ MaskedOverflowGoesOn =
       ind = record no_indicators { negative = true; overflow = true; mask = true };
     })
 
--- registers with a number in A, or in Q
+-- registers with a number in A
 abbrev pub with_a : ℕ → RegsFields
 with_a v = record (at_instruction 1 0 0) { a = v }
 
+-- registers with a number in Q
 abbrev pub with_q : ℕ → RegsFields
 with_q v = record (at_instruction 1 0 0) { q = v }
 
--- the least number is its own negative, and overflows
+-- the negative of the least number is this number again, with overflow
 abbrev pub LeastNumberHasNoNegative : Type 0
 LeastNumberHasNoNegative = load_complement A 0o400000000000 (with_a 0) ≡ Ok (record {
   regs = record (at_instruction 1 0 1) {
@@ -77,7 +82,7 @@ LeastNumberHasNoNegative = load_complement A 0o400000000000 (with_a 0) ≡ Ok (r
   overflow = true;
 })
 
--- the square of the least number
+-- the square of the least number, -2^35, is 2^70, which A and Q hold
 abbrev pub SquareOfTheLeastNumber : Type 0
 SquareOfTheLeastNumber = multiply 0o400000000000 (with_q 0o400000000000) ≡ Ok (record {
   regs = record (at_instruction 1 0 1) { a = 0o200000000000 };
@@ -99,7 +104,7 @@ QuotientIsCutTowardZero = divide 0o777777777775 (with_q 7) ≡ Ok (record {
 abbrev pub DivisionByZeroIsRefused : Type 0
 DivisionByZeroIsRefused = divide 0 (with_q 7) ≡ Err divide_check
 
--- shifts by 1
+-- a left shift by 1 that changes the sign turns carry on
 abbrev pub LeftShiftSetsCarry : Type 0
 LeftShiftSetsCarry = shift_left A 1 (with_a 0o200000000000) ≡ Ok (record {
   regs = record (at_instruction 1 0 1) {
@@ -110,6 +115,7 @@ LeftShiftSetsCarry = shift_left A 1 (with_a 0o200000000000) ≡ Ok (record {
   overflow = false;
 })
 
+-- a right shift by 1 of a negative number: the sign bit is copied
 abbrev pub RightShiftCopiesTheSign : Type 0
 RightShiftCopiesTheSign = shift_right A 1 (with_a 0o400000000000) ≡ Ok (record {
   regs =
@@ -119,6 +125,7 @@ RightShiftCopiesTheSign = shift_right A 1 (with_a 0o400000000000) ≡ Ok (record
   overflow = false;
 })
 
+-- a rotation by 1: the first bit becomes the last
 abbrev pub RotationComesRound : Type 0
 RotationComesRound = rotate_left A 1 (with_a 0o400000000001) ≡ Ok (record {
   regs = record (at_instruction 1 0 1) { a = 3 };
@@ -126,15 +133,17 @@ RotationComesRound = rotate_left A 1 (with_a 0o400000000001) ≡ Ok (record {
   overflow = false;
 })
 
--- `tsx1 5` at word 3 leaves the word number of the next instruction in X1
+-- core with one segment: `tsx1 5` at word 3
 abbrev pub subroutine_core : List ℕ
 subroutine_core =
     core_of 0o100
     (segment 1 0o40 (procedure (rings 0 0 0)) ++ words_from 0o43 (0o000005701000 ∷ []))
 
+-- this core, at the instruction in ring 0
 abbrev pub at_subroutine : State (List ℕ)
 at_subroutine = record { regs = at_instruction 1 0 3; store = subroutine_core }
 
+-- X1 has the word number of the next instruction, and the run continues at word 5.
 abbrev pub TransferSetsTheIndex : Type 0
 TransferSetsTheIndex =
     registers_after at_subroutine
@@ -162,7 +171,7 @@ abbrev pub SignIsExtended : Type 0
 SignIsExtended =
     (sign_extended 0o777777777777 ≡ 2 ^ 72 - 1) × (sign_extended 0o377777777777 ≡ 0o377777777777)
 
--- LDI loads each indicator from its bit, and STI stores it there.
+-- LDI loads each indicator from its bit.
 abbrev pub IndicatorsAreLoaded : Type 0
 IndicatorsAreLoaded =
     (indicators_of 0o400000 ≡ record no_indicators { zero = true })
@@ -172,6 +181,7 @@ IndicatorsAreLoaded =
     × (indicators_of 0o004000 ≡ record no_indicators { mask = true })
     × (indicators_of 0o002000 ≡ record no_indicators { tally = true })
 
+-- STI stores each indicator at its bit.
 abbrev pub IndicatorsAreStored : Type 0
 IndicatorsAreStored =
     (indicators_half (record no_indicators { zero = true; negative = true; carry = true })

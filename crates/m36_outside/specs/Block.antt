@@ -11,7 +11,7 @@ block_bytes = 32768
 abbrev pub block_pieces : ℕ
 block_pieces = 2048
 
--- A block with these pieces has room for one more.
+-- whether a block with these pieces has room for one more
 abbrev pub has_room : List (List ℕ) → List ℕ → Bool
 has_room pieces piece =
     nat_lt (length pieces) block_pieces

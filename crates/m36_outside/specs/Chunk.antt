@@ -36,7 +36,7 @@ AddResult TooLarge before after got = (after ≡ before ++ got) × (file_limit <
 AddResult Failed before after got = ⊥
 AddResult NoMemory before after got = after ≡ before
 
--- A piece was given, and appended to the text.
+-- The reader gave a piece, and it was appended to the text.
 pub record GivesPiece (old new : List (List ℕ)) (before after : List ℕ) : Type 0 where
   pub got : List ℕ
   pub gave : new ≡ old ++ got ∷ []

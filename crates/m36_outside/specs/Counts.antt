@@ -1,7 +1,7 @@
 -- Counts of faults, which saturate.
 use Rattle.std.specs.Prelude.{ℕ, ◌≡◌, ◌<◌, ◌+◌, ◌-◌, ◌^◌, ◌⊎◌, min}
 
--- the maximum of each count
+-- the greatest value of each count, at which it saturates
 abbrev pub last_count : ℕ
 last_count = 2 ^ 64 - 1
 

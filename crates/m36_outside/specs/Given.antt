@@ -6,25 +6,25 @@ use Rattle.m36_outside.specs.declared.folder.ReadAnswer.{ReadAnswer}
 use Rattle.m36_outside.specs.declared.folder.ReadAnswer.TheVariants.{Read, Absent, TooLarge, Failed}
 use Rattle.m36_outside.specs.declared.folder.ReadAnswer.TheVariants.{NoMemory}
 
--- Pieces were given whose concatenation is `bytes`.
+-- The file gave pieces whose concatenation is `bytes`.
 pub record Gives (old new : List (List ℕ)) (bytes : List ℕ) : Type 0 where
   pub pieces : List (List ℕ)
   pub come : joined pieces ≡ bytes
   pub gave : new ≡ old ++ pieces
 
--- Pieces were given whose concatenation is `bytes`, and then the end.
+-- The file gave pieces whose concatenation is `bytes`, and then the end.
 pub record GivesAll (old new : List (List ℕ)) (bytes : List ℕ) : Type 0 where
   pub pieces : List (List ℕ)
   pub come : joined pieces ≡ bytes
   pub gave : new ≡ (old ++ pieces) ++ [] ∷ []
 
--- Pieces were given that together exceed the limit of a file.
+-- The file gave pieces that together exceed the limit of a file.
 pub record GivesTooMuch (old new : List (List ℕ)) : Type 0 where
   pub pieces : List (List ℕ)
   pub more : file_limit < length (joined pieces)
   pub gave : new ≡ old ++ pieces
 
--- Pieces were given, perhaps none.
+-- The file gave some pieces, perhaps none.
 pub record GivesSome (old new : List (List ℕ)) : Type 0 where
   pub pieces : List (List ℕ)
   pub gave : new ≡ old ++ pieces

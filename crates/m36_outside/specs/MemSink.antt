@@ -22,7 +22,7 @@ new_sink room puts =
 abbrev pub room_left : MemSinkFields → ℕ
 room_left sink = sink.room - length sink.bytes
 
--- A put fails if its number is listed, or if the piece does not fit.
+-- whether a put fails: its number is listed, or the piece does not fit
 abbrev pub put_fails : MemSinkFields → List ℕ → Bool
 put_fails sink piece = next_fails sink.puts || nat_lt (room_left sink) (length piece)
 
@@ -41,7 +41,7 @@ after_put sink piece = record {
   faults = if put_fails sink piece then raised sink.faults else sink.faults;
 }
 
--- The pieces of a block are put one after another, up to the first put that fails: one fails.
+-- whether a put fails if the pieces of a block are put one after another
 unfoldable pub block_fails : MemSinkFields → List (List ℕ) → Bool
 block_fails sink [] = false
 block_fails sink (piece ∷ pieces) =

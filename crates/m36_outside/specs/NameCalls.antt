@@ -10,7 +10,7 @@ use Rattle.m36_outside.specs.declared.name_calls.NameCall.TheVariants.{Make, Ren
 use Rattle.m36_outside.specs.declared.sink.Put.{Put}
 use Rattle.m36_outside.specs.declared.sink.Put.TheVariants.{Done, Failed}
 
--- if the call was done, no error was logged; otherwise one was
+-- one error was logged, unless the call was done; then none was
 abbrev pub ErrorUnless : Bool → List ErrorKind → List ErrorKind → Type 0
 ErrorUnless true old new = new ≡ old
 ErrorUnless false old new = (kind : ErrorKind) × (new ≡ old ++ kind ∷ [])
@@ -20,7 +20,7 @@ unfoldable pub spare_name : ℕ → List ℕ
 spare_name number =
     codes ".m36-" ++ (48 + number / 100) ∷ (48 + number / 10 % 10) ∷ (48 + number % 10) ∷ []
 
--- Each of the first `n` spare names was tried and refused.
+-- the calls that tried each of the first `n` spare names in order, all of which the system refused
 unfoldable pub tried : ℕ → List NameCall
 tried zero = []
 tried (suc n) = tried n ++ Make (spare_name n) false ∷ []
@@ -51,7 +51,8 @@ SpareUsed Failed spare name old new =
     × ((new ≡ old ++ Remove spare done ∷ [])
     ⊎ (new ≡ old ++ Rename spare name false ∷ [] ++ Remove spare done ∷ []))
 
--- The errors of a failure, and after them at most the error of the removal of the spare file.
+-- The errors logged by a failure: those of a call that gave up or was refused, and after them at
+-- most the error of the removal of the spare file.
 pub record FailsBy (old new : List ErrorKind) : Type 0 where
   pub failed : List ErrorKind
   pub cause : GivesUp old failed
@@ -63,7 +64,8 @@ abbrev pub SpareErrors : Put → List ErrorKind → List ErrorKind → Type 0
 SpareErrors Done old new = Signals old new
 SpareErrors Failed old new = FailsBy old new
 
--- The calls that replace a file as a whole, from the first spare name that was tried on.
+-- The calls that replace a file as a whole: tries of spare names, the creation of the spare file,
+-- and its renaming.
 pub record Replaces (name : List ℕ) (old new : List NameCall) : Type 0 where
   pub count : ℕ
   pub noted : new
@@ -77,7 +79,8 @@ pub record ReplacesNot (name : List ℕ) (old new : List NameCall) : Type 0 wher
       ⊎ SpareUsed Failed (spare_name count) name
       (old ++ tried count ++ Make (spare_name count) true ∷ []) new
 
--- A file is replaced whole or not at all.
+-- what the answer to the writing of a file implies for the calls that change names: a file is
+-- replaced whole or not at all
 abbrev pub ReplaceCalls : Put → List ℕ → List NameCall → List NameCall → Type 0
 ReplaceCalls Done name old new = Replaces name old new
 ReplaceCalls Failed name old new = ReplacesNot name old new

@@ -29,8 +29,8 @@ PieceGives (piece.Got count) old new into = new ≡ old ++ take count into ∷ [
 PieceGives piece.End old new into = new ≡ old ++ [] ∷ []
 PieceGives piece.Failed old new into = new ≡ old
 
--- Of the pieces `due` a sink took the first ones, each as one piece, and then a prefix of the
--- next.
+-- Of the pieces `due` a sink took the first ones, each as one piece, and then a prefix of the next,
+-- perhaps empty.
 pub record TakesSome (old new due : List (List ℕ)) : Type 0 where
   pub lines : List (List ℕ)
   pub line : List ℕ

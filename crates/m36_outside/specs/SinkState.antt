@@ -7,6 +7,6 @@ pub record SinkState : Type 0 where
   pub taken : List (List ℕ)
   pub faults : ℕ
 
--- the state with these parts
+-- the state of a sink with these three parts
 abbrev pub seen : Option (List ℕ) → List (List ℕ) → ℕ → SinkState
 seen written taken faults = record { written = written; taken = taken; faults = faults }

@@ -18,7 +18,7 @@ use Rattle.m36_outside.specs.declared.sink.Put.TheVariants.{Done, Failed}
 abbrev pub slash : ℕ
 slash = 47
 
--- Done: these bytes were flushed, as a whole.
+-- If the put is Done, one entry was added to the log of flushes: these bytes.
 abbrev pub NotesDone : Put → List (List ℕ) → List (List ℕ) → List ℕ → Type 0
 NotesDone Done old new bytes = new ≡ old ++ bytes ∷ []
 NotesDone Failed old new bytes = ⊤
@@ -51,7 +51,7 @@ pub record NamesFile (name : List ℕ) : Type 0 where
   pub text : IsUtf8 name
   pub no_slash : ¬ (Contains name slash)
 
--- the answer for a file that could not be opened
+-- the answer for a file that could not be opened: Absent if it was not found, otherwise Failed
 abbrev pub refusal_of : ErrorKind → ReadAnswer
 refusal_of NotFound = read.Absent
 refusal_of _ = read.Failed
@@ -75,7 +75,7 @@ ReadHasError read.TooLarge name old new = OpenHasError read.TooLarge old new
 ReadHasError read.Failed name old new = ReadsNot old new
 ReadHasError read.NoMemory name old new = OpenHasError read.NoMemory old new
 
--- the answer of the folder for the result of the put
+-- the answer of the folder to a write, from the answer to the put that wrote the file
 abbrev pub write_answer_of : Put → WriteAnswer
 write_answer_of Done = write.Written
 write_answer_of Failed = write.Failed
@@ -99,7 +99,8 @@ pub record NotesPart (old new : List (List ℕ)) (content : List ℕ) : Type 0 w
       (new ≡ old)
       ⊎ ((part : List ℕ) × (rest : List ℕ) × (content ≡ part ++ rest) × (new ≡ old ++ part ∷ []))
 
--- what a file that is written took of its content
+-- what a file that is written has taken: all of the content if it is Done, and otherwise a prefix
+-- or nothing
 abbrev pub NotesWrite : Put → List (List ℕ) → List (List ℕ) → List ℕ → Type 0
 NotesWrite Done old new content = new ≡ old ++ content ∷ []
 NotesWrite Failed old new content = NotesPart old new content
@@ -111,13 +112,13 @@ WriteTakes write.Written old new content = NotesWrite Done old new content
 WriteTakes write.Failed old new content = NotesWrite Failed old new content
 WriteTakes write.NoMemory old new content = ⊥
 
--- what it implies for the calls that change names
+-- what the answer of the folder to a write implies for the calls that change names
 abbrev pub WriteCalls : WriteAnswer → List ℕ → List NameCall → List NameCall → Type 0
 WriteCalls write.Written name old new = ReplaceCalls Done name old new
 WriteCalls write.Failed name old new = ReplaceCalls Failed name old new
 WriteCalls write.NoMemory name old new = ⊥
 
--- what it implies for the errors
+-- what the answer of the folder to a write implies for the logged errors
 abbrev pub WriteHasError : WriteAnswer → List ℕ → List ErrorKind → List ErrorKind → Type 0
 WriteHasError write.Written name old new = FileHasError Done name old new
 WriteHasError write.Failed name old new = FileHasError Failed name old new

@@ -181,7 +181,7 @@ fn refusal(kind: ErrorKind) -> ReadAnswer
     }
 }
 
-/// The answer of the folder for the result of the put.
+/// The answer of the folder to a write, from the answer to the put that wrote the file.
 fn write_answer(put: Put) -> WriteAnswer
     ensures { result ≡ write_answer_of put }
 {

@@ -31,8 +31,8 @@
 //! a [`Log`]. It has no bytes at run time, so nothing is kept in memory. By it a caller's
 //! contract can state, for every object, what was requested and what was put.
 //!
-//! The system is called in `noted.rt`, in `name_calls.rt` and, to open a file, in `directory.rt`.
-//! Each call is logged with what std answered. `noted.rt` is proved for every reader and writer.
+//! The system is called in `logged.rt`, in `name_calls.rt` and, to open a file, in `directory.rt`.
+//! Each call is logged with what std answered. `logged.rt` is proved for every reader and writer.
 //! From it the adapters prove:
 //!
 //! - a put that is done wrote everything and flushed it;

@@ -122,7 +122,8 @@ fn digit(number: u16) -> char
     char::from(b'0' + number as u8)
 }
 
-/// Creates a file under a name that no file has.
+/// Creates a file under a name that no file has. The error is that of the system, `AlreadyExists`
+/// if a file has the name.
 fn make_new<R: Files>(
     rt: &R,
     name: &str,

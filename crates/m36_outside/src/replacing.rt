@@ -18,7 +18,8 @@ use crate::writing::write_alone;
 use std::io::Write;
 use std::rt::Files;
 
-/// Creates or replaces a file of the current directory.
+/// Creates or replaces a file of the current directory, as a whole or not at all. Failed also for a
+/// name that can name no file.
 pub fn write_file<R: Files>(rt: &R, name: &[u8], content: &[u8], notes: &mut FileLogs) -> Put
     ensures outside { NamesNoFile name.now
         → (result ≡ Put.Failed)
@@ -38,8 +39,8 @@ pub fn write_file<R: Files>(rt: &R, name: &[u8], content: &[u8], notes: &mut Fil
     }
 }
 
-/// Writes the content to the spare file and renames it. If either fails, tries to remove the spare
-/// file.
+/// Writes the content to the spare file, and gives it the name of the file that is written. If
+/// either fails, tries to remove the spare file.
 fn replace<R: Files>(
     rt: &R,
     mut file: R::File,

@@ -32,15 +32,15 @@ octal_text places v = map character (digits 8 places v)
 abbrev pub word_digits : ℕ
 word_digits = 12
 
--- that of a half word, and so of a word number
+-- the number of octal digits of a half word, and so of a word number
 abbrev pub half_digits : ℕ
 half_digits = 6
 
--- that of a segment number
+-- the number of octal digits of a segment number
 abbrev pub segment_digits : ℕ
 segment_digits = 5
 
--- that of the address of a core word
+-- the number of octal digits of the address of a core word
 abbrev pub core_word_digits : ℕ
 core_word_digits = 8
 

@@ -13,7 +13,8 @@ abbrev pub unended_line : List ℕ → List (Option (List ℕ))
 unended_line [] = []
 unended_line (b ∷ rest) = None ∷ []
 
--- the lines, by the parts that the line feeds separate
+-- The lines of a text, given the parts of the text that line feeds separate. The last part is no
+-- line if it is empty, and otherwise a line without its line feed.
 abbrev pub ended : List (List ℕ) → List (Option (List ℕ))
 ended [] = []
 ended (rest ∷ []) = unended_line rest
@@ -27,12 +28,13 @@ lines_of text = ended (slice_split (λ b. b == 10) text)
 abbrev pub line_at : List (Option (List ℕ)) → ℕ → Option (List ℕ)
 line_at lines n = unwrap_or (slice_get lines (n - 1)) None
 
--- what follows the last line feed: a line, unless it is empty
+-- the text after the last line feed as a list of lines: one line, or none if the text is empty
 abbrev pub open_rest : List ℕ → List (List ℕ)
 open_rest [] = []
 open_rest (b ∷ rest) = (b ∷ rest) ∷ []
 
--- the lines, by the parts that the line feeds separate, of which the last may lack its own
+-- The lines of a text, given the parts of the text that line feeds separate. The last line may lack
+-- its line feed.
 abbrev pub open_lines_of_parts : List (List ℕ) → List (List ℕ)
 open_lines_of_parts [] = []
 open_lines_of_parts (rest ∷ []) = open_rest rest
@@ -42,7 +44,8 @@ open_lines_of_parts (line ∷ next ∷ parts) = line ∷ open_lines_of_parts (ne
 unfoldable pub open_lines_of : List ℕ → List (List ℕ)
 open_lines_of text = open_lines_of_parts (slice_split (λ b. b == 10) text)
 
--- Single spaces separate the words of a line.
+-- The words of a line. One space separates two words, so two spaces in a row have an empty word
+-- between them.
 unfoldable pub words_of : List ℕ → List (List ℕ)
 words_of line = slice_split (λ b. b == 32) line
 
@@ -50,13 +53,13 @@ words_of line = slice_split (λ b. b == 32) line
 abbrev pub joined_by_spaces : List (List ℕ) → List ℕ
 joined_by_spaces words = join_with_byte 32 words
 
--- The meaning of a line, by its words. A line that lacks its line feed has the meaning
+-- What `says` makes of the words of a line. A line that lacks its line feed (None) has the meaning
 -- `of_no_form`.
 abbrev pub by_words : {A : Type 0} → (List (List ℕ) → A) → A → Option (List ℕ) → A
 by_words says of_no_form (Some line) = says (words_of line)
 by_words says of_no_form None = of_no_form
 
--- the meaning of words, by the first word and those after it; None if there is no word
+-- what `says` makes of the first word and of the words after it; None if there is no word
 abbrev pub by_first_word : {A : Type 0} → (List ℕ → List (List ℕ) → Option A) → List (List ℕ)
     → Option A
 by_first_word says [] = None
@@ -77,13 +80,14 @@ those_read lines = filter_map (λ next. next) lines
 abbrev pub last_of : {A : Type 0} → List A → Option A
 last_of lines = slice_get lines (length lines - 1)
 
--- The first line that has a result, with its number. The first line of the list has the number n.
+-- The first result of a list that is not None, with the number of its line; None if there is none.
+-- The lines are numbered from n.
 unfoldable pub first_reported : {A : Type 0} → ℕ → List (Option A) → Option (ℕ × A)
 first_reported n [] = None
 first_reported n (Some told ∷ lines) = Some (n, told)
 first_reported n (None ∷ lines) = first_reported (n + 1) lines
 
--- The result of the first test that holds.
+-- the value beside the first condition that holds; None if no condition holds
 unfoldable pub first_met : {A : Type 0} → List (Bool × A) → Option A
 first_met [] = None
 first_met (test ∷ tests) = if test.0 then Some test.1 else first_met tests

@@ -6,7 +6,7 @@ use Rattle.m36_text.specs.Digits.{zero_character, word_digits, half_digits, segm
 use Rattle.m36_text.specs.Digits.{core_word_digits}
 use Rattle.m36_text.specs.Reading.{number_read}
 
--- a number written in exactly `places` octal digits
+-- a text as a number, if it has exactly `places` characters and all are octal digits
 unfoldable pub octal_in : ℕ → List ℕ → Option ℕ
 octal_in places text =
     if length text == places then result_ok (number_read 8 text (8 ^ places - 1)) else None
@@ -32,7 +32,7 @@ abbrev pub at_least : ℕ → Option ℕ → Option ℕ
 at_least least None = None
 at_least least (Some n) = if nat_le least n then Some n else None
 
--- a number from `least` to `most`, written in any number of decimal digits
+-- a text as a number, if it has decimal digits alone, of any number, and is from `least` to `most`
 unfoldable pub decimal_in : ℕ → ℕ → List ℕ → Option ℕ
 decimal_in least most text = at_least least (result_ok (number_read 10 text most))
 
@@ -41,7 +41,7 @@ unfoldable pub short_decimal_in : ℕ → ℕ → ℕ → List ℕ → Option �
 short_decimal_in digits least most text =
     if nat_le (length text) digits then decimal_in least most text else None
 
--- no leading zero, except in the number 0 itself
+-- a text of one character, or one that does not begin with 0
 abbrev pub has_no_leading_zero : List ℕ → Bool
 has_no_leading_zero text = (length text == 1) || not (slice_index text 0 == zero_character)
 

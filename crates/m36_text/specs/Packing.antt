@@ -21,7 +21,8 @@ packed (even ∷ odd ∷ words) =
 unfoldable pub bits_of : List ℕ → ℕ
 bits_of bytes = number_from_digits 256 bytes
 
--- the word of the bytes that are left after whole groups of nine bytes, if there are any
+-- The word that is packed alone in the bytes after the whole groups of nine, as a list of one; no
+-- word if there are no such bytes. The low four bits of the bytes are no part of it.
 abbrev pub last_word : List ℕ → List ℕ
 last_word [] = []
 last_word (byte ∷ bytes) = bits_of (byte ∷ bytes) / 2 ^ 4 ∷ []
@@ -42,14 +43,16 @@ unpacked bytes =
     then Ok (words_of (length bytes / 9) bytes) else Err (T4 (length bytes - 1)))
     else Err (T3 (length bytes)))
 
--- The result of a call that unpacks. It may be NoMemory whatever the bytes are.
+-- The result of a call that unpacks is that of the definition, except that it may be NoMemory
+-- whatever the bytes are.
 abbrev pub UnpackResult : Result (List ℕ) PackFault → Result (List ℕ) PackFault → Type 0
 UnpackResult (Ok words) definition = definition ≡ Ok words
 UnpackResult (Err (T3 count)) definition = definition ≡ Err (T3 count)
 UnpackResult (Err (T4 place)) definition = definition ≡ Err (T4 place)
 UnpackResult (Err NoMemory) definition = Unit {0}
 
--- The number or index in a fault agrees with a count of bytes.
+-- What a fault holds, if it is about `count` bytes: T3 holds their number, T4 the index of the last
+-- one.
 abbrev pub IsOfCount : ℕ → PackFault → Type 0
 IsOfCount count (T3 given) = given ≡ count
 IsOfCount count (T4 place) = place + 1 ≡ count

@@ -8,11 +8,11 @@ use Rattle.m36_text.specs.Digits.{is_digit, digit_of, octal_text, decimal_text, 
 use Rattle.m36_text.specs.declared.reading.NumberFault.{NumberFault}
 use Rattle.m36_text.specs.declared.reading.NumberFault.TheVariants.{T1, T2}
 
--- the index of the first byte that is not a digit
+-- the index of the first byte that is not a digit of this base; None if all bytes are digits
 unfoldable pub first_non_digit : ℕ → List ℕ → Option ℕ
 first_non_digit base text = position (λ byte. not (is_digit base byte)) text
 
--- the number that digits represent
+-- the number that digit characters represent, the most significant first
 unfoldable pub number_of : ℕ → List ℕ → ℕ
 number_of base text = number_from_digits base (map digit_of text)
 
@@ -29,7 +29,7 @@ number_read base [] max = Err (T1 0)
 number_read base (byte ∷ text) max =
     parsed_number (first_non_digit base (byte ∷ text)) (number_of base (byte ∷ text)) max
 
--- the index in a fault is at most `count`
+-- the index that T1 holds is at most `count`; T2 holds none
 abbrev pub IsWithin : ℕ → NumberFault → Type 0
 IsWithin count (T1 place) = place ≤ count
 IsWithin count T2 = Unit {0}

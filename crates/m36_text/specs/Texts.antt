@@ -13,9 +13,11 @@ are_same text other = pointwise nat_eq text other
 abbrev pub is_text : List ℕ → List ℕ → Bool
 is_text name text = are_same text name
 
+-- a-z
 abbrev pub is_small_letter : ℕ → Bool
 is_small_letter c = nat_le 97 c && nat_le c 122
 
+-- A-Z a-z
 abbrev pub is_letter : ℕ → Bool
 is_letter c = (nat_le 65 c && nat_le c 90) || is_small_letter c
 

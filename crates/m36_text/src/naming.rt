@@ -37,6 +37,8 @@ impl Hash for Name {
 
     ghost respects_eq = { Prim.search (hashing, rules) };
 
+    // Writes the whole words of eight bytes at once, and then one word with the length and the
+    // remaining bytes.
     fn hash<H: Hasher>(&self, state: &mut H) {
         let bytes = self.items.as_slice();
         let whole = bytes.len() / 8 * 8;
@@ -45,8 +47,9 @@ impl Hash for Name {
     }
 }
 
-// Shifts each byte in turn into the low end of `length`. At most seven bytes follow the whole words
-// of a name, so its length remains in the top bits.
+// The last word that a name of this length writes to a hasher: each byte in turn is shifted into
+// the low end of `length`. At most seven bytes follow the whole words of a name, so its length
+// remains in the top bits.
 fn last_word(length: u64, bytes: &[u8]) -> u64
     ensures { result ≡ fold with_low_byte length bytes.now }
 {

@@ -36,7 +36,8 @@ pub fn decimal(v: u64) -> ArrayString<20>
     text_of(&bytes[start..])
 }
 
-// The digits are the last `places` bytes of the buffer.
+// The number in octal, at the end of a buffer: its digits are the last `places` bytes, and zeros
+// precede them. The number has to fit in `places` digits, or its high digits are left out.
 #[tactic(auto, using(crate::proofs::DigitLaws::length_octal, crate::proofs::DigitLaws::octal_ascii))]
 fn octal_bytes(v: u64, places: u32) -> [u8; 22]
     requires { places ≤ 22 }
@@ -71,6 +72,7 @@ fn put_decimal(v: u64, bytes: &mut [u8; 20]) -> usize
     start
 }
 
+// A text of these bytes, which have to be ASCII and at most N.
 fn text_of<const N: usize>(bytes: &[u8]) -> ArrayString<N>
     requires fits { length bytes.now ≤ N }
     requires ascii { IsAscii bytes.now }

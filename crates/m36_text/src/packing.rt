@@ -70,6 +70,7 @@ fn first_pair(words: &[Word]) -> u128
     pair.value()
 }
 
+// The low 72 bits of a number as nine bytes, the most significant byte first.
 #[tactic(auto, unfolding(crate::specs::Digits::digits))]
 fn nine_bytes(bits: u128) -> [u8; 9]
     ensures { result ≡ digits 256 9 bits }
@@ -87,6 +88,7 @@ fn nine_bytes(bits: u128) -> [u8; 9]
     ]
 }
 
+// The low 40 bits of a number as five bytes, the most significant byte first.
 #[tactic(auto, unfolding(crate::specs::Digits::digits))]
 fn five_bytes(bits: u64) -> [u8; 5]
     ensures { result ≡ digits 256 5 bits }

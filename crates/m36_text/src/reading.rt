@@ -40,6 +40,8 @@ pub fn read_decimal(t: &[u8], max: u64) -> Result<u64, NumberFault>
     read_number(10, t, max)
 }
 
+// The number written in digits of a base of at most ten, if it is at most `max`. Leading zeros are
+// allowed.
 #[tactic(auto, unfolding(crate::specs::Reading::number_read))]
 fn read_number(base: u8, t: &[u8], max: u64) -> Result<u64, NumberFault>
     requires { (1 ≤ base) × (base ≤ 10) }

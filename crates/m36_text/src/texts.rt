@@ -30,6 +30,7 @@ pub fn is_name_character(byte: u8) -> bool
     is_letter(byte) || is_digit(10, byte) || matches!(byte, b'_' | b'.')
 }
 
+// Whether each byte can occur in a name. So it is for an empty text.
 fn has_name_characters(text: &[u8]) -> bool
     ensures { result ≡ list_all is_name_character text.now }
 {

@@ -2,7 +2,7 @@
 use Rattle.std.specs.Prelude.{ℕ, Bool, true, false, ◌==◌}
 use Rattle.m36_word.specs.Field.{bit}
 
--- a bit of a word is on; bit 0 is the most significant
+-- whether bit i of a word is on; bit 0 is the most significant of 36
 abbrev pub is_on : ℕ → ℕ → Bool
 is_on w i = bit w i == 1
 

@@ -10,7 +10,7 @@ abbrev pub with_field : ℕ → ℕ → ℕ → ℕ → ℕ
 with_field w first len v =
     (w / 2 ^ (36 - first) * 2 ^ len + v) * 2 ^ (36 - first - len) + w % 2 ^ (36 - first - len)
 
--- one bit of a word, 0 or 1
+-- bit i of a word, 0 or 1; bit 0 is the most significant of 36
 abbrev pub bit : ℕ → ℕ → ℕ
 bit w i = field w i 1
 

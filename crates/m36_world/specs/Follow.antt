@@ -5,17 +5,18 @@ use Rattle.m36_world.specs.Seen.{Seen}
 use Rattle.m36_world.specs.declared.event.Event.{Event}
 use Rattle.m36_world.specs.declared.event.Event.TheVariants.{Output}
 
--- First `first` happened, and then `rest`.
+-- First `first` happened, and then `rest`: `first` relates the state before to one between, and
+-- `rest` that to the state after.
 pub record Next (first rest : Seen → Seen → Type 0) (old new : Seen) : Type 0 where
   pub between : Seen
   pub begins : first old between
   pub goes_on : rest between new
 
--- These events happened, one after another.
+-- These events happened, one after another, and nothing else.
 unfoldable pub Follow : List Event → Seen → Seen → Type 0
 Follow [] old new = new ≡ old
 Follow (event ∷ events) old new = Next (Happened event) (Follow events) old new
 
--- these pieces of output, each written whole
+-- the events of output of these pieces, each written whole
 abbrev pub outputs : List (List ℕ) → List Event
 outputs pieces = map (λ piece. Output piece) pieces

@@ -79,7 +79,7 @@ pub record IsInputFailed (old new : Seen) : Type 0 where
   pub bound : new.input_faults < 2 ^ 64
   pub rest : new ≡ record (noted InputFailed old) { input_faults = new.input_faults }
 
--- what an event did
+-- what an event did, by its kind
 abbrev pub Happened : Event → Seen → Seen → Type 0
 Happened (FileRead name answer) old new = IsFileRead name answer old new
 Happened (FileWrite name content answer) old new = IsFileWrite name content answer old new

@@ -17,7 +17,7 @@ read_of (OutputFailed pieces) = []
 read_of (Input piece) = []
 read_of InputFailed = []
 
--- its entry in the log of writes, if it is a write
+-- the entry of an event in the log of writes, if it is a write
 abbrev pub write_of : Event → List Wrote
 write_of (FileRead name answer) = []
 write_of (FileWrite name content answer) = (name, content, answer) ∷ []
@@ -26,7 +26,7 @@ write_of (OutputFailed pieces) = []
 write_of (Input piece) = []
 write_of InputFailed = []
 
--- its entry in the log of pieces of input, if it is one
+-- the entry of an event in the log of pieces of input, if it is one
 abbrev pub input_of : Event → List (List ℕ)
 input_of (FileRead name answer) = []
 input_of (FileWrite name content answer) = []
@@ -35,7 +35,8 @@ input_of (OutputFailed pieces) = []
 input_of (Input piece) = piece ∷ []
 input_of InputFailed = []
 
--- The output logged the pieces that this event put.
+-- what an event adds to the log of the output: the piece or pieces that it put, and nothing if it
+-- is no output
 abbrev pub Takes : Event → List (List ℕ) → List (List ℕ) → Type 0
 Takes (FileRead name answer) old new = new ≡ old
 Takes (FileWrite name content answer) old new = new ≡ old
@@ -44,14 +45,14 @@ Takes (OutputFailed pieces) old new = TakesSome old new pieces
 Takes (Input piece) old new = new ≡ old
 Takes InputFailed old new = new ≡ old
 
--- The output logged the pieces of these events, one event after another.
+-- The log of the output grew by what `event` put, and then as `rest` says.
 pub record TakesNext (event : Event) (rest : List (List ℕ) → List (List ℕ) → Type 0)
     (old new : List (List ℕ)) : Type 0 where
   pub between : List (List ℕ)
   pub begins : Takes event old between
   pub goes_on : rest between new
 
--- the output logged the pieces of all these events
+-- the log of the output grew by what these events put, in order
 unfoldable pub TakesAll : List Event → List (List ℕ) → List (List ℕ) → Type 0
 TakesAll [] old new = new ≡ old
 TakesAll (event ∷ events) old new = TakesNext event (TakesAll events) old new

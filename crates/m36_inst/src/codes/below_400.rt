@@ -76,6 +76,7 @@ pub(super) use rows_000;
 
 static ROWS_000: [Option<Named>; 64] = rows_000!(rows);
 
+/// The rows of codes 000 to 077 with bit 27 off.
 pub(crate) fn codes_000() -> &'static [Option<Named>; 64]
     ensures { result.now ≡ block false 0o000 }
 {
@@ -154,6 +155,7 @@ pub(super) use rows_100;
 
 static ROWS_100: [Option<Named>; 64] = rows_100!(rows);
 
+/// The rows of codes 100 to 177 with bit 27 off.
 pub(crate) fn codes_100() -> &'static [Option<Named>; 64]
     ensures { result.now ≡ block false 0o100 }
 {
@@ -242,6 +244,7 @@ pub(super) use rows_200;
 
 static ROWS_200: [Option<Named>; 64] = rows_200!(rows);
 
+/// The rows of codes 200 to 277 with bit 27 off.
 pub(crate) fn codes_200() -> &'static [Option<Named>; 64]
     ensures { result.now ≡ block false 0o200 }
 {
@@ -323,6 +326,7 @@ pub(super) use rows_300;
 
 static ROWS_300: [Option<Named>; 64] = rows_300!(rows);
 
+/// The rows of codes 300 to 377 with bit 27 off.
 pub(crate) fn codes_300() -> &'static [Option<Named>; 64]
     ensures { result.now ≡ block false 0o300 }
 {

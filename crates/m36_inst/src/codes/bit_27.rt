@@ -34,6 +34,7 @@ pub(super) use rows_000_on;
 
 static ROWS_000_ON: [Option<Named>; 64] = rows_000_on!(rows);
 
+/// The rows of codes 000 to 077 with bit 27 on.
 pub(crate) fn codes_000_on() -> &'static [Option<Named>; 64]
     ensures { result.now ≡ block true 0o000 }
 {
@@ -67,6 +68,7 @@ pub(super) use rows_100_on;
 
 static ROWS_100_ON: [Option<Named>; 64] = rows_100_on!(rows);
 
+/// The rows of codes 100 to 177 with bit 27 on.
 pub(crate) fn codes_100_on() -> &'static [Option<Named>; 64]
     ensures { result.now ≡ block true 0o100 }
 {
@@ -104,6 +106,7 @@ pub(super) use rows_200_on;
 
 static ROWS_200_ON: [Option<Named>; 64] = rows_200_on!(rows);
 
+/// The rows of codes 200 to 277 with bit 27 on.
 pub(crate) fn codes_200_on() -> &'static [Option<Named>; 64]
     ensures { result.now ≡ block true 0o200 }
 {
@@ -145,6 +148,7 @@ pub(super) use rows_300_on;
 
 static ROWS_300_ON: [Option<Named>; 64] = rows_300_on!(rows);
 
+/// The rows of codes 300 to 377 with bit 27 on.
 pub(crate) fn codes_300_on() -> &'static [Option<Named>; 64]
     ensures { result.now ≡ block true 0o300 }
 {
@@ -178,6 +182,7 @@ pub(super) use rows_400_on;
 
 static ROWS_400_ON: [Option<Named>; 64] = rows_400_on!(rows);
 
+/// The rows of codes 400 to 477 with bit 27 on.
 pub(crate) fn codes_400_on() -> &'static [Option<Named>; 64]
     ensures { result.now ≡ block true 0o400 }
 {
@@ -213,6 +218,7 @@ pub(super) use rows_500_on;
 
 static ROWS_500_ON: [Option<Named>; 64] = rows_500_on!(rows);
 
+/// The rows of codes 500 to 577 with bit 27 on.
 pub(crate) fn codes_500_on() -> &'static [Option<Named>; 64]
     ensures { result.now ≡ block true 0o500 }
 {
@@ -253,6 +259,7 @@ pub(super) use rows_600_on;
 
 static ROWS_600_ON: [Option<Named>; 64] = rows_600_on!(rows);
 
+/// The rows of codes 600 to 677 with bit 27 on.
 pub(crate) fn codes_600_on() -> &'static [Option<Named>; 64]
     ensures { result.now ≡ block true 0o600 }
 {
@@ -286,6 +293,7 @@ pub(super) use rows_700_on;
 
 static ROWS_700_ON: [Option<Named>; 64] = rows_700_on!(rows);
 
+/// The rows of codes 700 to 777 with bit 27 on.
 pub(crate) fn codes_700_on() -> &'static [Option<Named>; 64]
     ensures { result.now ≡ block true 0o700 }
 {

@@ -44,6 +44,7 @@ pub(super) use rows_400;
 
 static ROWS_400: [Option<Named>; 64] = rows_400!(rows);
 
+/// The rows of codes 400 to 477 with bit 27 off.
 pub(crate) fn codes_400() -> &'static [Option<Named>; 64]
     ensures { result.now ≡ block false 0o400 }
 {
@@ -83,6 +84,7 @@ pub(super) use rows_500;
 
 static ROWS_500: [Option<Named>; 64] = rows_500!(rows);
 
+/// The rows of codes 500 to 577 with bit 27 off.
 pub(crate) fn codes_500() -> &'static [Option<Named>; 64]
     ensures { result.now ≡ block false 0o500 }
 {
@@ -165,6 +167,7 @@ pub(super) use rows_600;
 
 static ROWS_600: [Option<Named>; 64] = rows_600!(rows);
 
+/// The rows of codes 600 to 677 with bit 27 off.
 pub(crate) fn codes_600() -> &'static [Option<Named>; 64]
     ensures { result.now ≡ block false 0o600 }
 {
@@ -247,6 +250,7 @@ pub(super) use rows_700;
 
 static ROWS_700: [Option<Named>; 64] = rows_700!(rows);
 
+/// The rows of codes 700 to 777 with bit 27 off.
 pub(crate) fn codes_700() -> &'static [Option<Named>; 64]
     ensures { result.now ≡ block false 0o700 }
 {

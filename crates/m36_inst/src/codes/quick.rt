@@ -136,6 +136,7 @@ static QUICK: [[Quick; 128]; 8] = [
     QUICK_000, QUICK_100, QUICK_200, QUICK_300, QUICK_400, QUICK_500, QUICK_600, QUICK_700,
 ];
 
+// The whole table: eight parts of 64 codes, each with bit 27 off and then on.
 #[inline(always)]
 fn parts() -> &'static [[Quick; 128]; 8]
     ensures { result.now ≡ quick_table }
