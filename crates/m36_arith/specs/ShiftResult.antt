@@ -15,7 +15,7 @@ shifted shift.Right k v c = copying_right_shift k v c
 shifted shift.RightZero k v c = plain_right_shift v c
 shifted shift.Rotate k v c = rotation k v c
 
--- the carry of a shift
+-- the carry of a shift of a number of k bits: only a left shift can set it
 abbrev pub shift_carry : Shift → ℕ → ℕ → ℕ → Bool
 shift_carry shift.Left k v c = left_shift_carry k v c
 shift_carry shift.Right k v c = false

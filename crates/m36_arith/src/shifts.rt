@@ -23,6 +23,7 @@ pub enum Shift {
     Rotate,
 }
 
+// A number of 36 bits, shifted by n places.
 fn shifted_word(op: Shift, v: u64, n: u32) -> u64
     requires number { v < 2 ^ 36 }
     requires count { n < 128 }
@@ -37,6 +38,7 @@ fn shifted_word(op: Shift, v: u64, n: u32) -> u64
     }
 }
 
+// The carry of a shift of a number of 36 bits: only a left shift can set it.
 fn carry_of_word(op: Shift, v: u64, n: u32) -> bool
     requires number { v < 2 ^ 36 }
     requires count { n < 128 }
@@ -65,6 +67,7 @@ pub fn shift36(op: Shift, v: Word, n: u32) -> Sum36
     }
 }
 
+// A number of 72 bits, shifted by n places.
 fn shifted_pair(op: Shift, v: u128, n: u32) -> u128
     requires number { v < 2 ^ 72 }
     requires count { n < 128 }
@@ -79,6 +82,7 @@ fn shifted_pair(op: Shift, v: u128, n: u32) -> u128
     }
 }
 
+// The carry of a shift of a number of 72 bits: only a left shift can set it.
 fn carry_of_pair(op: Shift, v: u128, n: u32) -> bool
     requires number { v < 2 ^ 72 }
     requires count { n < 128 }

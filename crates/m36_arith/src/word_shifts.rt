@@ -46,6 +46,7 @@ pub fn left_carries(v: u64, n: u32) -> bool
     }
 }
 
+// A shift to the right with zeros by a count below 128; `>>` requires one below 64.
 #[tactic(auto, using(crate::proofs::ShiftRules::all_out))]
 fn shifted_right(v: u64, n: u32) -> u64
     requires number { v < 2 ^ 36 }

@@ -14,11 +14,11 @@ use Rattle.m36_associative.specs.declared.kept.SdwEntry.{SdwEntry}
 use Rattle.m36_associative.specs.declared.kept.PtwEntry.{PtwEntry}
 use Rattle.m36_associative.specs.declared.memories.Memories.{Memories}
 
--- the key of a page of a segment in front
+-- the key under which a page of a segment is in front; 0 is the key of no page
 abbrev pub page_key : ℕ → ℕ → ℕ
 page_key seg page = seg * 256 + page + 1
 
--- a PTW has its used bit on and, if `modified` is on, its modified bit too
+-- The PTW at address `a` has its used bit on and, if `modified` is on, its modified bit too.
 abbrev pub IsMarked : List ℕ → ℕ → Bool → Type 0
 IsMarked core a modified = marked_word modified (slice_index core a) ≡ slice_index core a
 
@@ -60,12 +60,14 @@ module _ (core : List ℕ) (dbr : DbrFields) (words tables : List ℕ) where
     pub odd : (a : ℕ) → sdw_place core dbr seg ≡ Ok a → watched words (wrapped (a + 1)) ≡ true
     pub directory : dbr.unpaged ≡ false → watched tables (directory_at dbr seg) ≡ true
 
-  -- a kept descriptor
+  -- A descriptor may be kept for this segment: it is the one that core has, and the words through
+  -- which it is found are watched.
   pub record IsDescriptor (seg : ℕ) (d : SdwFields) : Type 0 where
     pub found : core_sdw core dbr seg ≡ Ok d
     pub watches : IsWatched seg
 
-  -- a kept PTW: it finds the words of its page as the one in core does
+  -- A PTW may be kept for this address: it finds the words of its page as the one in core does (its
+  -- marks may differ), and the address is watched.
   pub record IsTableWord (a : ℕ) (p : PtwFields) : Type 0 where
     pub inside : a < length core
     pub finds : (offset : ℕ) → in_frame (ptw_at core a) offset ≡ in_frame (Some p) offset
@@ -105,7 +107,8 @@ module _ (core : List ℕ) (dbr : DbrFields) (words tables : List ℕ) where
     pub below : f.ring < page.fetch_below
     pub privileged : f.privileged ≡ page.privileged
 
--- everything that is kept is right
+-- The memories are coherent with core: each entry, each page in front and the page that is fetched
+-- from is what the tables in core say, and the words on which it depends are watched.
 pub record AreRight (core : List ℕ) (dbr : DbrFields) (m : Memories) : Type 0 where
   pub descriptors :
       (e : SdwEntry) (seg : ℕ) → Contains m.sdws e → e.key ≡ seg + 1

@@ -2,7 +2,7 @@
 use Rattle.std.specs.Prelude.{ℕ, ◌≡◌, ◌≤◌, Bool, true, List, nat_eq}
 use Rattle.std.specs.List.{list_any}
 
--- the address is in the list
+-- whether the address is in the list of watched addresses
 unfoldable pub watched : List ℕ → ℕ → Bool
 watched places a = list_any (λ b. nat_eq b a) places
 

@@ -138,7 +138,7 @@ pub fn place_to_change(
     Some(place)
 }
 
-/// Whether a ring may fetch from a page.
+/// Whether a ring may fetch from a page in front.
 #[inline(always)]
 fn fetches(page: &Page, ring: u8) -> bool
     ensures { IsTrue result → (page.now.r1 ≤ ring) × (ring < page.now.fetch_below) }

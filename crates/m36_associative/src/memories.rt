@@ -244,7 +244,8 @@ impl Memories {
         self.uses.touch_ptw(e);
     }
 
-    /// The segment of the kept descriptor after whose last use exactly `rank` others were used.
+    /// The segment number of the kept descriptor with this rank in the order of use: 0 for the one
+    /// that was used last. None if fewer are kept.
     pub fn segment_by_use(&mut self, rank: usize) -> Option<u16>
         ensures { (core : List ℕ) (dbr : DbrFields) → AreRight core dbr self.old
             → AreRight core dbr self.new }
@@ -255,8 +256,8 @@ impl Memories {
         Some((key.saturating_sub(1) % 32768) as u16)
     }
 
-    /// The address of the kept page table word after whose last use exactly `rank` others were
-    /// used.
+    /// The core address of the kept page table word with this rank in the order of use, as in
+    /// `segment_by_use`.
     pub fn table_word_by_use(&mut self, rank: usize) -> Option<u32>
         ensures { (core : List ℕ) (dbr : DbrFields) → AreRight core dbr self.old
             → AreRight core dbr self.new }

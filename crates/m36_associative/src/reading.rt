@@ -18,7 +18,7 @@ use m36_desc::{Dbr, Ptw, Sdw};
 use m36_model::Refusal;
 use m36_tables::{directory_at, in_frame, page_at, page_table_word, wrapped};
 
-/// The descriptor of a segment, if this entry has it.
+/// The descriptor of a segment, if entry `e` has it.
 #[inline(always)]
 fn sdw_of_entry(_core: &Core, _dbr: Dbr, memories: &Memories, e: usize, seg: u16) -> Option<Sdw>
     requires entry { e < 16 }
@@ -52,7 +52,7 @@ fn kept_sdw(core: &Core, dbr: Dbr, memories: &Memories, seg: u16) -> Option<(usi
     None
 }
 
-/// The page table word at an address, if this entry has it.
+/// The page table word at address `a`, if entry `e` has it.
 #[inline(always)]
 fn ptw_of_entry(_core: &Core, _dbr: Dbr, memories: &Memories, e: usize, a: u32) -> Option<Ptw>
     requires entry { e < 16 }
@@ -89,7 +89,8 @@ fn kept_ptw(core: &Core, dbr: Dbr, memories: &Memories, a: u32) -> Option<(usize
     None
 }
 
-/// The kept descriptor of a segment, which becomes the one used last.
+/// The descriptor of a segment if it is kept, without a look at core. It becomes the one that was
+/// used last.
 fn recalled_descriptor(_core: &Core, _dbr: Dbr, memories: &mut Memories, seg: u16) -> Option<Sdw>
     requires { AreRight _core.now _dbr memories.old }
     ensures found { IfSome result (λ d. core_sdw _core.now _dbr seg ≡ Ok d) }
@@ -123,7 +124,7 @@ fn watch_descriptor(_core: &Core, dbr: Dbr, memories: &mut Memories, seg: u16, e
     )
 }
 
-/// Keeps a descriptor in an entry, in place of another.
+/// Keeps a descriptor in entry `e`, in place of what was there. Its words are watched already.
 fn put_descriptor(_core: &Core, _dbr: Dbr, memories: &mut Memories, e: usize, seg: u16, sdw: &Sdw)
     requires place { e < 16 }
     requires found { core_sdw _core.now _dbr seg ≡ Ok sdw.now }
@@ -173,7 +174,8 @@ pub fn descriptor(core: &Core, dbr: Dbr, memories: &mut Memories, seg: u16) -> R
     Ok(sdw)
 }
 
-/// The kept page table word at an address, which becomes the one used last.
+/// The page table word at an address if it is kept, without a look at core. It becomes the one that
+/// was used last.
 fn recalled_table_word(_core: &Core, _dbr: Dbr, memories: &mut Memories, a: u32) -> Option<Ptw>
     requires address { a < 2 ^ 24 }
     requires right { AreRight _core.now _dbr memories.old }
@@ -196,7 +198,7 @@ fn watch_table_word(_core: &Core, _dbr: Dbr, memories: &mut Memories, a: u32) ->
     memories.tables.add(a)
 }
 
-/// Keeps a page table word in an entry, in place of another.
+/// Keeps a page table word in entry `e`, in place of what was there. It is watched already.
 fn put_table_word(_core: &Core, _dbr: Dbr, memories: &mut Memories, e: usize, a: u32, ptw: &Ptw)
     requires place { e < 16 }
     requires found { ptw_at _core.now a ≡ Some ptw.now }

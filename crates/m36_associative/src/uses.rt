@@ -54,6 +54,7 @@ fn least(times: &[u64; 16]) -> usize
 }
 
 impl Entries {
+    // No entry was used yet, and no page in front has an entry.
     fn none() -> Entries {
         Entries {
             times: [0; 16],
@@ -71,8 +72,8 @@ impl Entries {
         self.last = e as u8;
     }
 
-    /// Removes the page at place `i` in front from its entry, which gets the time of the page's
-    /// last use.
+    /// Records that the page at place `i` leaves the front: it no longer belongs to its entry. The
+    /// entry gets the time of the page's last use if that is later than its own.
     fn leave(&mut self, i: usize, time: u64)
         requires { i < 16 }
     {
@@ -153,7 +154,8 @@ impl Entries {
         count
     }
 
-    /// The entry after whose last use exactly `rank` other entries were used, if there is one.
+    /// The entry with this rank in the order of use: 0 for the one that was used last. None if
+    /// fewer entries are filled. The times have to be up to date (`update_time`).
     fn by_use(&self, rank: usize) -> Option<usize>
         ensures { IfSome result (λ e. e < 16) }
     {
@@ -222,7 +224,7 @@ impl Uses {
         self.ptws.touch(e, time);
     }
 
-    /// Removes the page at place `i` from the front.
+    /// Records that the page at place `i` leaves the front, and passes its time on to its entries.
     pub(crate) fn leave(&mut self, i: usize)
         requires { i < 16 }
     {
@@ -232,7 +234,7 @@ impl Uses {
         self.ptws.leave(i, time);
     }
 
-    /// Removes all pages from the front.
+    /// Records that all pages leave the front.
     pub(crate) fn leave_all(&mut self) {
         for i in 0..PAGES {
             self.leave(i);
@@ -278,7 +280,8 @@ impl Uses {
         self.ptws.fronts[e]
     }
 
-    /// The descriptor after whose last use exactly `rank` others were used, if there is one.
+    /// The entry of the descriptor with this rank in the order of use: 0 for the one that was used
+    /// last. None if fewer descriptors are kept.
     pub(crate) fn sdw_by_use(&mut self, rank: usize) -> Option<usize>
         ensures { IfSome result (λ e. e < 16) }
     {

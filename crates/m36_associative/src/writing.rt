@@ -29,7 +29,8 @@ fn release_watched(core: &Core, dbr: &Dbr, memories: &mut Memories, a: u32)
     }
 }
 
-/// Prepares for a write of the word at address `a`.
+/// Prepares for a write of the word at address `a`, so that what is kept stays right whatever value
+/// is written.
 #[inline(always)]
 fn release(core: &Core, dbr: &Dbr, memories: &mut Memories, a: u32)
     requires { AreRight core.now dbr.now memories.old }

@@ -24,8 +24,9 @@ formed_from g i core refs = run core_store g (formation g i) (standing core [] r
 abbrev pub formed_mid : List ℕ → Formed → List Reference → Midstep (List ℕ)
 formed_mid core f refs = standing core (claimed_by f.tally f.place) refs
 
--- How a result of the code ends that run: with the address, the place of the tally word, if there
--- is one, as the step's first claim, and with this core and these references.
+-- The end of the run of `formed_from`, by the result of the code: with the address, the place of
+-- the tally word, if there is one, as the step's first claim, and with this core and these
+-- references.
 abbrev pub ended :
     List ℕ → List Reference → Result Formed Halt → Ran (Result ChainEnd Halt) (List ℕ)
 ended core refs (Ok f) = record { value = Ok (chain_end_fields f); mid = formed_mid core f refs }

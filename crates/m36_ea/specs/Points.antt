@@ -77,7 +77,7 @@ ServesOdd g p word m refs core' refs' result =
     (indirect Odd p (word + 1))
     ≡ word_answer (sdw_in m p.seg) core' refs' refs' result
 
--- continues at the next point, or ends with a fault
+-- the chain after an indirect word: it continues at the next point, or ends with the fault
 abbrev pub goes_on : (Point → Formation) → Result Point Fault → Formation
 goes_on next (Ok p) = next p
 goes_on next (Err f) = done (Err (halt.Fault f))

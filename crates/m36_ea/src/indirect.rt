@@ -56,7 +56,8 @@ pub fn complete(refs: &mut Refs, kind: Kind, at: At, count: u8)
     refs.push(Reference { at, kind, count });
 }
 
-/// Reads an indirect word. Returns it with the first ring bracket of its segment.
+/// Reads the indirect word at word number `word` of the point's segment. Returns it with the first
+/// ring bracket of that segment.
 fn indirect_word(walk: &mut Walk, regs: &Regs, tpr: &Tpr, word: u32) -> Result<(Word, u8), Fault>
     requires dbr { walk.old.dbr ≡ regs.now.dbr }
     requires word { word < 2 ^ 18 }
@@ -137,7 +138,7 @@ pub(crate) fn follow(
     }
 }
 
-/// A formed address without a tally word.
+/// The formed address for a chain that ends here without a tally word.
 pub(crate) fn formed(last: Final) -> Formed
     ensures { result ≡ plain last }
 {

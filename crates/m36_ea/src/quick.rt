@@ -36,7 +36,8 @@ pub struct Counting {
     pub place: u32,
 }
 
-/// Reads an indirect word. Returns it with the first ring bracket of its segment.
+/// Reads the indirect word at word number `word` from a page in front. Returns it with the first
+/// ring bracket of its segment.
 #[inline(always)]
 fn word_from_front(walk: &mut Walk, regs: &Regs, tpr: &Tpr, word: u32) -> Option<(Word, u8)>
     requires dbr { walk.old.dbr ≡ regs.now.dbr }
@@ -55,7 +56,7 @@ fn word_from_front(walk: &mut Walk, regs: &Regs, tpr: &Tpr, word: u32) -> Option
     Some((even, ring))
 }
 
-/// Reads the odd word of a pair.
+/// Reads the odd word of the pair whose even word has word number `word`, from a page in front.
 #[inline(always)]
 fn odd_from_front(walk: &mut Walk, regs: &Regs, tpr: &Tpr, word: u32) -> Option<Word>
     requires dbr { walk.old.dbr ≡ regs.now.dbr }

@@ -25,7 +25,8 @@ pub fn procedure_ring(regs: &Regs) -> u8
     ppr.prr
 }
 
-/// The register that the low four bits of a tag name, if they do not name a direct operand.
+/// The value of the register that the low four bits of a tag name, 18 bits; 0 for the tag that
+/// names none. The bits must not name a direct operand.
 #[inline(always)]
 #[tactic(auto, unfolding(m36_model::specs::Modification::index_of))]
 pub(crate) fn index(regs: &Regs, td: u8) -> u32

@@ -46,7 +46,8 @@ fn test_pair(p: &Pair, regs: &mut Regs)
     regs.ind.negative = v >= 1 << 71;
 }
 
-/// Loads a pair into the accumulator and the quotient register, and sets zero and negative.
+/// Loads a pair into the accumulator and the quotient register, sets zero and negative for it, and
+/// advances the instruction counter.
 #[inline(always)]
 #[tactic(auto, unfolding(m36_model::specs::Loads::load, m36_model::specs::Results::with_value, m36_model::specs::Results::moved_on))]
 pub(crate) fn load_pair(p: Pair, regs: &mut Regs)

@@ -56,7 +56,8 @@ fn test_index(v: u32, regs: &mut Regs)
     regs.ind.negative = v >= 1 << 17;
 }
 
-/// Loads a word into the accumulator.
+/// Loads a word into the accumulator, sets zero and negative for it, and advances the instruction
+/// counter.
 #[inline(always)]
 #[tactic(auto, unfolding(m36_model::specs::Loads::load, m36_model::specs::Results::with_value, m36_model::specs::Results::moved_on))]
 pub(crate) fn load_a(w: Word, regs: &mut Regs)
@@ -69,7 +70,7 @@ pub(crate) fn load_a(w: Word, regs: &mut Regs)
     move_on(regs);
 }
 
-/// Loads a word into the quotient register.
+/// As `load_a`, for the quotient register.
 #[inline(always)]
 #[tactic(auto, unfolding(m36_model::specs::Loads::load, m36_model::specs::Results::with_value, m36_model::specs::Results::moved_on))]
 pub(crate) fn load_q(w: Word, regs: &mut Regs)
@@ -82,7 +83,7 @@ pub(crate) fn load_q(w: Word, regs: &mut Regs)
     move_on(regs);
 }
 
-/// Loads a number into an index register.
+/// As `load_a`, for index register `n` and a number of 18 bits.
 #[inline(always)]
 #[tactic(auto, unfolding(m36_model::specs::Loads::load, m36_model::specs::Results::with_value, m36_model::specs::Results::moved_on))]
 fn load_index(n: u8, v: u32, regs: &mut Regs)
@@ -97,7 +98,7 @@ fn load_index(n: u8, v: u32, regs: &mut Regs)
     move_on(regs);
 }
 
-/// Sets zero, negative and carry for a comparison.
+/// Completes a comparison: sets zero, negative and carry, and advances the instruction counter.
 #[inline(always)]
 #[tactic(auto, unfolding(m36_model::specs::Results::compared))]
 pub(crate) fn set_comparison_indicators(c: Compare, regs: &mut Regs)
@@ -111,7 +112,7 @@ pub(crate) fn set_comparison_indicators(c: Compare, regs: &mut Regs)
     move_on(regs);
 }
 
-/// SZN: sets zero and negative for the word.
+/// SZN: sets zero and negative for the word, and advances the instruction counter.
 #[inline(always)]
 #[tactic(auto, unfolding(m36_model::specs::Compares::test_word))]
 fn test_alone(w: Word, regs: &mut Regs)
@@ -189,7 +190,7 @@ pub fn read_word_with_overflow(effect: Effect, reg: u8, regs: &mut Regs, w: Word
     }
 }
 
-/// Executes a frequent store, and returns the word to write.
+/// Executes STA, STQ or STZ, and returns the word to write.
 #[inline(always)]
 #[tactic(auto, unfolding(m36_model::specs::Effect::exec, m36_model::specs::Stores::store, m36_model::specs::Stores::store_zero))]
 pub fn store_word(effect: Effect, regs: &mut Regs) -> Word
@@ -281,7 +282,8 @@ pub fn change_word_with_overflow(effect: Effect, regs: &mut Regs, w: Word) -> Su
     }
 }
 
-/// Executes an instruction that loads its address. It never overflows.
+/// Executes EAA, EAQ or EAX: loads the word number of the final address, into the upper half of A
+/// or Q, or into an index register. It never overflows.
 #[inline(always)]
 #[tactic(auto, unfolding(m36_model::specs::Effect::exec))]
 pub fn load_address(effect: Effect, reg: u8, regs: &mut Regs, f: &Final)

@@ -84,7 +84,7 @@ pub record IsServed (frames : ℕ) (old new : PagedState) : Type 0 where
       IsPageService frames fault.fault.at.seg (fault.fault.at.word / 1024)
       (record_of core_store (core_state old)).refs.items (stepped_memory old) new.memory
 
--- n of them, one after another
+-- n page faults with their services, as in `IsServed`, one after another
 unfoldable pub AreServed : ℕ → ℕ → PagedState → PagedState → Type 0
 AreServed frames zero old new = new ≡ old
 AreServed frames (suc n) old new =

@@ -4,7 +4,7 @@ use Rattle.m36_desc.specs.Fields.{SdwFields}
 use Rattle.m36_model.specs.Act.{RequestKind, Fetch, Indirect, Odd, Read, Write, Transfer, Call}
 use Rattle.m36_model.specs.Store.{denied}
 
--- the brackets are in order; every allowed reference needs this
+-- the brackets of a segment are in order: R1 ≤ R2 ≤ R3; every allowed reference needs this
 pub record IsOrdered (d : SdwFields) : Type 0 where
   pub first : d.r1 ≤ d.r2
   pub second : d.r2 ≤ d.r3

@@ -10,7 +10,7 @@ use Rattle.m36_step.specs.declared.turns.Turn.TheVariants.{NoMemory}
 use Rattle.m36_step.specs.declared.turns.BackAnswer.{BackAnswer}
 use Rattle.m36_step.specs.declared.turns.BackAnswer.TheVariants as back
 
--- a link or a console service
+-- whether a turn is a link service or a console service
 abbrev pub is_service : Turn → Bool
 is_service (Stepped told) = false
 is_service (Linked note) = true

@@ -26,7 +26,7 @@ abbrev pub turn_by : Option End → State (List ℕ) → Turn
 turn_by None s = Stepped (record_of core_store s)
 turn_by (Some e) s = Ended e
 
--- the machine after that turn
+-- the machine after the turn of a state, given how the run has ended
 abbrev pub after_by : Option End → State (List ℕ) → MachineFields
 after_by None s =
     record {
@@ -47,7 +47,7 @@ machine_after m = after_by m.ended m.state
 abbrev pub MachineTurns : MachineFields → Turn → MachineFields → Type 0
 MachineTurns before turn later = (turn ≡ machine_turn before) × (later ≡ machine_after before)
 
--- A machine cannot go back.
+-- what going back answers: a machine cannot go back, so the answer is Unable and nothing changes
 abbrev pub MachineWent : MachineFields → ℕ → BackAnswer → MachineFields → Type 0
 MachineWent before n answer later = IsUnable before answer later
 

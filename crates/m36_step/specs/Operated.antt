@@ -37,7 +37,7 @@ claims_with f place count = claimed_by f.tally f.place ++ run_from place count
 abbrev pub claims_of : Formed → Held → Operated → List Spot
 claims_of f put o = claims_with f o.place (length (words_of_held put))
 
--- the values to write there
+-- the values to write at the places of `claims_of`
 abbrev pub puts_of : Formed → Held → Operated → List Put
 puts_of f put o =
     puts_with (pending_of f.tally) (part_of o.part) (length (claimed_by f.tally f.place))
@@ -53,14 +53,14 @@ abbrev pub ran_from :
     RegsFields → Operation → Formed → List ℕ → List Reference → Ran (Result Performed Halt) (List ℕ)
 ran_from g program f core refs = run core_store g program (formed_mid core f refs)
 
--- as `ran_from`, for the operation of an instruction
+-- the run of the operation of an instruction, from the state in which its address is formed
 abbrev pub operation_from :
     Effect → ℕ → RegsFields → Formed → List ℕ → List Reference
     → Ran (Result Performed Halt) (List ℕ)
 operation_from e n g f core refs = ran_from g (operate e n g (chain_end_fields f)) f core refs
 
--- How a result of the code ends that run, with the registers after it and the words to write. If
--- the operation is refused, it has claimed nothing more.
+-- The end of the run of `operation_from`, by the result of the code, with the registers after it
+-- and the words to write. If the operation is refused, it has claimed nothing more.
 abbrev pub operated_end :
     List ℕ → List Reference → Formed → RegsFields → Held → Result Operated Halt
     → Ran (Result Performed Halt) (List ℕ)

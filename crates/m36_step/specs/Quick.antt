@@ -31,14 +31,15 @@ pub record EndsWithNext (Tells : List Reference → Ended → Type 0) (g : RegsF
   pub ends : end_of (run core_store g act mid) ≡ given_end core refs after (next_end w last)
   pub tells : Tells refs (next_end w last)
 
--- The same, whatever references were completed before. The step has claimed no write.
+-- The program of a step that has claimed no write ends as in `EndsWithNext`, whatever references
+-- were completed before. `Has` is what holds of the recorder once these are completed.
 abbrev pub Goes :
     (List Reference → Type 0) → (List Reference → Ended → Type 0) → RegsFields → Act Ending
     → List ℕ → List ℕ → RegsFields → ℕ → Type 0
 Goes Has Tells g act core core' after w =
     (refs : List Reference) → Has refs → EndsWithNext Tells g act (standing core [] refs) core' after w
 
--- the operation of an instruction whose address has no tally word
+-- The operation of an instruction whose address has no tally word ends as in `Goes`.
 abbrev pub Operates :
     (List Reference → Type 0) → (List Reference → Ended → Type 0) → Quick → RegsFields → ℕ
     → FinalFields → List ℕ → List ℕ → RegsFields → Type 0
@@ -50,7 +51,8 @@ Operates Has Tells q g w last core core' after =
 abbrev pub counted_address : Counting → Formed
 counted_address c = record { last = c.last; tally = Some c.tally; place = c.place }
 
--- the operation of an instruction with such an address, in a step that has claimed the tally word
+-- The operation of an instruction whose address has counted a tally word, which the step has
+-- claimed, ends as in `EndsWithNext`.
 abbrev pub OperatesCounted :
     (List Reference → Type 0) → (List Reference → Ended → Type 0) → Quick → RegsFields → ℕ
     → Counting → List ℕ → List ℕ → RegsFields → Type 0
@@ -59,14 +61,15 @@ OperatesCounted Has Tells q g w c core core' after =
     → EndsWithNext Tells g (operated q.effect q.reg g w (chain_end_fields (counted_address c)))
     (formed_mid core (counted_address c) refs) core' after w
 
--- an instruction, from its address on
+-- The program of an instruction, from the formation of its address on, ends as in `Goes`.
 abbrev pub Addresses :
     (List Reference → Type 0) → (List Reference → Ended → Type 0) → Quick → RegsFields → ℕ
     → List ℕ → List ℕ → RegsFields → Type 0
 Addresses Has Tells q g w core core' after =
     Goes Has Tells g (addressed q.effect q.reg g w) core core' after w
 
--- an instruction, from its row on, whether or not it may be privileged
+-- The program of an instruction, from the lookup of its row on, ends as in `Goes`, whether or not
+-- it may be a privileged one.
 abbrev pub Decodes :
     (List Reference → Type 0) → (List Reference → Ended → Type 0) → RegsFields → ℕ → List ℕ
     → List ℕ → RegsFields → Type 0
@@ -78,7 +81,7 @@ Decodes Has Tells g w core core' after =
 abbrev pub IsNoLdbr : ℕ → Type 0
 IsNoLdbr w = (n : ℕ) → decode w ≡ Some (effect.Ldbr, n) → ⊥
 
--- a whole step, of a word that is not an LDBR
+-- The program of a whole step ends as in `Goes`, and its instruction is not an LDBR.
 pub record Steps (Has : List Reference → Type 0) (Tells : List Reference → Ended → Type 0)
     (g : RegsFields) (core core' : List ℕ) (after : RegsFields) : Type 0 where
   pub word : ℕ

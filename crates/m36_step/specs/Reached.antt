@@ -31,7 +31,8 @@ abbrev pub refused_end :
 refused_end f core refs fault =
     record { value = Err (halt.Fault fault); mid = formed_mid core f refs }
 
--- Nothing will be written; the effect follows.
+-- The end of the run after an operand was reached of which nothing will be written: the effect
+-- follows. If the operand was refused, the program ends.
 abbrev pub unwritten_end :
     Effect → ℕ → RegsFields → Formed → List ℕ → List Reference → Operand36 → Result Reached Fault
     → Ran (Result Performed Halt) (List ℕ)
@@ -40,7 +41,8 @@ unwritten_end e n g f core refs o (Ok u) =
     refs
 unwritten_end e n g f core refs o (Err fault) = refused_end f core refs fault
 
--- `count` words will be written, and their places are claimed after that of the tally word.
+-- As `unwritten_end`, if `count` words will be written: their places are claimed after that of the
+-- tally word.
 abbrev pub written_end :
     Effect → ℕ → RegsFields → Formed → ℕ → List ℕ → List Reference → Operand36
     → Result Reached Fault → Ran (Result Performed Halt) (List ℕ)
@@ -51,7 +53,7 @@ written_end e n g f count core refs o (Ok u) =
     (standing core (claims_with f u.place count) refs)
 written_end e n g f count core refs o (Err fault) = refused_end f core refs fault
 
--- the continuation, by the kind of the operand
+-- `written_end` or `unwritten_end`, by the kind of the operand
 abbrev pub reached_end :
     Effect → ℕ → RegsFields → Formed → Operand → List ℕ → List Reference → Operand36
     → Result Reached Fault → Ran (Result Performed Halt) (List ℕ)
@@ -88,13 +90,13 @@ Writes program g f count core refs core' refs' o u =
     (e : Effect) (n : ℕ)
     → ran_from g (program e n) f core refs ≡ written_end e n g f count core' refs' o u
 
--- the code's part for one of the definitions, and for the one that an operand kind writes
+-- the code's part for one of the definitions
 abbrev pub code_part : Part → code.Part
 code_part Whole = part.Whole
 code_part Left = part.Left
 code_part Right = part.Right
 
--- the code's part for an operand kind
+-- the code's part for what an operand kind writes
 abbrev pub part_for : Operand → code.Part
 part_for operand = code_part (part_written operand)
 

@@ -12,7 +12,7 @@ use Rattle.m36_step.specs.declared.ended.Ended.{Ended}
 abbrev pub shown_end : Shown → Ended
 shown_end shown = record { word = shown.word; at = shown.at; outcome = shown.outcome }
 
--- the empty value, with the place of the instruction
+-- an empty value, to be overwritten by a step, with the place of the current instruction
 abbrev pub empty_shown : RegsFields → Shown
 empty_shown g = record { word = None; at = None; outcome = Next; ppr = g.ppr }
 

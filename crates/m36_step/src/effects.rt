@@ -170,8 +170,8 @@ fn execute(
     m36_xdata::exec_in_place(row, regs, last, operand, put)
 }
 
-/// Executes an instruction with an address in the registers. Tally runout is set before it, unless
-/// the instruction is refused.
+/// Executes an instruction with an address in the registers. If the address has counted a tally
+/// word, the instruction sees the tally runout that this has set. A refusal changes no register.
 #[tactic(auto, unfolding(m36_model::specs::Step::tallied))]
 pub(crate) fn effect(
     row: &Row,
@@ -204,7 +204,7 @@ pub(crate) fn effect(
     }
 }
 
-/// Whether a transfer is taken. Tally runout is set before.
+/// Whether a transfer is taken, if tally runout is as the tally word of its address has set it.
 #[tactic(auto, unfolding(m36_model::specs::Step::tallied))]
 pub(crate) fn taken(row: &Row, regs: &Regs, formed: &Formed) -> bool
     ensures { result ≡ is_taken row.now.effect (tallied regs.now (chain_end_fields formed.now)) }

@@ -30,6 +30,7 @@ pub(crate) fn fault_here(regs: &Regs, number: u8) -> Fault
     }
 }
 
+// The outcome of a step that this halt ends.
 fn outcome_of(halt: Halt) -> Outcome
     ensures { result ≡ outcome_of halt }
 {

@@ -84,7 +84,7 @@ pub(crate) fn operated(
     }
 }
 
-/// Executes an instruction that forms an address.
+/// Forms the address of an instruction, and executes it.
 fn addressed(
     walk: &mut Walk,
     regs: &mut Regs,
@@ -119,7 +119,8 @@ fn no_address(regs: &Regs, effect: Effect) -> Halt
     }
 }
 
-/// Executes an instruction that has passed the privilege check.
+/// Executes an instruction that has passed the privilege check: one without an address ends the
+/// step at once.
 fn started(
     walk: &mut Walk,
     regs: &mut Regs,
@@ -143,7 +144,8 @@ fn started(
     }
 }
 
-/// Executes an instruction of the table. `privileged` says whether it may be a privileged one.
+/// Checks the privilege of an instruction, and executes it. Unless `privileged` is on, a privileged
+/// instruction ends the step with fault 10, illegal procedure, at the instruction.
 fn admitted(
     walk: &mut Walk,
     regs: &mut Regs,

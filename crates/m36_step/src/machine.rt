@@ -52,7 +52,8 @@ impl Model for Machine {
     ghost invariant = { λ m. m.walk.dbr ≡ m.regs.dbr };
 }
 
-/// Takes a step that is not quick, and records it.
+/// Takes a step in the general way, and records it without the place of the instruction and the
+/// registers after it.
 #[inline(never)]
 fn record_general_step(walk: &mut Walk, regs: &mut Regs, told: &mut StepRecord)
     requires dbr { walk.old.dbr ≡ regs.old.dbr }
@@ -306,7 +307,7 @@ impl Machine {
         self.walk.store(place, w);
     }
 
-    /// Core, to be written. Nothing that was read from it before is used again.
+    /// Core, for writing. Drops what was cached of it.
     pub fn core_mut(&mut self) -> &mut Core
         ensures* lends { sem 𝓛 (LendsCore self.entry result) }
         ensures value { result.now ≡ self.old.state.store }

@@ -31,7 +31,7 @@ pub(crate) fn give(got: Held, ring: u8, operand: &mut Operand36)
     };
 }
 
-/// The result for an operand that is not written.
+/// The result of reaching an operand that will not be written.
 pub(crate) fn unwritten() -> Reached
     ensures place { result.place ≡ 0 }
     ensures part { result.part ≡ part.Whole }
@@ -42,7 +42,7 @@ pub(crate) fn unwritten() -> Reached
     }
 }
 
-/// Reads a word.
+/// Reads the word of an operand into `operand`.
 #[tactic(auto, using(crate::proofs::Reaching::reaching), unfolding(m36_walk::specs::Runs::IsInCore))]
 pub(crate) fn reach_word(
     walk: &mut Walk,
@@ -72,7 +72,7 @@ pub(crate) fn reach_word(
     }
 }
 
-/// Reads a pair.
+/// Reads the pair of an operand into `operand`, with the first ring bracket of its segment.
 #[tactic(auto, using(crate::proofs::Reaching::reaching), unfolding(m36_walk::specs::Runs::IsInCore))]
 pub(crate) fn reach_pair(
     walk: &mut Walk,
@@ -103,7 +103,7 @@ pub(crate) fn reach_pair(
     }
 }
 
-/// Reads a block.
+/// Reads the block of an operand into `operand`, with the first ring bracket of its segment.
 #[tactic(auto, using(crate::proofs::Reaching::reaching), unfolding(m36_walk::specs::Runs::IsInCore))]
 pub(crate) fn reach_block(
     walk: &mut Walk,

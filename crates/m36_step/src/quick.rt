@@ -182,7 +182,8 @@ fn counted<R: Recorder>(
     }
 }
 
-/// Executes an instruction whose tag is not one of register modification.
+/// Executes an instruction whose tag is not one of register modification: through one indirect word
+/// or pair, or through a tally word.
 #[inline(never)]
 fn try_indirect<R: Recorder>(
     walk: &mut Walk,
@@ -216,7 +217,7 @@ fn try_indirect<R: Recorder>(
     }
 }
 
-/// Executes an instruction, from its address on.
+/// Forms the address of an instruction, and executes it.
 #[inline(always)]
 fn addressed<R: Recorder>(
     walk: &mut Walk,

@@ -1,4 +1,7 @@
 //! Quick operations on pairs, calls and returns.
+//!
+//! Each call executes an instruction at a final address and records its references and its end.
+//! False: the step is not quick, and nothing has changed except the recorder.
 
 ghost use Rattle.std.specs.Prelude.{◌≡◌, ◌<◌, None, IsTrue, IsFalse};
 ghost use Rattle.m36_inst.specs.Quick.{IsQuick};

@@ -1,4 +1,7 @@
 //! Quick operations on single words, and transfers.
+//!
+//! Each call executes an instruction at a final address and records its references and its end.
+//! False: the step is not quick, and nothing has changed except the recorder.
 
 ghost use Rattle.std.specs.Prelude.{◌≡◌, ◌<◌, None, IsTrue, IsFalse};
 ghost use Rattle.m36_inst.specs.Quick.{IsQuick};
@@ -246,7 +249,7 @@ pub(crate) fn shift_operand<R: Recorder>(
     true
 }
 
-/// Executes a transfer.
+/// Executes a transfer. One that is not taken does not examine its target.
 #[inline(always)]
 pub(crate) fn target_operand<R: Recorder>(
     walk: &mut Walk,

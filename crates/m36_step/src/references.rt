@@ -114,7 +114,8 @@ pub(crate) fn read_block(
     }
 }
 
-/// Checks a Write of 1, 2 or 16 words of an operand. Returns the place in core of the first.
+/// Claims the 1, 2 or 16 words of an operand that will be written. Returns the place in core of the
+/// first.
 #[inline(always)]
 pub(crate) fn hold_words(
     walk: &mut Walk,

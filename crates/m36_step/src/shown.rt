@@ -39,7 +39,7 @@ impl Recorder for Shown {
     }
 }
 
-/// Takes a step that is not quick.
+/// Takes a step in the general way, and records it without the place of its instruction.
 #[inline(never)]
 fn show_general_step(walk: &mut Walk, regs: &mut Regs, shown: &mut Shown)
     requires dbr { walk.old.dbr ≡ regs.old.dbr }

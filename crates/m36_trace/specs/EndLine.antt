@@ -9,7 +9,7 @@ use Rattle.m36_trace.specs.TraceLine.{outcome_with}
 abbrev pub ending_text : Outcome → List ℕ
 ending_text outcome = outcome_with (codes "limit") outcome
 
--- the line without its line feed
+-- the end line from its texts: how the run ended, and the number of steps; without its line feed
 abbrev pub end_line_with : List ℕ → ℕ → List ℕ
 end_line_with how steps = joined_by_spaces (codes "end" ∷ how ∷ decimal_text steps ∷ [])
 

@@ -61,13 +61,13 @@ stop_text Dis = codes "dis"
 stop_text Operation = codes "stop operation"
 stop_text Tag = codes "stop tag"
 
--- an outcome, with `next` as the text of Next
+-- the text of an outcome, with `next` as the text of Next
 abbrev pub outcome_with : List ℕ → Outcome → List ℕ
 outcome_with next Next = next
 outcome_with next (Faulted f) = fault_text f
 outcome_with next (Stopped s) = stop_text s
 
--- an outcome
+-- the text of an outcome
 abbrev pub outcome_text : Outcome → List ℕ
 outcome_text outcome = outcome_with (codes "next") outcome
 

@@ -89,6 +89,7 @@ fn add_without_kept<S: Sink>(n: u64, told: &StepRecord, block: &mut Block, out: 
     add_line_text(line(n, told), block, out)
 }
 
+// As `add_without_kept`, given what a trace line shows of the step, and the registers after it.
 #[inline(never)]
 fn add_other_shown<S: Sink>(
     n: u64,

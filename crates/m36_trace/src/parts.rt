@@ -29,6 +29,7 @@ pub struct NumberPart {
 }
 
 impl NumberPart {
+    /// The number 0.
     #[tactic(auto, unfolding(m36_text::specs::Digits::decimal_text))]
     pub fn new() -> NumberPart {
         NumberPart {
@@ -91,6 +92,7 @@ impl NumberPart {
         self.next += 1;
     }
 
+    // Spells any number of at most 15 digits.
     #[inline(never)]
     #[tactic(auto, using(crate::proofs::Numbers::decimal_short, crate::proofs::Numbers::decimal_some))]
     fn spell(&mut self, n: u64)
@@ -123,7 +125,6 @@ fn raise(bytes: &mut [u8; 16], last: usize, _n: u64) -> bool
 }
 
 // Writes digits and a space, and returns the index of the last digit.
-
 fn put_digits(bytes: &mut [u8; 16], digits: &[u8]) -> usize
     requires some { 0 < length digits.now }
     requires short { length digits.now ≤ 15 }
@@ -146,6 +147,7 @@ pub struct RingSegmentPart<const MARK: u8> {
 }
 
 impl<const MARK: u8> RingSegmentPart<MARK> {
+    /// Ring 0 and segment 0.
     pub fn new() -> RingSegmentPart<MARK> {
         RingSegmentPart {
             bytes: front::<MARK>(0, 0),
@@ -166,6 +168,7 @@ impl<const MARK: u8> RingSegmentPart<MARK> {
         }
     }
 
+    // Spells a ring and a segment number again.
     #[inline(never)]
     fn spell(&mut self, seg: u16, ring: u8)
         requires { ring < 2 ^ 3 }
@@ -178,6 +181,7 @@ impl<const MARK: u8> RingSegmentPart<MARK> {
     }
 }
 
+// The text of a ring and a segment number: the ring, the character, five octal digits, a bar.
 #[tactic(auto, unfolding(m36_text::specs::Digits::octal_text, m36_text::specs::Digits::digits))]
 fn front<const MARK: u8>(seg: u16, ring: u8) -> [u8; 8]
     requires { ring < 2 ^ 3 }
@@ -205,6 +209,7 @@ pub struct WordPart {
 }
 
 impl WordPart {
+    /// The word 0.
     #[tactic(auto, unfolding(m36_text::specs::Digits::octal_text, m36_text::specs::Digits::digits))]
     pub fn new() -> WordPart
         ensures { result.of ≡ 0 }

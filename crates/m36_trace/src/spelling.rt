@@ -49,6 +49,7 @@ pub fn put_place<const MARK: u8>(
     put_half(into, place + 8, word)
 }
 
+// Writes a dash, for what a step does not have.
 #[inline(always)]
 fn put_dash(into: &mut [u8], place: usize) -> usize
     requires { place + 2 ≤ length into.old }

@@ -63,6 +63,8 @@ impl TraceText {
     }
 }
 
+// Sets the ring and the segment number to those of the final address. Without one they are not
+// used, and stay as they are.
 #[inline(always)]
 fn set_address(front: &mut RingSegmentPart<COLON>, end: &Option<Final>)
     ensures { HasRingSegment front.new.ring front.new.seg end.now }

@@ -71,6 +71,7 @@ static TRIPLES: [Triple; 512] = [
     *b"770 ", *b"771 ", *b"772 ", *b"773 ", *b"774 ", *b"775 ", *b"776 ", *b"777 ",
 ];
 
+// The table, of which the contract says that it has each number below 512 in order.
 fn triples() -> &'static [Triple; 512]
     ensures { result.now ≡ all_triples }
 {

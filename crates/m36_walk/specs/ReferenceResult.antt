@@ -26,18 +26,20 @@ pub record ReferenceResult : Type 0 where
   pub sdw : SdwFields
   pub spots : List Spot
 
--- the reference, given its descriptor and the spots of its words
+-- the result of a reference that has its rights, by the spots of its words or their fault
 abbrev pub reached_places : SdwFields → Result (List Spot) Fault → Result ReferenceResult Fault
 reached_places d (Ok spots) = Ok (record { sdw = d; spots = spots })
 reached_places d (Err f) = Err f
 
--- the reference, if the descriptor gives the right to it
+-- the result of a reference, by the check of its rights: a refused right is its fault; otherwise
+-- the spots of the words decide
 abbrev pub reached_rights : SdwFields → Result Unit Fault → Result (List Spot) Fault
     → Result ReferenceResult Fault
 reached_rights d (Ok u) places = reached_places d places
 reached_rights d (Err f) places = Err f
 
--- the reference, if its segment has a descriptor: the first fault of descriptor, rights and places
+-- the result of a reference, by the lookup of its descriptor: the first fault of descriptor, rights
+-- and places, in this order
 abbrev pub reached_sdw : (SdwFields → Result Unit Acv)
     → (SdwFields → Result (List Spot) (ℕ × Refusal)) → AtFields → Result SdwFields Fault
     → Result ReferenceResult Fault
@@ -52,7 +54,8 @@ unfoldable pub reached : (SdwFields → Result Unit Acv)
     → Result ReferenceResult Fault
 reached rights places sdw at = reached_sdw rights places at (told at sdw)
 
--- the result of the code: the spots are a run of `count` words
+-- the result of the code as that of the definitions: the spots are a run of `count` words from the
+-- place that it has found
 abbrev pub found_run : ℕ → Result LookupResult Fault → Result ReferenceResult Fault
 found_run count (Ok f) = Ok (record { sdw = f.sdw; spots = run_from f.place count })
 found_run count (Err f) = Err f

@@ -18,15 +18,15 @@ unfoldable pub words_from : List ℕ → ℕ → ℕ → List ℕ
 words_from core a zero = []
 words_from core a (suc n) = slice_index core a ∷ words_from core (wrapped (a + 1)) n
 
--- the spots of n words from an address on, or the first word that is past the end of core; `word`
--- is the word number of the first
+-- the spots of n words from an address on, in a core of this size, or the word number of the first
+-- word that is past its end; `word` is the word number of the first of them
 unfoldable pub examined : ℕ → ℕ → ℕ → ℕ → Result (List Spot) (ℕ × Refusal)
 examined size word a zero = Ok []
 examined size word a (suc n) =
     placed_one true word (inside_core_by (nat_lt a size) a)
     (examined size (word + 1) (wrapped (a + 1)) n)
 
--- each word of the run is in core
+-- each of n words from an address on is in a core of this size
 unfoldable pub IsInCore : ℕ → ℕ → ℕ → Type 0
 IsInCore size a zero = Unit {0}
 IsInCore size a (suc n) = (a < size) × IsInCore size (wrapped (a + 1)) n

@@ -49,7 +49,7 @@ abbrev pub served_by : Request → List ℕ → List Spot → List Reference →
 served_by q new claims refs (Err f) = record { reply = Err f; mid = standing new claims refs }
 served_by q new claims refs (Ok r) = answered_with core_store new claims refs q r.sdw r.spots
 
--- the result of a reference whose first word is at a core address
+-- the result of a reference to `count` words, by the core address of the first or the fault
 abbrev pub at_place : SdwFields → ℕ → Result ℕ Fault → Result ReferenceResult Fault
 at_place d count (Ok a) = Ok (record { sdw = d; spots = run_from a count })
 at_place d count (Err f) = Err f
@@ -64,7 +64,8 @@ abbrev pub answer_of_words : SdwFields → List Spot → List ℕ → Answer
 answer_of_words d claims words =
     record { sdw = d; first = length claims; place = 0; words = words }
 
--- the reply with these words, or the fault, and the state after it
+-- the reply to a request with these words, or the fault, and the state after it; no write is
+-- claimed
 abbrev pub with_words : Request → SdwFields → List ℕ → List Spot → List Reference
     → Result (List ℕ) Fault → Served (List ℕ)
 with_words q d new claims refs (Err f) = record { reply = Err f; mid = standing new claims refs }

@@ -15,7 +15,8 @@ use m36_core::Core;
 use m36_desc::Dbr;
 use m36_model::At;
 
-/// Reads `count` words in the ring of `at`: the core address of the first, and R1 of their segment.
+/// The core address of the first of `count` words that are read in the ring of `at`, and R1 of
+/// their segment. None if no page in front answers; so for the other calls of this module.
 #[inline(always)]
 pub(crate) fn read_in_front(
     core: &Core,
@@ -47,7 +48,7 @@ pub(crate) fn read_in_front(
     }
 }
 
-/// Checks `count` words that are to be written, in the ring of `at`: the core address of the first.
+/// The core address of the first of `count` words that may be written in the ring of `at`.
 #[inline(always)]
 pub(crate) fn write_in_front(
     core: &Core,
@@ -72,8 +73,8 @@ pub(crate) fn write_in_front(
     }
 }
 
-/// Fetches an instruction in the ring of `at` from the page that was fetched from last: its core
-/// address, and whether its segment may execute privileged instructions.
+/// The core address of an instruction in the page that was fetched from last, fetched in the ring
+/// of `at`, and whether its segment may execute privileged instructions.
 #[inline(always)]
 pub(crate) fn fetch_in_front(
     core: &Core,
@@ -117,7 +118,7 @@ pub(crate) fn fetch_elsewhere(
     }
 }
 
-/// Reads a word in the ring of `at` and checks that it may be written: its core address.
+/// The core address of a word that may be read and then written in the ring of `at`.
 #[inline(always)]
 pub(crate) fn change_in_front(core: &Core, dbr: Dbr, memories: &mut Memories, at: At) -> Option<u32>
     requires right { AreRight core.now dbr memories.old }

@@ -13,7 +13,7 @@ use crate::words::{Pending, seen, seen_block, seen_pair};
 use m36_model::{At, Fault};
 use m36_word::{Pair, Word};
 
-/// The word of a pair that has the even word number.
+/// The address of the even word of the pair that contains a word.
 #[inline(always)]
 pub(crate) fn pair_at(at: At) -> At
     ensures value { result ≡ aligned_at 2 at }
@@ -25,7 +25,7 @@ pub(crate) fn pair_at(at: At) -> At
     }
 }
 
-/// The first word of a block of 16.
+/// The address of the first word of the block of 16 words that contains a word.
 #[inline(always)]
 pub(crate) fn block_at(at: At) -> At
     ensures value { result ≡ aligned_at 16 at }

@@ -34,7 +34,8 @@ fn reach_of(found: &LookupResult) -> Reach
     }
 }
 
-/// Reads `count` words in the ring of `at`, for an instruction in segment `psr`.
+/// References `count` words that are read in the ring of `at`, for an instruction in segment `psr`:
+/// checks them, sets the marks, and returns where they are.
 #[inline(always)]
 pub(crate) fn refer_read(
     core: &mut Core,
@@ -71,7 +72,8 @@ pub(crate) fn refer_read(
     }
 }
 
-/// Checks `count` words that are to be written, in the ring of `at`.
+/// References `count` words that are to be written in the ring of `at`: checks them, sets the
+/// marks, and returns where they are.
 #[inline(always)]
 pub(crate) fn refer_write(
     core: &mut Core,
@@ -114,8 +116,8 @@ fn fetch_of(found: &LookupResult) -> (u32, bool)
     (found.place, found.sdw.privileged)
 }
 
-/// Fetches an instruction in the ring of `at`: its core address, and whether its segment may
-/// execute privileged instructions.
+/// References an instruction that is fetched in the ring of `at`: checks it, sets the marks, and
+/// returns its core address and whether its segment may execute privileged instructions.
 #[inline(always)]
 pub(crate) fn refer_fetch(
     core: &mut Core,

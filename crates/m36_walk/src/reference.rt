@@ -30,7 +30,8 @@ pub(crate) struct LookupResult {
     pub(crate) place: u32,
 }
 
-/// The descriptor of the segment of a word, or a fault at this word.
+/// The descriptor of the segment of a word, read from the tables in core. If it is refused, the
+/// fault is at this word.
 #[inline(always)]
 #[tactic(auto, unfolding(crate::specs::Served::sdw_in))]
 pub(crate) fn described(core: &Core, dbr: Dbr, at: At) -> Result<Sdw, Fault>
@@ -59,7 +60,7 @@ fn cached_descriptor(core: &Core, dbr: Dbr, memories: &mut Memories, at: At) -> 
     }
 }
 
-/// The result of a check of rights, as a fault at a word.
+/// The same answer, with an access violation as the fault at a word.
 #[inline(always)]
 pub(crate) fn permitted(answer: Result<(), Acv>, at: At) -> Result<(), Fault>
     ensures { result ≡ violation_as_fault at answer }

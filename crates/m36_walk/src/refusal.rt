@@ -5,7 +5,7 @@ ghost use Rattle.m36_model.specs.Store.{fault_by, fault_in};
 
 use m36_model::{At, Fault, Refusal};
 
-/// The fault of a refusal, at a word.
+/// A refusal as the fault at a word.
 #[inline(always)]
 pub(crate) fn fault(why: Refusal, at: At) -> Fault
     ensures { result ≡ fault_by why at }
@@ -24,7 +24,7 @@ pub(crate) struct Refused {
     pub(crate) further: u8,
 }
 
-/// The fault of a refused word of a block, at this word.
+/// A refusal as the fault at the refused word, given the address of the first word.
 #[inline(always)]
 pub(crate) fn fault_further(refused: Refused, at: At) -> Fault
     requires { at.word % 16 + refused.further < 16 }

@@ -19,7 +19,8 @@ use m36_desc::{Acv, Dbr, Sdw};
 use m36_model::{At, Fault, Ppr, Refusal};
 use m36_tables::{descriptor, in_order, violation, within};
 
-/// Checks that a target is within the bound.
+/// Checks that a target is within the bound of its segment. If it is not, the fault is access
+/// violation 15.
 #[inline(always)]
 fn check_bound(sdw: &Sdw, at: At) -> Result<(), Fault>
     ensures { ok_map (λ u. []) result
@@ -45,7 +46,7 @@ pub(crate) fn find_transfer(core: &Core, dbr: Dbr, at: At, prr: u8) -> Result<()
     check_bound(&sdw, at)
 }
 
-/// The ring in which a call continues, or a fault at its target.
+/// The same answer, with an access violation as the fault at the target.
 fn ring_permitted(answer: Result<u8, Acv>, at: At) -> Result<u8, Fault>
     ensures { result ≡ violation_as_fault at answer }
 {
@@ -76,7 +77,8 @@ pub(crate) fn find_call(core: &Core, dbr: Dbr, at: At, ppr: Ppr) -> Result<u8, F
     Ok(ring)
 }
 
-/// Checks that the brackets of a segment are in order.
+/// Checks that the ring brackets of a segment are in order: R1 ≤ R2 ≤ R3. If they are not, the
+/// refusal is access violation 0.
 fn ordered(sdw: &Sdw) -> Result<(), Refusal>
     ensures { result ≡ when_ordered (in_order sdw.now) (Ok tt) }
 {
@@ -87,7 +89,8 @@ fn ordered(sdw: &Sdw) -> Result<(), Refusal>
     }
 }
 
-/// The core address of a word, without access checks.
+/// The core address of a word, without access checks. It is refused only if it has no place: no
+/// live descriptor, brackets out of order, out of bound, no page, or past the end of core.
 #[tactic(auto, unfolding(crate::specs::ReferenceResult::reached))]
 pub(crate) fn find_place(core: &Core, dbr: Dbr, at: At) -> Result<u32, Fault>
     ensures asked { reached (λ d. allowed tt (first_of (ordered_rows d [])))
@@ -105,7 +108,7 @@ pub(crate) fn find_place(core: &Core, dbr: Dbr, at: At) -> Result<u32, Fault>
     }
 }
 
-/// R1 of a segment.
+/// R1 of a segment, if its descriptor is live and its brackets are in order.
 #[tactic(auto, unfolding(m36_model::specs::Store::first_ring))]
 pub(crate) fn find_first_ring(core: &Core, dbr: Dbr, seg: u16) -> Result<u8, Refusal>
     requires { seg < 2 ^ 15 }

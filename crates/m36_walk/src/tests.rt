@@ -83,6 +83,7 @@ fn frame(number: u32) -> Ptw
     }
 }
 
+// Writes a word, if the address is in core.
 fn put(core: &mut Core, place: u32, word: Word) {
     if place < core.len() {
         core.poke(place, word);
@@ -103,6 +104,7 @@ fn put_tables(core: &mut Core) {
     }
 }
 
+// A walk over a core of four frames that has the tables of `put_tables`.
 fn walk_of(alloc: Global, dbr: Dbr) -> Result<Walk, NoMemory> {
     let mut core = Core::new(alloc, 4)?;
     put_tables(&mut core);
@@ -131,7 +133,7 @@ fn tables_kept(walk: &mut Walk) -> [u32; 16] {
     keys
 }
 
-/// Uses a key: it moves to the front, and a 17th key is dropped.
+/// Records a use of a key in the expected order: the key moves to the front, and a 17th is dropped.
 fn used(order: &mut [u32; 16], key: u32) {
     let mut carried = key;
     for kept in order.iter_mut() {
@@ -151,6 +153,7 @@ struct Orders {
     tables: [u32; 16],
 }
 
+// What empty memories keep.
 fn nothing() -> Orders {
     Orders {
         segments: [NONE; 16],
@@ -242,6 +245,7 @@ enum Spread {
     Many,
 }
 
+// The number of segments that random references go to; each memory has 16 entries.
 fn segments_of(spread: Spread) -> u32
     ensures some { 0 < result }
     ensures most { result ≤ 60 }

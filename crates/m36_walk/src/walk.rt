@@ -63,7 +63,7 @@ impl Walk {
         &self.core
     }
 
-    /// Core, to be written. Everything that was kept of it is dropped.
+    /// Core, for writing. Empties the associative memories first.
     pub fn core_mut(&mut self) -> &mut Core
         ensures* lends { sem 𝓛 (LendsCore self.entry result) }
         ensures value { result.now ≡ self.old.core }
@@ -79,7 +79,7 @@ impl Walk {
         self.dbr
     }
 
-    /// Loads the descriptor segment base register.
+    /// Sets the descriptor segment base register, and empties the associative memories.
     pub fn set_dbr(&mut self, d: Dbr)
         ensures core { self.new.core ≡ self.old.core }
         ensures dbr { self.new.dbr ≡ d }

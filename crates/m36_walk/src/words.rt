@@ -45,7 +45,7 @@ pub(crate) fn seen(core: &Core, pending: &Option<Pending>, a: u32) -> Word
     }
 }
 
-/// The pair that begins at an address.
+/// The pair that begins at an address, with the pending word as if it were written.
 #[tactic(auto, unfolding(crate::specs::Runs::words_from, crate::specs::Runs::IsInCore))]
 pub(crate) fn seen_pair(core: &Core, pending: &Option<Pending>, a: u32) -> Pair
     requires place { a < 2 ^ 24 }
@@ -57,7 +57,7 @@ pub(crate) fn seen_pair(core: &Core, pending: &Option<Pending>, a: u32) -> Pair
     Pair { even, odd }
 }
 
-/// The block of 16 words that begins at an address.
+/// The block of 16 words that begins at an address, with the pending word as if it were written.
 pub(crate) fn seen_block(core: &Core, pending: &Option<Pending>, a: u32) -> [Pair; 8]
     requires place { a < 2 ^ 24 }
     requires inside { IsInCore (length core.now) a 16 }

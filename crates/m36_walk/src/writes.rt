@@ -17,7 +17,8 @@ use m36_associative::store;
 use m36_model::{At, Fault};
 use m36_word::{Pair, Word};
 
-/// The first word of a reference to 1, 2 or 16 words.
+/// The address of the first of the 1, 2 or 16 words that a reference to `at` is to: a pair begins
+/// at an even word number, and a block at a multiple of 16.
 #[inline(always)]
 pub fn first_at(at: At, count: u8) -> At
     requires { IsCount count }

@@ -34,6 +34,7 @@ fn move_on(ind: Ind, regs: &mut Regs)
     regs.ppr.ic = (ic + 1) % (1 << 18);
 }
 
+// The words to write, in the form of a step.
 fn held(put: WordsToWrite) -> Held
     ensures { words_of_held result ≡ stored put }
 {

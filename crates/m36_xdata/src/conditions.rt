@@ -11,6 +11,7 @@ use crate::registers::{Register, half_of};
 use m36_arith::Compare;
 use m36_model::Ind;
 
+// Whether at least one of two bits is on.
 fn either(first: bool, second: bool) -> bool
     ensures { result ≡ (first || second) }
 {

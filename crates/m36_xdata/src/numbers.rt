@@ -40,7 +40,7 @@ pub fn pair(v: u128) -> Pair
     Pair::of_value(v)
 }
 
-/// The result of an operation on words.
+/// The result of an operation on words, as a `Computed`.
 pub fn of_words(s: Sum36) -> Computed
     ensures value { sum_fields result ≡ s }
     ensures bound { result.value < 2 ^ 36 }
@@ -54,7 +54,7 @@ pub fn of_words(s: Sum36) -> Computed
     }
 }
 
-/// The result of an operation on pairs.
+/// The result of an operation on pairs, as a `Computed`.
 pub fn of_pairs(s: Sum72) -> Computed
     ensures value { sum_fields result ≡ s }
     ensures bound { result.value < 2 ^ 72 }
@@ -68,7 +68,7 @@ pub fn of_pairs(s: Sum72) -> Computed
     }
 }
 
-/// The result of an operation on halves.
+/// The result of an operation on halves, as a `Computed`.
 pub fn of_halves(s: Sum18) -> Computed
     ensures value { sum_fields result ≡ s }
     ensures bound { result.value < 2 ^ 18 }

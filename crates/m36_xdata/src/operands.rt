@@ -20,6 +20,7 @@ pub fn operand_word(given: &Operand36) -> Word
     given.got.word()
 }
 
+// The pair that was read, as a number of 72 bits.
 fn pair_got(given: &Operand36) -> u128
     requires { IsTrue (is_pair given.now.got) }
     ensures value { result ≡ pair (operand_fields given.now) }

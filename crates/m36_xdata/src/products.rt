@@ -29,6 +29,7 @@ pub fn multiply(given: &Operand36, regs: &Regs) -> Change
     takes_tested(Register::Aq, product.value(), regs)
 }
 
+// The address of the instruction, in the ring of execution.
 fn here(regs: &Regs) -> At
     ensures { result ≡ here regs.now }
 {

@@ -28,7 +28,8 @@ pub fn new_value(r: Register, v: u128, regs: &Regs) -> NewValues
     }
 }
 
-/// A register takes a number, and these indicators are set.
+/// The change by which a register takes a number, with these new indicators. `overflow` says
+/// whether overflow has to be reported.
 pub fn takes(r: Register, v: u128, ind: Ind, overflow: bool, regs: &Regs) -> Change
     requires register { IsRegister r }
     requires number { v < 2 * half (working r) }
@@ -44,7 +45,7 @@ pub fn takes(r: Register, v: u128, ind: Ind, overflow: bool, regs: &Regs) -> Cha
     }
 }
 
-/// A register takes a number, and zero and negative are set for it.
+/// The change by which a register takes a number, with zero and negative set for it.
 pub fn takes_tested(r: Register, v: u128, regs: &Regs) -> Change
     requires register { IsRegister r }
     requires number { v < 2 * half (working r) }
@@ -54,7 +55,7 @@ pub fn takes_tested(r: Register, v: u128, regs: &Regs) -> Change
     takes(r, v, zn(r, v, indicators(regs)), false, regs)
 }
 
-/// Only these indicators are set.
+/// The change that sets these indicators and nothing else.
 pub fn sets(ind: Ind, regs: &Regs) -> Change
     ensures value { Gives result regs.now (completes (with_indicators ind regs.now)) }
     ensures put { length (stored result.put) ≡ 0 }
@@ -67,7 +68,8 @@ pub fn sets(ind: Ind, regs: &Regs) -> Change
     }
 }
 
-/// A number of a register's width is written into the operand, and these indicators are set.
+/// The change that writes a number of a register's width into the operand, with these new
+/// indicators. `overflow` says whether overflow has to be reported.
 pub fn puts(r: Register, v: u128, ind: Ind, overflow: bool, regs: &Regs) -> Change
     requires { v < 2 * half (working r) }
     ensures value { Gives result regs.now

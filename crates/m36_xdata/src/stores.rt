@@ -17,6 +17,7 @@ use m36_fastpath::{accumulator, quotient};
 use m36_model::{Ind, Operand36, Regs};
 use m36_word::Word;
 
+// A bit at this place of a word, counted from the right: 2^place if it is on.
 fn bit(on: bool, place: u32) -> u64
     requires { place < 18 }
     ensures value { result ≡ of_bit on * 2 ^ place }
@@ -24,6 +25,7 @@ fn bit(on: bool, place: u32) -> u64
     if on { 1 << place } else { 0 }
 }
 
+// The indicators as STI stores them, in the low 18 bits of a word.
 #[tactic(auto, unfolding(m36_model::specs::Stores::indicators_half))]
 fn indicators_half(ind: Ind) -> Word
     ensures value { result ≡ indicators_half ind }
@@ -53,12 +55,14 @@ pub fn store_indicators(regs: &Regs) -> Change
     }
 }
 
+// Whether two words are equal.
 fn are_equal(first: Word, second: Word) -> bool
     ensures { result ≡ (first == second) }
 {
     first.value() == second.value()
 }
 
+// `a` if `first` is on, and otherwise `b`.
 fn chosen(first: bool, a: Word, b: Word) -> Word
     ensures { result ≡ (if first then a else b) }
 {

@@ -20,12 +20,14 @@ use crate::results::{puts, takes};
 use m36_model::{Operand36, Regs};
 use m36_word::Word;
 
+// The carry indicator.
 fn carry(regs: &Regs) -> bool
     ensures { result ≡ regs.now.ind.carry }
 {
     regs.ind.carry
 }
 
+// A register takes a result; zero, negative, carry and overflow are set, and overflow is reported.
 #[tactic(auto, unfolding(m36_model::specs::Sums::into_register))]
 fn into_register(r: Register, s: Computed, regs: &Regs) -> Change
     requires register { IsRegister r }
@@ -42,6 +44,7 @@ fn into_register(r: Register, s: Computed, regs: &Regs) -> Change
     )
 }
 
+// A register takes a result; zero, negative and carry are set, and overflow is ignored.
 #[tactic(auto, unfolding(m36_model::specs::Sums::into_register_logical))]
 fn into_register_logical(r: Register, s: Computed, regs: &Regs) -> Change
     requires register { IsRegister r }
@@ -53,6 +56,7 @@ fn into_register_logical(r: Register, s: Computed, regs: &Regs) -> Change
     takes(r, s.value, zn_carry(s, indicators(regs)), false, regs)
 }
 
+// As `into_register`, but the result is written into the operand.
 #[tactic(auto, unfolding(m36_model::specs::Sums::into_operand))]
 fn into_operand(r: Register, s: Computed, regs: &Regs) -> Change
     requires { s.value < 2 * half (working r) }
@@ -68,6 +72,7 @@ fn into_operand(r: Register, s: Computed, regs: &Regs) -> Change
     )
 }
 
+// Register plus this number, into the register.
 #[tactic(auto, unfolding(m36_model::specs::Sums::add))]
 fn add_number(r: Register, v: u128, regs: &Regs) -> Change
     requires register { IsRegister r }
@@ -89,6 +94,7 @@ pub fn add(r: Register, given: &Operand36, regs: &Regs) -> Change
     add_number(r, operand_number(r, given), regs)
 }
 
+// A word as a number of 72 bits, with its sign extended.
 #[tactic(auto, unfolding(m36_model::specs::Sums::sign_extended))]
 fn sign_extended(w: Word) -> u128
     ensures value { result ≡ sign_extended w }

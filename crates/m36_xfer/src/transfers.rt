@@ -102,7 +102,8 @@ pub fn transfer(effect: Effect, taken: bool, regs: &mut Regs, f: &Final)
     }
 }
 
-/// TRA and the conditional transfers other than TOV.
+/// The effect of TRA or of a conditional transfer other than TOV. If the transfer is not taken, the
+/// next instruction follows.
 #[tactic(auto, unfolding(m36_model::specs::Transfers::transfer_where))]
 pub fn transfer_where(taken: bool, regs: &Regs, f: &Final) -> Effect36
     ensures { Ok (effect_fields result) ≡ transfer_where taken f.now regs.now }
@@ -114,7 +115,7 @@ pub fn transfer_where(taken: bool, regs: &Regs, f: &Final) -> Effect36
     }
 }
 
-/// TOV, which clears overflow if it is taken.
+/// The effect of TOV, which clears overflow if it is taken. If not, the next instruction follows.
 #[tactic(auto, unfolding(m36_model::specs::Transfers::transfer_on_overflow))]
 pub fn transfer_on_overflow(taken: bool, regs: &Regs, f: &Final) -> Effect36
     ensures { Ok (effect_fields result) ≡ transfer_on_overflow taken f.now regs.now }
@@ -126,7 +127,7 @@ pub fn transfer_on_overflow(taken: bool, regs: &Regs, f: &Final) -> Effect36
     }
 }
 
-/// TSX: stores the word number of the next instruction into an index register.
+/// TSX: loads the word number of the next instruction into index register `n`, and transfers.
 #[tactic(auto, unfolding(m36_model::specs::Transfers::transfer_and_set_index))]
 pub fn transfer_and_set_index(regs: &Regs, n: u8, f: &Final) -> Effect36
     requires { n < 8 }
@@ -135,7 +136,7 @@ pub fn transfer_and_set_index(regs: &Regs, n: u8, f: &Final) -> Effect36
     goes_to(&regs.with_index(n, next_word(regs)), f)
 }
 
-/// TSP: stores a pointer to the next instruction into a pointer register.
+/// TSP: loads a pointer to the next instruction into pointer register `n`, and transfers.
 #[tactic(auto, unfolding(m36_model::specs::Transfers::transfer_and_set_pointer))]
 pub fn transfer_and_set_pointer(regs: &Regs, n: u8, f: &Final) -> Effect36
     requires { n < 8 }
@@ -167,6 +168,7 @@ fn goes_to(regs: &Regs, f: &Final) -> Effect36
     }
 }
 
+// The word number of the next instruction, modulo 2^18.
 fn next_word(regs: &Regs) -> u32
     ensures value { result ≡ next_word regs.now }
     ensures bound { result < 2 ^ 18 }
@@ -174,6 +176,7 @@ fn next_word(regs: &Regs) -> u32
     (regs.ppr.ic + 1) % (1 << 18)
 }
 
+// The registers with overflow off.
 fn without_overflow(regs: &Regs) -> Regs
     ensures { result ≡ without_overflow regs.now }
 {

@@ -7,6 +7,7 @@ use m36_desc::Ptr;
 use m36_model::Regs;
 use m36_word::{Pair, Word};
 
+// A pointer, to be overwritten.
 const NULL: Ptr = Ptr {
     word: 0,
     seg: 0,
