@@ -10,7 +10,7 @@ use Rattle.m36_audit.specs.declared.joint_verdict.JointFinding.{JointFinding}
 abbrev pub found_of : JointFinding → JointFound
 found_of f = record { process = f.process; condition = f.condition; place = f.place }
 
--- findings of a joint audit, in that form
+-- the findings of a joint audit, in the form that `m36_model` uses
 abbrev pub all_found : List JointFinding → List JointFound
 all_found findings = map found_of findings
 
@@ -22,7 +22,8 @@ pub record AreShares (core : List ℕ) (dbrs : List DbrFields) (firsts : List �
   pub of_segments : AreRecorded (Below (SegmentOwned core dbrs) n) (length core) segments
   pub of_identities : AreRecorded (Below (Identified core dbrs firsts) n) (length core) identities
 
--- The findings of the first n processes: together with those of the rest they are those of all.
+-- These are the findings of the first n processes: followed by the findings of the other processes,
+-- they are the findings of all.
 pub record AreFindingsOfFirst (core : List ℕ) (dbrs : List DbrFields) (n : ℕ)
     (findings : List JointFinding) : Type 0 where
   pub whole :

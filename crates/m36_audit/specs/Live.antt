@@ -19,7 +19,7 @@ disordered (Some d) = not (in_order d)
 abbrev pub callable : SdwFields → Bool
 callable d = d.executable && nat_lt d.r2 d.r3
 
--- such rings may enter the segment, if there is one, at every word
+-- rings above R2 may call the segment, if there is one, at every word: it is not a gate
 abbrev pub enterable : Option SdwFields → Bool
 enterable None = false
 enterable (Some d) = callable d && d.no_gate

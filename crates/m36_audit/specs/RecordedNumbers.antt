@@ -23,13 +23,14 @@ pub record TwoOf (Has : ℕ → Type 0) : Type 0 where
   pub has_other : Has other
   pub differ : one ≢ other
 
--- the value of a word for which the numbers in Has were recorded
+-- this is the value of a word for which the numbers that satisfy Has were recorded
 pub record IsRecorded (Has : ℕ → Type 0) (value : ℕ) : Type 0 where
   pub only : value ≢ several → (x : ℕ) → Has x → x ≡ value
   pub one : value ≢ several → value ≢ 0 → Has value
   pub two : value ≡ several → TwoOf Has
 
--- the values of the core words for which the numbers in Has were recorded
+-- these are the values of the `size` words of core, if the numbers that satisfy `Has a` were
+-- recorded for word a
 pub record AreRecorded (Has : ℕ → ℕ → Type 0) (size : ℕ) (values : List ℕ) : Type 0 where
   pub len : length values ≡ size
   pub each : (a : ℕ) → a < size → IsRecorded (Has a) (slice_index values a)

@@ -27,13 +27,15 @@ abbrev pub frame_run : Option ℕ → ℕ → Option Run
 frame_run None count = None
 frame_run (Some frame) count = Some (record { first = frame; end = frame + min 1024 count })
 
--- the run of a page of a paged segment
+-- the run of a page of a paged segment; none if it is no page of the segment (false) or is in no
+-- frame
 abbrev pub page_run_by : Bool → List ℕ → SdwFields → ℕ → Option Run
 page_run_by false core d page = None
 page_run_by true core d page =
     frame_run (result_ok (page_frame core d page)) (words d - 1024 * page)
 
--- the run of a page, if it is one of the segment
+-- the run of a page: its words that are within the bound, if it is a page of the segment and in a
+-- frame
 abbrev pub page_run : List ℕ → SdwFields → ℕ → Option Run
 page_run core d page = page_run_by (nat_le page (last_page d)) core d page
 
@@ -42,7 +44,8 @@ abbrev pub run_by : Bool → List ℕ → SdwFields → ℕ → Option Run
 run_by true core d piece = whole_run d piece
 run_by false core d piece = page_run core d piece
 
--- the run of a segment with this number; a segment whose brackets are out of order has no words
+-- run `piece` of a segment whose brackets are in order; one whose brackets are out of order (false)
+-- has no runs
 abbrev pub run_ordered : Bool → List ℕ → SdwFields → ℕ → Option Run
 run_ordered false core d piece = None
 run_ordered true core d piece = run_by d.unpaged core d piece
@@ -65,7 +68,8 @@ runs_of_segment = pages_of_segment
 abbrev pub runs_of_process : ℕ
 runs_of_process = 2 ^ 23
 
--- run k of a process, by these numbers
+-- run k of a process: the quotient by `runs_of_segment` is the segment, and the rest the number of
+-- the run in it
 unfoldable pub run : List ℕ → DbrFields → ℕ → Option Run
 run core dbr k =
     run_of core (core_sdw core dbr (k / runs_of_segment)) (k % runs_of_segment)

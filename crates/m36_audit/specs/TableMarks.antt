@@ -12,12 +12,12 @@ number Sdws = 1
 number Directory = 2
 number (Pages seg) = seg + 3
 
--- the marks after one for a table at a word; the first mark of a word is kept
+-- `tables_marked`, by whether word a had no mark before: the first mark of a word is kept
 abbrev pub tables_by : Bool → List ℕ → ℕ → ℕ → List ℕ
 tables_by true tables table a = slice_set tables a table
 tables_by false tables table a = tables
 
--- the marks after one for a table at a word
+-- the marks of all words, after word a was marked for a table
 unfoldable pub tables_marked : List ℕ → ℕ → ℕ → List ℕ
 tables_marked tables table a = tables_by (slice_index tables a == 0) tables table a
 
@@ -26,7 +26,7 @@ abbrev pub lesser : Option ℕ → ℕ → Option ℕ
 lesser None a = Some a
 lesser (Some p) a = Some (min p a)
 
--- the least word that was marked for a second table
+-- `least_marked`, by whether word a had no mark before, or that of the same table
 abbrev pub least_by : Bool → Option ℕ → ℕ → Option ℕ
 least_by true least a = least
 least_by false least a = lesser least a

@@ -88,7 +88,8 @@ pub record SegmentOwned (core : List ℕ) (dbrs : List DbrFields) (k a x : ℕ) 
 abbrev pub Below : (ℕ → ℕ → ℕ → Type 0) → ℕ → ℕ → ℕ → Type 0
 Below Has n a x = (k : ℕ) × (k < n) × Has k a x
 
--- the value of a word after a process was recorded that may have something there
+-- the value of a word after the process with this number was recorded for it, if the process has
+-- something there (true)
 abbrev pub owned : Bool → ℕ → ℕ → ℕ
 owned true seen number = with_number seen number
 owned false seen number = seen
@@ -99,9 +100,11 @@ pub record AreOwned (test : ℕ → Bool) (number a : ℕ) (old new : List ℕ) 
   pub before : (q : ℕ) → q < a → slice_index new q ≡ owned (test q) (slice_index old q) number
   pub after : (q : ℕ) → a ≤ q → slice_index new q ≡ slice_index old q
 
--- The runs of the first descriptors of all processes, by numbers: those of a process come after
--- those of the processes before it. A descriptor is a first one if `firsts` has its own number for
--- it.
+-- ---- the runs of the first descriptors of all processes
+-- They are numbered: those of a process come after those of the processes before it. A descriptor
+-- is a first one if `firsts` has its own number for it.
+
+-- a run, if its segment has a first descriptor (true)
 abbrev pub first_run : Bool → Option Run → Option Run
 first_run true r = r
 first_run false r = None
@@ -135,7 +138,8 @@ stops_with (Some r) stops = counted stops r.end
 abbrev pub HasRoom : List ℕ → Type 0
 HasRoom counts = (a : ℕ) → slice_index counts a < 2 ^ 32 - 1
 
--- the values after a process was recorded for a core word, if it has something there
+-- the values after a process with this number was recorded for core word a, if it has something
+-- there (true)
 abbrev pub owned_at : Bool → List ℕ → ℕ → ℕ → List ℕ
 owned_at true values a number = with_number_at values a number
 owned_at false values a number = values

@@ -22,7 +22,8 @@ use m36_isol::{law_findings, law_window};
 use m36_word::NoMemory;
 use std::alloc::Global;
 
-/// The findings, from the marks and the counts: each condition in order.
+/// The findings for a DBR, in the order of the conditions. The table words are marked already, and
+/// the runs of the segments are counted.
 pub(crate) fn found(marks: &TableMarks, counts: &RunCounts, core: &Core, dbr: Dbr) -> Verdict
     requires marked { AreMarked (IsOf core.now dbr) (length core.now) marks.now.tables
         marks.now.least }
@@ -46,7 +47,8 @@ pub(crate) fn found(marks: &TableMarks, counts: &RunCounts, core: &Core, dbr: Db
     Verdict { findings }
 }
 
-/// The findings. `marks` and `counts` have an entry for each core word, all of them zero.
+/// Marks the table words, counts the runs of the segments, and makes the findings from both.
+/// `marks` and `counts` have an entry for each core word, all of them zero.
 fn findings_of(marks: &mut TableMarks, counts: &mut RunCounts, core: &Core, dbr: Dbr) -> Verdict
     requires tables { marks.old.tables ≡ replicate (length core.now) 0 }
     requires least { marks.old.least ≡ None }

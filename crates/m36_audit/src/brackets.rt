@@ -21,7 +21,7 @@ fn disordered(found: Option<Sdw>) -> bool
     }
 }
 
-/// Whether a segment breaks the condition.
+/// Whether a segment breaks the first condition.
 #[tactic(auto, using(crate::proofs::Segments::out_of_order))]
 pub(crate) fn is_out_of_order(core: &Core, dbr: Dbr, seg: u16) -> bool
     requires { seg < 2 ^ 15 }

@@ -65,7 +65,9 @@ fn seed_of(alloc: Global, core: &Core, dbrs: &[Dbr]) -> Result<HashSeed, NoMemor
     Ok(HashSeed::of(&bytes))
 }
 
-/// Records a descriptor and its number, if its words are in core.
+/// Records a descriptor by its key; without a key it does nothing. If `places` has the key, the
+/// entry of this descriptor in `firsts` is the number found there. Otherwise it is the descriptor's
+/// own number, which is added to `places`.
 fn note(
     places: &mut HashMap<u128, u32, HashSeed>,
     firsts: &mut Vec<u32>,
@@ -89,7 +91,7 @@ fn note(
     Ok(())
 }
 
-/// Records the descriptors of process k.
+/// Records the descriptors of process k, after those of the processes before it.
 fn note_process(
     places: &mut HashMap<u128, u32, HashSeed>,
     firsts: &mut Vec<u32>,

@@ -60,7 +60,8 @@ impl WordOwners {
     }
 }
 
-/// The findings of process k. Its words are recorded in `shares`.
+/// The findings of process k by itself. Records in `shares` which core words it has. What `marks`
+/// and `counts` had before is cleared.
 fn findings_of(
     marks: &mut TableMarks,
     counts: &mut RunCounts,
@@ -107,7 +108,8 @@ fn findings_of(
     found(marks, counts, core, dbr)
 }
 
-/// The findings of all processes, in order.
+/// The findings of each process by itself, in the order of the processes. Records in `shares` which
+/// core words each of them has.
 fn findings_of_all(
     marks: &mut TableMarks,
     counts: &mut RunCounts,
@@ -140,7 +142,8 @@ fn findings_of_all(
     findings
 }
 
-/// The findings. Nothing is recorded in `shares` before.
+/// The findings of the joint audit: those of each process, and then those between processes.
+/// Nothing is recorded in `shares` before.
 fn joint_findings(
     marks: &mut TableMarks,
     counts: &mut RunCounts,

@@ -28,7 +28,8 @@ fn pieces(sdw: &Sdw) -> u32
     }
 }
 
-/// One run of a segment, if there is one with this number.
+/// Run `piece` of a segment: that of a page, or None if the page is in no frame; or the first or
+/// second run of an unpaged segment.
 fn piece_run(core: &Core, sdw: &Sdw, piece: u32) -> Option<Run>
     requires { piece < piece_count sdw.now }
     ensures { result ≡ run_by sdw.now.unpaged core.now sdw.now piece }
@@ -43,7 +44,7 @@ fn piece_run(core: &Core, sdw: &Sdw, piece: u32) -> Option<Run>
     }
 }
 
-/// Counts one run of a segment, if there is one with this number.
+/// Counts run `piece` of a segment, if there is one.
 fn count_piece(counts: &mut RunCounts, core: &Core, sdw: &Sdw, piece: u32)
     requires piece { piece < piece_count sdw.now }
     requires room { HasRoom counts.old.starts }
@@ -59,7 +60,8 @@ fn count_piece(counts: &mut RunCounts, core: &Core, sdw: &Sdw, piece: u32)
     }
 }
 
-/// Counts the runs of the segment with this number, which is live and has its brackets in order.
+/// Counts all runs of a segment that is live and has its brackets in order. `number` is the number
+/// of its descriptor among those of all processes.
 fn count_pieces(
     counts: &mut RunCounts,
     core: &Core,

@@ -16,8 +16,9 @@ use crate::run::RunCounts;
 use m36_core::Core;
 use m36_desc::Dbr;
 
-/// Whether a core word is table words of different processes that are not shared, or a table word
-/// of one process and a segment word of another, by what is recorded for it.
+/// Whether a core word breaks the condition on table words between processes: it is a word of two
+/// tables that are not shared, or a table word of one process and a segment word of another. The
+/// arguments are the values recorded for the word: 0, one number, or `SEVERAL`.
 fn is_between(tables: u32, segments: u32, identities: u32) -> bool
     ensures { result ≡ is_between tables segments identities }
 {

@@ -50,7 +50,8 @@ pub(crate) fn zeros(alloc: Global, size: u32) -> Result<Vec<u32>, NoMemory>
     Ok(zeros)
 }
 
-/// Writes counts up to a word, zeros after those that are written.
+/// Extends `written` with zeros to `end` entries, if it has fewer. The capacity must be there
+/// already, so no memory is allocated.
 fn write_up_to(written: &mut Vec<u32>, end: usize)
     requires { end ≤ vec_capacity written.old }
     ensures items { written.new.items ≡ written.old.items ++ replicate (end - length written.old.items) 0 }
@@ -65,7 +66,7 @@ fn write_up_to(written: &mut Vec<u32>, end: usize)
 }
 
 impl Counts {
-    /// No word is counted.
+    /// Counts for `size` core words, all zero. Fails only if memory runs out.
     pub(crate) fn new(alloc: Global, size: u32) -> Result<Counts, NoMemory>
         ensures { IfOk result (λ k. k ≡ replicate size 0) }
     {
@@ -73,7 +74,7 @@ impl Counts {
         Ok(Counts { written, size })
     }
 
-    /// Forgets all that was counted.
+    /// Sets all counts to zero.
     pub(crate) fn clear(&mut self)
         ensures { self.new ≡ replicate (length self.old) 0 }
     {
@@ -90,7 +91,7 @@ impl Counts {
         }
     }
 
-    /// The first word from which on all are zero because none of them was counted.
+    /// An address from which on all counts are zero: that after the last word that was counted.
     pub(crate) fn end(&self) -> u32
         ensures inside { result ≤ length self.now }
         ensures zeros { (a : ℕ) → result ≤ a → slice_index self.now a ≡ 0 }
@@ -99,7 +100,7 @@ impl Counts {
         self.written.len() as u32
     }
 
-    /// One more at a word. A word past the end of core is none.
+    /// Adds one to the count of a core word. A word past the end of core is ignored.
     fn count(&mut self, a: u32)
         requires room { slice_index self.old a < 2 ^ 32 - 1 }
         ensures { self.new ≡ counted self.old a }
@@ -133,7 +134,7 @@ impl RunCounts {
         self.stops.clear();
     }
 
-    /// Counts a run.
+    /// Counts a run: one more begins at its first word, and one more ends at its end.
     pub(crate) fn add(&mut self, run: Run)
         requires room { slice_index self.old.starts run.first < 2 ^ 32 - 1 }
         requires room_at_end { slice_index self.old.stops run.end < 2 ^ 32 - 1 }

@@ -45,7 +45,7 @@ impl Verdict {
     }
 }
 
-/// Adds the finding of a condition, if there is one.
+/// Adds the finding that this place breaks the condition; nothing if no place does.
 pub(crate) fn note(findings: &mut ArrayVec<Finding, 6>, condition: u8, found: Option<u32>)
     requires room { array_vec_len findings.old < 6 }
     ensures listed { pairs findings.new.items ≡ pairs findings.old.items ++ noted condition found }

@@ -12,7 +12,8 @@ use crate::tables::TableMarks;
 use m36_core::Core;
 use m36_desc::Dbr;
 
-/// How many runs cover a word, from how many were open before it.
+/// The number of runs that cover word `a`, from the number that cover the word before it (0 for
+/// word 0).
 pub(crate) fn open_at(counts: &RunCounts, core: &Core, dbr: Dbr, a: u32, open_runs: u32) -> u32
     requires counted { AreCounted (run core.now dbr) runs_of_process (length core.now)
         counts.now.starts counts.now.stops }

@@ -23,12 +23,13 @@ current_state after h = state_at after h.first h.taken
 
 -- ---- turns
 
--- A turn is a turn of the machine, unless the count of steps is at its maximum.
+-- the turn of a machine with this history: that of the machine inside, or Full if the count of
+-- steps is at its maximum
 abbrev pub past_answer : {M : Type 0} → (M → Turn) → (M → M) → History M → Turn
 past_answer answer after h =
     if h.taken == most_taken then Full else answer (current_state after h)
 
--- the history after that turn
+-- the history after the turn of `past_answer`: a step adds one to the count
 abbrev pub past_after : {M : Type 0} → (M → Turn) → (M → M) → History M → History M
 past_after answer after h =
     record { first = h.first; taken = counted h.taken (past_answer answer after h) }
@@ -41,8 +42,9 @@ PastTurns answer after before turn later =
 
 -- ---- going back
 
--- Done: n steps are taken back, and at least n were taken. NoMemory is always allowed in that
--- case.
+-- Going back by n steps may have this answer, and leave the history `later`. Done takes n steps
+-- back, and Before reports that fewer were taken. NoMemory is allowed in place of Done. Only Done
+-- changes the history.
 abbrev pub MayGoBack : {M : Type 0} → History M → ℕ → BackAnswer → History M → Type 0
 MayGoBack before n back.Done later =
     (n ≤ before.taken) × (later ≡ record { first = before.first; taken = before.taken - n })

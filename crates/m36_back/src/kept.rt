@@ -61,7 +61,8 @@ pub(crate) fn drop_later<M: Replay + Drop>(kept: &mut Vec<Kept<M>>, target: u64)
     }
 }
 
-/// Drops the states whose numbers have any bit of `mask`.
+/// Drops the states whose numbers have any bit of `mask`. If the mask was just doubled, that is
+/// every second one.
 #[tactic(auto, using(crate::proofs::KeptLaws::keeping))]
 fn drop_every_second<M: Replay + Drop>(kept: &mut Vec<Kept<M>>, mask: u64)
     ensures { (first : M) → AllKept M.after first kept.old.items

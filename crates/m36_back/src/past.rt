@@ -67,7 +67,7 @@ impl<M: Replay + Drop> Past<M> {
     }
 }
 
-// The count of steps after a turn.
+// The count of steps after a turn: one more if the turn is a step.
 fn count(taken: u64, turn: &Turn) -> u64
     requires { taken < most_taken }
     ensures { result ≡ counted taken turn.now }

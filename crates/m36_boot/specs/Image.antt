@@ -26,7 +26,7 @@ use Rattle.m36_boot.specs.Refusals.{least_frames, ReportsFault, boot_answer}
 
 -- ---- core
 
--- A descriptor has two words; without a segment they are zero.
+-- word 0 or 1 of a descriptor; zero if there is no segment
 abbrev pub descriptor_word : ℕ → Option SdwFields → ℕ
 descriptor_word half None = 0
 descriptor_word half (Some d) = if nat_eq half 0 then sdw_even d else sdw_odd d
@@ -36,11 +36,12 @@ abbrev pub page_table_word : ℕ → Option SdwFields → ℕ
 page_table_word page None = 0
 page_table_word page (Some d) = if nat_lt page (page_count d) then absent_ptw else 0
 
--- the word of the descriptor segment at a place: descriptors one after another, of two words each
+-- the word of the descriptor segment at a core address: descriptors one after another, of two words
+-- each
 abbrev pub described_word : CatalogFields → List (List ℕ) → ℕ → ℕ
 described_word catalog files a = descriptor_word (a % 2) (booted_sdw catalog files (a / 2))
 
--- the word of core at a place: descriptors, then page tables, and then empty frames
+-- the word at a core address: descriptors, then page tables, and then empty frames
 unfoldable pub booted_word : CatalogFields → List (List ℕ) → ℕ → ℕ
 booted_word catalog files a =
     if nat_lt a descriptor_words then described_word catalog files a
@@ -69,7 +70,7 @@ pub record AreDescribed
 
 -- ---- pages
 
--- the page table of a segment, with the segment's words
+-- the page table of a segment with its words, as a list: empty if there is no segment
 abbrev pub table_of_segment : ℕ → Option SdwFields → List ℕ → List PageTable
 table_of_segment seg None words = []
 table_of_segment seg (Some d) words =

@@ -65,7 +65,7 @@ first_gate_fault catalog files i (suc n) =
 
 -- ---- the start: its segment is not found, is not an object, or may not be started
 
--- the answer to the link to the start, or the fault
+-- the answer to the link to the start, or the fault with which the catalog cannot be booted
 abbrev pub Answer : Type 0
 Answer = Result SnapFields BootFault
 
@@ -74,13 +74,15 @@ abbrev pub is_object : Option SegmentFields → Option PartsFields → Bool
 is_object (Some s) (Some o) = not (is_plain s.kind)
 is_object _ _ = false
 
--- U3 if the segment may not be executed in the ring of the start, or the link is refused
+-- the answer to the link to the start; U3 if the segment may not be executed in the ring of the
+-- start (false), or the link is refused
 abbrev pub answer_if : Bool → Result SnapFields RefusedFields → Answer
 answer_if true (Ok s) = Ok s
 answer_if true (Err why) = Err fault.U3
 answer_if false answer = Err fault.U3
 
--- U3 if no segment is found, U4 if it is not an object
+-- the answer to the link to the start, whose segment has this number; U3 if no segment is found, U4
+-- if it is not an object
 abbrev pub start_in : CatalogFields → List (List ℕ) → Option ℕ → Answer
 start_in catalog files None = Err fault.U3
 start_in catalog files (Some seg) =
@@ -113,7 +115,8 @@ abbrev pub ReportsFault : BootFault → Answer → Type 0
 ReportsFault fault.NoMemory answer = Unit {0}
 ReportsFault told answer = answer ≡ Err told
 
--- The code's result for the start.
+-- The code's result for the start: the answer, or its fault; NoMemory is allowed in place of
+-- either.
 abbrev pub StartSays : Result SnapFields BootFault → Answer → Type 0
 StartSays (Ok s) answer = answer ≡ Ok s
 StartSays (Err told) answer = ReportsFault told answer
@@ -123,25 +126,26 @@ abbrev pub ReportsGateFault : BootFault → Option BootFault → Type 0
 ReportsGateFault fault.NoMemory first = Unit {0}
 ReportsGateFault told first = first ≡ Some told
 
--- the call limiter of a gate
+-- The code's result for the call limiter of a gate: its entry bound, or its fault; or NoMemory.
 abbrev pub GateSays : ℕ → List ℕ → Result ℕ BootFault → Type 0
 GateSays seg words (Ok limit) =
     (bound_fault seg (value_of words) ≡ None) × (limit ≡ entry_bound_of (value_of words))
     × IsLimit limit
 GateSays seg words (Err told) = ReportsGateFault told (bound_fault seg (value_of words))
 
--- the call limiter of a segment
+-- The code's result for the call limiter of a segment: the limiter, or the fault of the gate; or
+-- NoMemory.
 abbrev pub LimitSays : ℕ → SegmentFields → List ℕ → Result ℕ BootFault → Type 0
 LimitSays seg s words (Ok limit) =
     (gate_fault seg s words ≡ None) × (limit ≡ limit_of s words) × IsLimit limit
 LimitSays seg s words (Err told) = ReportsGateFault told (gate_fault seg s words)
 
--- the call limiter of a segment that may not exist
+-- the call limiter of a segment; 0 if there is no segment
 abbrev pub limit_at : Option SegmentFields → List ℕ → ℕ
 limit_at None words = 0
 limit_at (Some s) words = limit_of s words
 
--- the call limiter of each of the first `count` segments of the catalog
+-- these are the call limiters of the first `count` segments of the catalog
 pub record AreLimits
     (catalog : CatalogFields) (files : List (List ℕ)) (count : ℕ) (limits : List ℕ)
     : Type 0 where

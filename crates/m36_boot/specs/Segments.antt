@@ -36,7 +36,7 @@ after_ring_segments = linkage_segment 8
 abbrev pub stack_pages : ℕ
 stack_pages = 16
 
--- a linkage segment has all pages that a page table can have
+-- the number of pages of a linkage segment: all that a page table can have
 abbrev pub linkage_pages : ℕ
 linkage_pages = table_words
 
@@ -54,7 +54,7 @@ file_at files i = slice_index_or files i []
 
 -- ---- descriptors
 
--- a segment with a page table, whose last block of 16 words is `last`
+-- the descriptor of a paged segment whose last block of 16 words is `last`, with no mode on
 abbrev pub paged_segment : ℕ → ℕ → SdwFields
 paged_segment seg last =
     record {
@@ -79,7 +79,8 @@ paged_segment seg last =
 abbrev pub bound_of_pages : ℕ → ℕ
 bound_of_pages pages = 64 * pages - 1
 
--- a stack or a linkage segment: it can be read and written in the rings from 0 to its own
+-- the descriptor of a stack or a linkage segment: it can be read and written in the rings from 0 to
+-- its own
 abbrev pub ring_segment : ℕ → ℕ → ℕ → SdwFields
 ring_segment seg ring pages =
     record (paged_segment seg (bound_of_pages pages)) {

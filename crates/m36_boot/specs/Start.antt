@@ -21,7 +21,7 @@ use Rattle.m36_boot.specs.Segments.{stack_segment}
 
 -- ---- the link to the start
 
--- The start is a link to a name and an entry.
+-- the link to the start: to the name and the entry that the catalog gives
 abbrev pub start_link : StartFields → LinkFields
 start_link s =
     record {

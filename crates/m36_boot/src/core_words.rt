@@ -30,7 +30,8 @@ fn pair_of(sdw: Option<Sdw>) -> Pair
     }
 }
 
-// Writes the two words of a segment's descriptor.
+// Writes the two words of a segment's descriptor into the descriptor segment, which begins at core
+// address 0.
 fn put_pair(core: &mut Core, seg: u16, pair: Pair)
     requires seg { seg < 1024 }
     requires core { descriptor_words ≤ length core.old }

@@ -73,7 +73,8 @@ fn image_at(
     })
 }
 
-// The image of a catalog whose gates have no fault.
+// The image of a catalog whose gates have no fault; `limits` has the call limiter of each segment.
+// The error is the first fault of the start, or `NoMemory`.
 fn started(
     alloc: Global,
     catalog: &Catalog,

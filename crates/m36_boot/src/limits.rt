@@ -22,7 +22,8 @@ fn is_entry_count(bound: u32) -> bool
     bound > 0 && bound <= MOST_ENTRIES
 }
 
-// The call limiter of a gate: the entry bound of its object.
+// The call limiter of a gate: the entry bound of its object. The error is U4 if its file is not an
+// object, and U2 if it has no entry or too many.
 #[tactic(auto, using(crate::proofs::LimitLoops::gates))]
 fn gate_limit(seg: u16, file: &File) -> Result<u16, BootFault>
     ensures { GateSays seg file.now result }
@@ -37,7 +38,7 @@ fn gate_limit(seg: u16, file: &File) -> Result<u16, BootFault>
     Ok(bound as u16)
 }
 
-// The call limiter of a segment: 0 if it is not a gate.
+// The call limiter of a segment: 0 if it is not a gate. The error is the fault of a gate.
 #[tactic(auto, unfolding(crate::specs::Refusals::gate_fault, crate::specs::Segments::limit_of))]
 fn limit(seg: u16, segment: &Segment, file: &File) -> Result<u16, BootFault>
     ensures { LimitSays seg segment.now file.now result }

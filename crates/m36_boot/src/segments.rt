@@ -22,7 +22,7 @@ pub(crate) const FIRST_STACK: u16 = 8;
 // The first number after those of the linkage segments.
 const AFTER_RING_SEGMENTS: u16 = 24;
 
-// The place in core of the page table of a segment.
+/// The core address of the page table of a segment; each has 256 words.
 pub(crate) fn table_at(seg: u16) -> u32
     requires { seg < booted_segments }
     ensures { result ≡ table_at seg }
@@ -32,7 +32,7 @@ pub(crate) fn table_at(seg: u16) -> u32
 
 // ---- descriptors
 
-// A segment with a page table, whose last block of 16 words is `last`.
+// The descriptor of a paged segment whose last block of 16 words is `last`, with no mode on.
 fn paged_segment(seg: u16, last: u16) -> Sdw
     requires seg { seg < booted_segments }
     requires last { last < 2 ^ 14 }
@@ -76,7 +76,7 @@ fn ring_segment(seg: u16, ring: u8, pages: u16) -> Sdw
     sdw
 }
 
-// The descriptor of a segment of the catalog.
+// The descriptor of a segment of the catalog, with this call limiter.
 #[tactic(auto, using(crate::proofs::Orders::in_order_by))]
 fn limited_segment(seg: u16, segment: &Segment, words: &[Word], limit: u16) -> Sdw
     requires seg { seg < booted_segments }
@@ -137,7 +137,8 @@ fn joined(left: u32, right: u32) -> Word
     Word::low(((left as u64) << 18) + right as u64)
 }
 
-// The words of a stack.
+// The words of the stack of a ring: words 22 and 23 are an ITS pair to its linkage segment, and
+// those before them are zero. Words after these are zero without being listed.
 #[tactic(auto, unfolding(crate::specs::Segments::stack_words))]
 fn stack_words(alloc: Global, ring: u8) -> Result<Words, NoMemory>
     requires { ring < 8 }
@@ -167,7 +168,8 @@ fn lot_of(alloc: Global, lay: &NewSection) -> Result<Words, NoMemory>
     Ok(words)
 }
 
-// The words of a linkage segment.
+// The words of the linkage segment of a ring: the LOT and the linkage section, if one is laid for
+// this ring; otherwise none.
 #[tactic(auto, unfolding(crate::specs::Segments::linkage_words))]
 fn linkage_words(alloc: Global, lay: &Option<NewSection>, ring: u8) -> Result<Words, NoMemory>
     ensures { IfOk result (λ words. words ≡ linkage_words lay.now ring) }

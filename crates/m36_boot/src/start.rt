@@ -101,6 +101,7 @@ pub(crate) fn start_of(alloc: Global, catalog: &Catalog, files: &[File]) -> Resu
 
 // ---- registers
 
+// A pointer register that points to this word, with bit number 0.
 fn pointer(seg: u16, ring: u8, word: u32) -> Ptr
     requires seg { seg < 2 ^ 15 }
     requires ring { ring < 8 }

@@ -24,7 +24,7 @@ go_limit = 100000
 abbrev pub run_of : TurnCommand → ℕ → RunningCommand
 run_of command left = record { left = left; command = command }
 
--- the next instruction is at a break
+-- the next instruction is at this break
 abbrev pub is_at : PprFields → Break → Bool
 is_at p b = nat_eq b.seg p.psr && nat_eq b.word p.ic
 
@@ -38,24 +38,25 @@ abbrev pub wants : TurnCommand → ℕ → Bool → Bool
 wants Step left at_break = nat_lt 0 left
 wants Go left at_break = nat_lt 0 left && (nat_eq left go_limit || not at_break)
 
--- what a command does if no further turn has to follow
+-- what a command does after a turn that need not be followed by a service or the end of the run
 abbrev pub after_quiet_turn : TurnCommand → ℕ → Bool → AfterTurn
 after_quiet_turn command left at_break =
     if wants command left at_break then Runs (run_of command left) else Waits
 
--- A step whose outcome is not Next is followed at once by its service or by the end of the run,
--- and a refused link by the end of the run: by one more turn, even if no steps are left.
+-- What a command does after a step. One whose outcome is not Next is followed at once by its
+-- service or by the end of the run: by one more turn, even if no steps are left.
 abbrev pub after_step : TurnCommand → ℕ → Bool → Outcome → AfterTurn
 after_step command left at_break Next = after_quiet_turn command left at_break
 after_step command left at_break (Faulted fault) = Runs (run_of command left)
 after_step command left at_break (Stopped stop) = Runs (run_of command left)
 
--- what a command does after a link service
+-- What a command does after a link service. A refused link is followed by one more turn, the end of
+-- the run.
 abbrev pub after_link : TurnCommand → ℕ → Bool → Result Pair LinkCode → AfterTurn
 after_link command left at_break (Ok pair) = after_quiet_turn command left at_break
 after_link command left at_break (Err code) = Runs (run_of command left)
 
--- what a command does after a turn
+-- what a command does after a turn; the flag is whether the turn left the machine at a break
 unfoldable pub after_turn : RunningCommand → Bool → Turn → AfterTurn
 after_turn run at_break (turns.Stepped told) =
     if nat_eq run.left 0 then Waits

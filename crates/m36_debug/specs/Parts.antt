@@ -28,7 +28,8 @@ pub record SessionPart {M : Type 0} (o : Turning M) (s : SessionPoint) (m : M) (
   pub took : lines_in events ≡ lines
   pub wrote : PutsPieces answer (texts_of o s events) old new
 
--- A part in which the output failed. The session is in some state.
+-- A part of a session in which the output failed. Nothing is known of the state of the session
+-- after it but that there is one.
 pub record CutPart {M : Type 0} (o : Turning M) (s : SessionPoint) (m : M) (lines : List (List ℕ))
     (m' : M) (old new : Pending) : Type 0 where
   pub stands : SessionPoint
@@ -36,7 +37,7 @@ pub record CutPart {M : Type 0} (o : Turning M) (s : SessionPoint) (m : M) (line
 
 -- ---- a turn
 
--- what the session is doing after a turn of a command
+-- what the session is doing after a turn of a command, by the result of the turn
 abbrev pub doing_came : Came → Activity
 doing_came (comes.Runs run service) = Running run
 doing_came comes.Waits = Waiting
@@ -54,13 +55,14 @@ abbrev pub turn_result : Put → Turn → AfterTurn → Came
 turn_result Done turn next = came_of turn next
 turn_result Failed turn next = comes.Cut
 
--- The steps that a command may still take, and the steps that the session has taken: a step is one
--- of those that were left, and a service counts 0.
+-- How a turn changes the steps that a command may still take (left, next) and the count of steps of
+-- the session (before, after): not at all if it is a service (true); otherwise fewer are left, and
+-- the count rises by at most one.
 abbrev pub RunsCounts : Bool → ℕ → ℕ → ℕ → ℕ → Type 0
 RunsCounts true next left before after = (next ≡ left) × (after ≡ before)
 RunsCounts false next left before after = (next < left) × (after ≤ before + 1)
 
--- the counts of steps before and after a turn of a command
+-- how a turn with this result changes the steps that are left and the count of steps of the session
 abbrev pub CameCounts : Came → ℕ → ℕ → ℕ → Type 0
 CameCounts (comes.Runs run service) left before after =
     RunsCounts service run.left left before after
@@ -74,14 +76,15 @@ pub record Makes {M : Type 0} (o : Turning M) (Kind : Turn → Type 0) (m m' : M
   pub next : o.next m turn m'
   pub kind : Kind turn
 
--- A turn with the flag for services is a service.
+-- If the result of a turn has the flag for services, the turn was a service.
 abbrev pub CameServed : {M : Type 0} → Turning M → Came → M → M → Type 0
 CameServed o (comes.Runs run service) m m' = service ≡ true → Makes o IsService m m'
 CameServed o comes.Waits m m' = Unit {0}
 CameServed o comes.Starves m m' = Unit {0}
 CameServed o comes.Cut m m' = Unit {0}
 
--- With no steps left, a command takes another turn only if that turn cannot be a step.
+-- If a command has no steps left and still takes another turn, the one before it was one that no
+-- step may follow.
 abbrev pub CameInterrupted : {M : Type 0} → Turning M → Came → M → M → Type 0
 CameInterrupted o (comes.Runs run service) m m' = run.left ≡ 0 → Makes o PrecludesStep m m'
 CameInterrupted o comes.Waits m m' = Unit {0}
@@ -92,7 +95,8 @@ CameInterrupted o comes.Cut m m' = Unit {0}
 abbrev pub CountsSteps : {M : Type 0} → Turning M → ℕ → ℕ → M → M → Type 0
 CountsSteps o before after m m' = (after ≡ before) ⊎ Makes o IsStep m m'
 
--- the result of a turn of a command
+-- The contract of a turn of a command, by its result: a part of a session in which no line is
+-- taken.
 abbrev pub TurnContract :
     {M : Type 0} → Turning M → Came → SessionPoint → M → SittingFields → M → Pending → Pending
     → Type 0
@@ -102,7 +106,7 @@ TurnContract o came s m sitting m' old new =
 
 -- ---- a command, a line, and several lines
 
--- what the session is doing after a line
+-- what the session is doing after a line, by how the line ended
 abbrev pub doing_at : LineResult → Activity
 doing_at ends.Line = Waiting
 doing_at ends.Quit = Over

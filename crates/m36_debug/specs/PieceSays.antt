@@ -42,7 +42,8 @@ pub record AnsweredCut {M : Type 0} (o : Turning M) (s : SessionPoint) (m : M) (
   pub is : IsLines text lines rest
   pub part : CutPart o s m lines m' old new
 
--- what is answered to a text and which bytes are kept, by how the lines ended
+-- The contract of answering the whole lines of a text, by how they ended: which lines were
+-- answered, and which bytes are kept as the beginning of a line.
 abbrev pub PieceSays :
     {M : Type 0} → Turning M → LineResult → SessionPoint → M → List ℕ → List ℕ → SittingFields → M → Pending
     → Pending → Type 0

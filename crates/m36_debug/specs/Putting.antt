@@ -9,6 +9,7 @@ pub record Pending : Type 0 where
   pub block : List (List ℕ)
   pub world : Seen
 
+-- the same, from its parts
 abbrev pub pending : List (List ℕ) → Seen → Pending
 pending block world = record { block = block; world = world }
 

@@ -55,7 +55,7 @@ pub record RepliesSome {M : Type 0} (o : Turning M) (s : SessionPoint) (m : M) (
   pub machine : M
   pub happens : Happens o s m lines written stands machine
 
--- the answers to the whole lines of a text
+-- this is a reply to the whole lines of a text that the machine may give
 abbrev pub IsReply : {M : Type 0} → Turning M → SessionPoint → M → List ℕ → Reply M → Type 0
 IsReply o s m text (All written kept sitting m') =
     RepliesAll o s m text written kept sitting m'
@@ -78,7 +78,8 @@ pub record LastBreaks {M : Type 0} (o : Turning M) (s : SessionPoint) (m : M) (b
   pub machine : M
   pub happens : Happens o s m (open_rest begun) written stands machine
 
--- the answer to the line that has begun when the input ends, if it is not empty
+-- this is a reply to the line that has begun when the input ends; there is nothing to answer if it
+-- is empty
 abbrev pub IsLast : {M : Type 0} → Turning M → SessionPoint → M → List ℕ → Reply M → Type 0
 IsLast o s m begun (All written kept sitting m') =
     Happens o s m (open_rest begun) written (standing sitting Waiting) m'

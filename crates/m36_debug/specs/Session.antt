@@ -50,7 +50,7 @@ pub record SessionPoint : Type 0 where
   pub sitting : SittingFields
   pub doing : Activity
 
--- the state with these parts
+-- a state of a session, from what it remembers and what it is doing
 abbrev pub standing : SittingFields → Activity → SessionPoint
 standing s doing = record { sitting = s; doing = doing }
 
@@ -78,7 +78,8 @@ May o doing m happened m' = ⊥
 
 -- ---- a line is taken
 
--- a command begins, if the run has not ended
+-- what the session is doing after a line with a command that may take `left` steps: the command
+-- runs, unless the run of the machine has ended
 abbrev pub run_begun : Option End → TurnCommand → ℕ → Activity
 run_begun None command left = Running (run_of command left)
 run_begun (Some end) command left = Waiting
@@ -109,7 +110,7 @@ state_after_line s session.Quit = s
 state_after_line s session.Empty = s
 state_after_line s session.Unknown = s
 
--- a break is written if there is room for it; otherwise its line is answered as an unknown one
+-- the answer to `break`: the break, if there is room for it; otherwise the line is unknown
 abbrev pub break_says : SittingFields → List ℕ → ℕ → ℕ → List (List ℕ)
 break_says s line seg word =
     (if has_room s then break_line seg word else unknown_line line) ∷ []
@@ -137,7 +138,8 @@ doing_by (Runs run) = Running run
 doing_by Waits = Waiting
 doing_by Starves = Starved
 
--- `go` writes nothing before it is complete
+-- the lines that `go` writes after a turn: none before it is complete; then the end line if the run
+-- has ended, and otherwise where it has stopped
 abbrev pub go_says : RegsFields → SittingFields → AfterTurn → List (List ℕ)
 go_says g s (Runs run) = []
 go_says g s Waits = end_or_where s.ended s.taken g.ppr ∷ []
@@ -153,12 +155,13 @@ command_says commands.Go g taken after turn next = go_says g after next
 abbrev pub next_of : RegsFields → SittingFields → RunningCommand → Turn → AfterTurn
 next_of g s run turn = after_turn run (is_at_break g.ppr s.breaks) turn
 
--- the lines that are written for a turn
+-- the lines that are written for a turn of a running command, given the state before it and the
+-- registers after it
 abbrev pub turn_says : RegsFields → SittingFields → RunningCommand → Turn → List (List ℕ)
 turn_says g s run turn =
     command_says run.command g s.taken (sitting_after s turn) turn (next_of g s run turn)
 
--- the state of the session after a turn
+-- the state of the session after a turn of a running command, given the registers after it
 abbrev pub turned : RegsFields → SittingFields → RunningCommand → Turn → SessionPoint
 turned g s run turn = standing (sitting_after s turn) (doing_by (next_of g s run turn))
 
@@ -171,8 +174,8 @@ went s n (back.Before taken) = standing s Waiting
 went s n back.Unable = standing s Waiting
 went s n back.NoMemory = standing s Starved
 
--- If the machine did not go back, the line is answered as an unknown one; if memory ran out,
--- nothing is written.
+-- The lines that are written after the machine was asked to go back. If it did not, the line is
+-- answered as an unknown one; if memory ran out, nothing is written.
 abbrev pub back_says : RegsFields → List ℕ → BackAnswer → List (List ℕ)
 back_says g line back.Done = where_line g.ppr ∷ []
 back_says g line (back.Before taken) = unknown_line line ∷ []
@@ -193,7 +196,8 @@ state_after_by g s doing happened = standing s doing
 unfoldable pub state_after : RegsFields → SessionPoint → EventKind → SessionPoint
 state_after g s happened = state_after_by g s.sitting s.doing happened
 
--- as `said`, given what the session remembers and what it is doing
+-- the lines that are written for an event, given what the session remembers and what it is doing
+-- before it, and the registers and words of the machine after it
 abbrev pub said_by :
     RegsFields → (ℕ → ℕ → Option ℕ) → SittingFields → Activity → EventKind → List (List ℕ)
 said_by g content s Waiting (Took line) = line_says g content s line (session_line line)
@@ -201,7 +205,8 @@ said_by g content s (Running run) (Turned turn) = turn_says g s run turn
 said_by g content s (Backing n line) (Went answer) = back_says g line answer
 said_by g content s doing happened = []
 
--- the lines that are written for an event
+-- the lines that are written for an event, given the state of the session before it, and the
+-- registers and words of the machine after it
 unfoldable pub said :
     RegsFields → (ℕ → ℕ → Option ℕ) → SessionPoint → EventKind → List (List ℕ)
 said g content s happened = said_by g content s.sitting s.doing happened

@@ -22,7 +22,7 @@ use Rattle.m36_debug.specs.declared.session_line.SessionLine.TheVariants.{Step, 
 use Rattle.m36_debug.specs.declared.session_line.SessionLine.TheVariants.{Seg, Where, Back, Quit}
 use Rattle.m36_debug.specs.declared.session_line.SessionLine.TheVariants.{Empty, Unknown}
 
--- a line of one word
+-- the content of a line of one word; that of an empty line is the empty word
 abbrev pub one_word : List ℕ → SessionLine
 one_word word =
     if is_text [] word then Empty
@@ -42,7 +42,7 @@ most_steps = 1000000
 abbrev pub steps_in : List ℕ → Option ℕ
 steps_in word = plain_decimal_in 1 most_steps word
 
--- a line of two words
+-- the content of a line of two words: `step N` or `back N`
 abbrev pub two_words : List ℕ → List ℕ → SessionLine
 two_words word n =
     if is_text (codes "step") word then unwrap_or (option_map Step (steps_in n)) Unknown
@@ -59,14 +59,14 @@ line_with_place line None word = Unknown
 abbrev pub placed_in : (ℕ → ℕ → SessionLine) → List ℕ → List ℕ → SessionLine
 placed_in line s w = line_with_place line (segment_number_in s) (word_number_in w)
 
--- a line of three words
+-- the content of a line of three words: `break S W` or `seg S W`
 abbrev pub three_words : List ℕ → List ℕ → List ℕ → SessionLine
 three_words word s w =
     if is_text (codes "break") word then placed_in Break s w
     else if is_text (codes "seg") word then placed_in Seg s w
     else Unknown
 
--- a line, from its words
+-- the content of a line, from its words
 abbrev pub line_of_words : List (List ℕ) → SessionLine
 line_of_words [] = Unknown
 line_of_words (word ∷ []) = one_word word
@@ -87,7 +87,7 @@ session_line line =
 abbrev pub IsNotQuit : List ℕ → Type 0
 IsNotQuit line = session_line line ≢ Quit
 
--- The ranges of the numbers of a line.
+-- the numbers of a parsed line are within their ranges
 abbrev pub IsBounded : SessionLine → Type 0
 IsBounded (Step n) = (0 < n) × (n ≤ most_steps)
 IsBounded Go = Unit {0}

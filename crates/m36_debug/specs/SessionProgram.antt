@@ -14,10 +14,11 @@ use Rattle.m36_debug.specs.Session.{Turning, Waiting, standing}
 use Rattle.m36_debug.specs.SessionSays.{bytes_limit}
 use Rattle.m36_debug.specs.SessionState.{SittingFields, new_sitting}
 
--- A session takes input, and writes no file.
+-- what a session may do: it takes input, and writes no file
 abbrev pub talking : May
 talking = record { writes = false; takes = true }
 
+-- a session as a program: it has no value
 abbrev pub Talk : Type 1
 Talk = Program talking (Unit {0})
 

@@ -109,7 +109,7 @@ CountBy (Err fault.TooLong) count = (bytes_limit < count) × (count ≤ bytes_li
 CountBy (Err fault.WriteFault) count = count ≤ bytes_limit
 CountBy (Err fault.NoMemory) count = count ≤ bytes_limit
 
--- the result of the last put
+-- the result of the last put of a session with this result
 abbrev pub last_put_of : Result (Unit {0}) SessionFault → Put
 last_put_of (Ok done) = Done
 last_put_of (Err fault.ReadFault) = Done
@@ -117,7 +117,7 @@ last_put_of (Err fault.TooLong) = Done
 last_put_of (Err fault.WriteFault) = Failed
 last_put_of (Err fault.NoMemory) = Done
 
--- what was written
+-- these lines were written, or a prefix of them if the result is WriteFault
 abbrev pub WroteBy :
     Result (Unit {0}) SessionFault → SinkState → SinkState → List (List ℕ) → Type 0
 WroteBy result old new lines = PutsPieces (last_put_of result) lines old new
@@ -161,7 +161,7 @@ pub record SessionSays {M : Type 0} (o : Turning M) (result : Result (Unit {0}) 
   pub session : IsSession o result m m' before after lines
   pub wrote : WroteBy result old new lines
 
--- the same of the input and the output of a world
+-- as `SessionSays`, with the input and the output of a world
 abbrev pub SaysInWorld :
     {M : Type 0} → Turning M → Result (Unit {0}) SessionFault → M → M → Seen → Seen → Type 0
 SaysInWorld o result m m' old new =

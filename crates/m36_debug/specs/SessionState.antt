@@ -16,11 +16,12 @@ pub record SittingFields : Type 0 where
   pub ended : Option End
   pub breaks : List Break
 
--- at the start of a session
+-- what a session remembers at its start: no steps, no end, no breaks
 abbrev pub new_sitting : SittingFields
 new_sitting = record { taken = 0; ended = None; breaks = [] }
 
--- after a turn
+-- what a session remembers after a turn: a step adds one to the count, and an end of the run is
+-- kept
 unfoldable pub sitting_after : SittingFields → Turn → SittingFields
 sitting_after s (Stepped told) =
     record { taken = counted s.taken (Stepped told); ended = s.ended; breaks = s.breaks }
@@ -31,7 +32,8 @@ sitting_after s (Ended end) =
 sitting_after s Full = s
 sitting_after s NoMemory = s
 
--- n steps were taken back: the run has not ended any more, and the breaks are kept
+-- what a session remembers after n steps were taken back: the run has not ended any more, and the
+-- breaks are kept
 abbrev pub sitting_before : SittingFields → ℕ → SittingFields
 sitting_before s n = record { taken = s.taken - n; ended = None; breaks = s.breaks }
 
@@ -47,7 +49,7 @@ most_breaks = 16
 abbrev pub has_room : SittingFields → Bool
 has_room s = nat_lt (length s.breaks) most_breaks
 
--- after `break`: with one more break, if there is room for it
+-- what a session remembers after `break`: one more break, if there is room for it
 abbrev pub sitting_with : SittingFields → ℕ → ℕ → SittingFields
 sitting_with s seg word =
     if has_room s

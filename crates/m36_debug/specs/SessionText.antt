@@ -50,7 +50,7 @@ pub record IsDeterministic {M : Type 0} (o : Turning M) : Type 0 where
       (before m m' : M) (n : ℕ) (one other : BackAnswer)
       → o.went before n one m → o.went before n other m' → OneAnswer back.NoMemory one other m m'
 
--- The turn of an event, if it is one, has this property.
+-- If the event is a turn, the turn has this property.
 abbrev pub TurnIs : (Turn → Type 0) → EventKind → Type 0
 TurnIs Is (Took line) = ⊤
 TurnIs Is (Turned turn) = Is turn

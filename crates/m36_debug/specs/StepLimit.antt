@@ -10,7 +10,7 @@ use Rattle.m36_debug.specs.Session.{Took, Turned, Went, Follow, lines_in}
 use Rattle.m36_debug.specs.SessionLines.{session_line}
 use Rattle.m36_debug.specs.SessionState.{SittingFields}
 
--- 1 for a step, and 0 for everything else
+-- the number of steps in an event: 1 for a step, and 0 for everything else
 abbrev pub step_in : EventKind → ℕ
 step_in (Took line) = 0
 step_in (Turned turn) = counted 0 turn

@@ -12,7 +12,7 @@ pub record IsTaken (count most : ℕ) (buffer : List ℕ) (old new : Seen) : Typ
   pub room : count ≤ length buffer
   pub input : IsInput (take count buffer) old new
 
--- what happened, for each answer to the call
+-- the contract of the call, by its answer: a piece was taken, the input has ended, or it failed
 abbrev pub TakesWithin : Piece → ℕ → List ℕ → Seen → Seen → Type 0
 TakesWithin (Got count) most buffer old new = IsTaken count most buffer old new
 TakesWithin End most buffer old new = IsInput [] old new

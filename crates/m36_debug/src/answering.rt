@@ -18,7 +18,7 @@ use m36_outside::{Block, Put};
 use m36_step::{BackAnswer, Stepper};
 use m36_world::World;
 
-// How a line ends whose answer is written at once.
+// How a line ends whose answer is written at once, by the result of writing it.
 fn told(put: Put) -> LineResult
     ensures { result ≡ told put }
 {
@@ -125,7 +125,8 @@ fn back<M: Stepper, W: World>(
     }
 }
 
-/// Answers a line, given without its line feed. It takes at most 1,000,000 steps.
+/// Answers a line, given without its line feed: changes the machine and the state of the session as
+/// the line requires, and adds the answer to the block. It takes at most 1,000,000 steps.
 pub(crate) fn answer<M: Stepper, W: World>(
     line: &[u8],
     m: &mut M,

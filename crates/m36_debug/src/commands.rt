@@ -67,7 +67,8 @@ fn wants(command: TurnCommand, left: u32, at_break: bool) -> bool
     }
 }
 
-// What a command does if no further turn has to follow.
+// What a command does after a turn that need not be followed by a service or the end of the run. It
+// may take `left` more steps.
 fn after_quiet_turn(command: TurnCommand, left: u32, at_break: bool) -> AfterTurn
     ensures { result ≡ after_quiet_turn command left at_break }
 {
@@ -78,6 +79,8 @@ fn after_quiet_turn(command: TurnCommand, left: u32, at_break: bool) -> AfterTur
     }
 }
 
+// What a command does after a step, with `left` more steps to take. After a fault or a stop, it
+// takes one more turn in any case: the service, or the end of the run.
 fn after_step(command: TurnCommand, left: u32, at_break: bool, outcome: Outcome) -> AfterTurn
     ensures { result ≡ after_step command left at_break outcome }
 {
@@ -90,6 +93,8 @@ fn after_step(command: TurnCommand, left: u32, at_break: bool, outcome: Outcome)
     }
 }
 
+// What a command does after a link service. After a refused link, it takes one more turn in any
+// case: the end of the run.
 fn after_link(
     command: TurnCommand,
     left: u32,

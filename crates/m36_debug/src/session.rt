@@ -67,7 +67,7 @@ fn put_waiting<W: World>(block: &mut Block, world: &mut W) -> Put
     hand_over(block, world)
 }
 
-// How lines ended, given whether their answers could be put.
+// How lines ended after their answers were put: as before, or Cut if the output failed.
 fn after_put(put: Put, end: LineResult) -> LineResult
     ensures { result ≡ after_put put end }
 {

@@ -37,6 +37,7 @@ pub enum SessionLine {
     Unknown,
 }
 
+// The content of a line of one word; that of an empty line is the empty word.
 fn one_word(word: &[u8]) -> SessionLine
     ensures value { result ≡ one_word word.now }
     ensures bounds { IsBounded result }
@@ -69,6 +70,7 @@ fn steps_in(word: &[u8]) -> Option<u64>
     plain_decimal_in(word, 1, MOST_STEPS)
 }
 
+// The content of a line of two words: `step N` or `back N`.
 fn two_words(word: &[u8], number: &[u8]) -> SessionLine
     ensures value { result ≡ two_words word.now number.now }
     ensures bounds { IsBounded result }
@@ -84,6 +86,7 @@ fn two_words(word: &[u8], number: &[u8]) -> SessionLine
     }
 }
 
+// The content of a line of three words: `break S W` or `seg S W`.
 fn three_words(word: &[u8], seg: &[u8], place: &[u8]) -> SessionLine
     ensures value { result ≡ three_words word.now seg.now place.now }
     ensures bounds { IsBounded result }
@@ -99,6 +102,7 @@ fn three_words(word: &[u8], seg: &[u8], place: &[u8]) -> SessionLine
     }
 }
 
+// The content of a line, by the number of its words.
 fn line_of_words(line: &[u8]) -> SessionLine
     ensures value { result ≡ line_of_words (words_of line.now) }
     ensures bounds { IsBounded result }
@@ -117,7 +121,7 @@ fn line_of_words(line: &[u8]) -> SessionLine
     }
 }
 
-/// The content of a line.
+/// Parses a line. A line with more than 256 bytes is unknown.
 #[tactic(auto, unfolding(crate::specs::SessionLines::session_line))]
 pub fn session_line(line: &[u8]) -> SessionLine
     ensures value { result ≡ session_line line.now }

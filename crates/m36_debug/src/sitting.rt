@@ -64,7 +64,7 @@ impl SessionState {
         self.ended
     }
 
-    /// What a command does after a turn that left these registers.
+    /// What a command does after a turn that left these registers, given the breaks of the session.
     #[inline(always)]
     pub(crate) fn further(&self, run: RunningCommand, regs: &Regs, turn: &Turn) -> AfterTurn
         ensures { result ≡ next_of regs.now self.now run turn.now }
@@ -72,7 +72,7 @@ impl SessionState {
         after_turn(run, is_at_break(regs.ppr, self.breaks.as_slice()), turn)
     }
 
-    /// Records a turn.
+    /// Records a turn: a step adds one to the count, and an end of the run is kept.
     #[tactic(auto, unfolding(crate::specs::SessionState::sitting_after))]
     pub(crate) fn note(&mut self, turn: &Turn)
         requires { self.old.taken < most_taken }

@@ -22,7 +22,7 @@ use m36_world::World;
 /// The maximum number of bytes of an unknown line that are shown.
 const SHOWN: usize = 64;
 
-/// Writes the address of the next instruction.
+/// Writes the ring of execution, and the segment and the word of the next instruction.
 #[tactic(auto, unfolding(crate::specs::SessionTexts::where_line))]
 pub(crate) fn put_where<W: World>(block: &mut Block, world: &mut W, regs: &Regs) -> Put
     ensures { PutsPieces result (where_line regs.now.ppr ∷ [])
@@ -149,7 +149,8 @@ fn put_step<W: World>(
     put_whole(block, world, n, told)
 }
 
-/// Writes a turn before which `taken` steps were taken.
+/// Writes the lines of a turn before which `taken` steps were taken. `text` keeps the line of an
+/// earlier step, of which only the parts that differ are formatted again.
 #[inline(never)]
 #[tactic(auto, unfolding(crate::specs::SessionTexts::turn_lines), using(crate::proofs::PutLaws::gathers_none))]
 pub(crate) fn put_turn<W: World>(

@@ -90,6 +90,7 @@ fn put_command<W: World>(
     }
 }
 
+// Whether a turn is a link service or a console service.
 fn is_service(turn: &Turn) -> bool
     ensures { result ≡ is_service turn.now }
 {
@@ -99,6 +100,7 @@ fn is_service(turn: &Turn) -> bool
     }
 }
 
+// The result of a turn whose lines were written, by what the command does after it.
 fn came_of(turn: &Turn, next: AfterTurn) -> Came
     ensures { result ≡ came_of turn.now next }
 {
@@ -109,6 +111,7 @@ fn came_of(turn: &Turn, next: AfterTurn) -> Came
     }
 }
 
+// The result of a turn, given whether its lines could be written.
 fn turn_result(put: Put, turn: &Turn, next: AfterTurn) -> Came
     ensures { result ≡ turn_result put turn.now next }
 {

@@ -56,17 +56,18 @@ abbrev pub dbr_read : Option ℕ → Option ℕ → Option Pair
 dbr_read (Some even) (Some odd) = Some (record { even = even; odd = odd })
 dbr_read _ _ = None
 
--- its two words, from their texts
+-- the two words of the descriptor segment base register, from their texts
 abbrev pub dbr_in : List ℕ → List ℕ → Option Pair
 dbr_in even odd = dbr_read (octal_word_in even) (octal_word_in odd)
 
--- its two words, from the words of line 2: `dbr EVEN ODD`
+-- the two words of the descriptor segment base register, from the words of line 2: `dbr EVEN ODD`
 abbrev pub dbr_words : List (List ℕ) → Option Pair
 dbr_words (name ∷ even ∷ odd ∷ []) =
     if is_text (codes "dbr") name then dbr_in even odd else None
 dbr_words _ = None
 
--- its two words, from line 2
+-- the two words of the descriptor segment base register, from line 2; None if there is no such
+-- line
 abbrev pub dbr_line : Option (List ℕ) → Option Pair
 dbr_line line = by_words dbr_words None line
 
@@ -160,7 +161,8 @@ abbrev pub line_codes : List (Option (List ℕ)) → List (Option ImageCode)
 line_codes lines =
     header_codes lines ++ at_codes (1024 * frames_of lines) [] (drop header_count lines)
 
--- The content of an image.
+-- The content of an image: the number of frames of core, the words of the descriptor segment base
+-- register, where the machine starts, and the words of the `at` lines in order.
 pub record Image : Type 0 where
   pub frames : ℕ
   pub dbr : Pair

@@ -49,7 +49,7 @@ regs_of dbr start =
 unfoldable pub state_of : Image → State (List ℕ)
 state_of image = record { regs = regs_of image.dbr image.start; store = core_of image }
 
--- the state that a file describes, or its refusal
+-- the state that this image describes, or the refusal of the file
 abbrev pub state_by : Result Image Refusal → Result (State (List ℕ)) Refusal
 state_by read = and_then read (λ image. Ok (state_of image))
 

@@ -22,7 +22,8 @@ pub fn octal_word(text: &[u8]) -> Option<Word>
     Some(Word::low(value))
 }
 
-// The number of frames in the line `core N`, given the result of reading the number.
+// The number of frames in the line `core N`, given the result of reading N. The error is I1 if N is
+// not a number, and I2 if it is out of range.
 fn frames_of(read: Result<u64, NumberFault>) -> Result<u32, ImageCode>
     requires { IfOk read (λ n. n ≤ frames_reached) }
     ensures frames { result ≡ frames_read read }
@@ -36,7 +37,8 @@ fn frames_of(read: Result<u64, NumberFault>) -> Result<u32, ImageCode>
     }
 }
 
-/// Parses the line `core N`: the number of frames of core, 1 to 16,384.
+/// Parses the line `core N`: the number of frames of core, 1 to 16,384. The error is I1 if the line
+/// does not have this form, and I2 if the number is out of range.
 pub fn core_line(line: &[u8]) -> Result<u32, ImageCode>
     ensures frames { result ≡ core_words (words_of line.now) }
     ensures some { IfOk result (λ n. 1 ≤ n) }

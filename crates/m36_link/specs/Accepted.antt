@@ -34,8 +34,8 @@ accepted known s =
       laid = with_laid known.laid s.lay;
     }
 
--- A section may be laid: its segment has no section in its ring yet, it begins where the next one
--- does, and it ends within the linkage segment.
+-- This section may be laid next: its segment has no section in its ring yet, it begins where the
+-- next section of the ring has to begin, and it ends within the linkage segment.
 pub record IsNext (known : KnownFields) (l : LayFields) : Type 0 where
   pub absent : laid_in known.laid l.ring l.seg ≡ None
   pub base : l.base ≡ base_of known.laid l.ring

@@ -49,7 +49,7 @@ catalog_number i = first_segment + i
 abbrev pub catalog_index : ℕ → ℕ
 catalog_index seg = seg - first_segment
 
--- the index in the catalog of the segment with a number
+-- the index in the catalog of the segment with a number; None below 64
 unfoldable pub place_of : ℕ → Option ℕ
 place_of seg = if nat_le first_segment seg then Some (catalog_index seg) else None
 
@@ -90,7 +90,7 @@ is_laid_of ring seg l = nat_eq l.ring ring && nat_eq l.seg seg
 unfoldable pub laid_in : List LaidFields → ℕ → ℕ → Option LaidFields
 laid_in laid ring seg = find (is_laid_of ring seg) laid
 
--- the even word after a section
+-- the first even word number after a section
 unfoldable pub behind : LaidFields → ℕ
 behind l = evened (l.base + l.size)
 

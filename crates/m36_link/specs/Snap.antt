@@ -16,38 +16,40 @@ use Rattle.m36_link.specs.Target.{own_landing, target_landing}
 use Rattle.m36_link.specs.declared.snap.LinkFault.{LinkFault}
 use Rattle.m36_link.specs.declared.snap.LinkFault.TheVariants.{Refused, NoMemory}
 
--- a code; with the link, except for L1
+-- a refusal: the code, with the link except for L1
 pub record RefusedFields : Type 0 where
   pub code : LinkCode
   pub link : Option LinkFields
 
 -- ---- the target of a link of a ring
 
--- L2: there is no candidate
+-- the target of a link to segment `seg`, which was found: L2 if the catalog has no such segment or
+-- it has no file
 abbrev pub found_landing : List LaidFields → ℕ → ℕ → Option SegmentFields → Option (List ℕ)
     → LinkFields → Result LandingFields LinkCode
 found_landing laid ring seg (Some s) (Some words) link = target_landing laid ring seg s words link
 found_landing laid ring seg _ _ link = Err L2
 
--- the target of a link of type 3 or 4, given the candidate that was found
+-- the target of a link of type 3 or 4, given the number of the segment that was found; L2 if none
+-- was
 abbrev pub candidate_landing : KnownFields → CatalogFields → List (List ℕ) → ℕ → LinkFields
     → Option ℕ → Result LandingFields LinkCode
 candidate_landing known catalog files ring link None = Err L2
 candidate_landing known catalog files ring link (Some seg) =
     found_landing known.laid ring seg (segment_of catalog seg) (file_of files seg) link
 
--- a link of type 3 or 4, searched from a directory
+-- the target of a link of type 3 or 4, whose name is searched from a directory
 unfoldable pub outer_landing : KnownFields → CatalogFields → List (List ℕ) → ℕ → LinkFields → ℕ
     → Result LandingFields LinkCode
 outer_landing known catalog files ring link from =
     candidate_landing known catalog files ring link (searched known catalog ring link.name from)
 
--- the directory of the segment that refers to the name
+-- the number of the directory of a segment; 0 if there is no segment
 abbrev pub directory_of : Option SegmentFields → ℕ
 directory_of None = 0
 directory_of (Some s) = s.dir
 
--- a link of an object whose section is laid
+-- the target of a link of an object whose section is laid
 unfoldable pub landing_of : KnownFields → CatalogFields → List (List ℕ) → ℕ → LaidFields
     → PartsFields → LinkFields → Result LandingFields LinkCode
 landing_of known catalog files ring l o link =
@@ -92,7 +94,7 @@ unfoldable pub outer_snap : KnownFields → CatalogFields → List (List ℕ) �
 outer_snap known catalog files ring link from =
     snap_by files ring link (outer_landing known catalog files ring link from)
 
--- L1: there is no link at the place
+-- the refusal L1: there is no link at the place
 abbrev pub no_link : Result SnapFields RefusedFields
 no_link = Err (record { code = L1; link = None })
 

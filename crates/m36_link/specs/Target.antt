@@ -32,7 +32,7 @@ use Rattle.m36_link.specs.declared.sections.Placement.{Placement}
 abbrev pub section_of : LinkFields → Section
 section_of link = if has_name link.kind then Text else link.section
 
--- L3: the entry is not defined
+-- the place of this definition of the entry; L3 if the entry is not defined
 abbrev pub point_by : Section → Option DefFields → Result ObjectPlace LinkCode
 point_by section None = Err L3
 point_by section (Some d) =
@@ -70,7 +70,8 @@ pair_of point ring l linkage link = pair_from point.section point.value ring l l
 
 -- ---- the section of a segment in a ring: laid already, or to be laid after the others
 
--- L6: the section would end past the linkage segment
+-- a new section at this word number with this many words; L6 if it would end past the linkage
+-- segment
 abbrev pub new_home : ℕ → ℕ → ℕ → ℕ → Result Placement LinkCode
 new_home ring seg base size =
     if nat_le (base + size) segment_limit then
@@ -111,7 +112,8 @@ own_landing ring l o link = own_by ring l o link (point_of link o)
 
 -- ---- types 3 and 4: a segment that was found
 
--- L4: the ring may not use the segment
+-- the ring may not use the segment (L4): it is above R3, or above R2 and the segment is not
+-- executable
 abbrev pub may_not_use : ℕ → SegmentFields → Bool
 may_not_use ring s = nat_lt s.r3 ring || (nat_lt s.r2 ring && not s.mode.executable)
 
@@ -121,7 +123,7 @@ is_plain Plain = true
 is_plain Object = false
 is_plain Gate = false
 
--- the number in a code of objects
+-- the number of the first fault of an object, as L5 reports it: 1 for O1, and so on
 abbrev pub fault_number : ObjectFault → ℕ
 fault_number (O1 at) = 1
 fault_number (O2 at) = 2
@@ -133,13 +135,14 @@ fault_number (O7 at) = 7
 fault_number (O8 at) = 8
 fault_number NoMemory = 0
 
--- plain words define no entries, and no section is laid for them
+-- the target of a link to a segment of plain words, for which no section is laid; they define no
+-- entries, so L3 if the link has one
 unfoldable pub plain_landing : ℕ → ℕ → LinkFields → Result LandingFields LinkCode
 plain_landing ring seg link =
     if has_entry link.kind then Err L3
     else Ok (record { pair = pair_to seg ring link.expr link; target = seg; lay = None })
 
--- a section that still has to be laid
+-- the section that has to be laid: this one if it is new (true), and otherwise none
 abbrev pub lay_if : Bool → LaidFields → Option LaidFields
 lay_if true l = Some l
 lay_if false l = None
@@ -162,13 +165,15 @@ abbrev pub landing_at : List LaidFields → ℕ → ℕ → ℕ → PartsFields 
 landing_at laid ring section_ring seg o link found =
     and_then found (λ point. landing_in ring seg o link point (home_of laid section_ring seg o))
 
--- an object whose section is in the ring `section_ring`, which may differ from that of the link
+-- the target of a link to the object in segment `seg`, whose section is in the ring `section_ring`,
+-- which may differ from that of the link
 unfoldable pub object_landing : List LaidFields → ℕ → ℕ → ℕ → PartsFields → LinkFields
     → Result LandingFields LinkCode
 object_landing laid ring section_ring seg o link =
     landing_at laid ring section_ring seg o link (point_of link o)
 
--- L5: the file is not an object
+-- the target of a link to a segment that should be an object, by the object in its file; L5 if the
+-- file is not an object
 abbrev pub landing_by : List LaidFields → ℕ → ℕ → SegmentFields → LinkFields
     → Result PartsFields ObjectFault → Result LandingFields LinkCode
 landing_by laid ring seg s link (Err fault) = Err (L5 (fault_number fault))

@@ -96,7 +96,8 @@ fn add_name(
     }
 }
 
-// Adds a section; there is room for it.
+// Adds the section that is laid, if there is one, to the list, and its index to the table. There is
+// room for it.
 #[tactic(auto, unfolding(crate::specs::Accepted::with_laid))]
 fn add_section(laid: &mut Vec<PlacedSection>, places: &mut Vec<u16>, lay: &Option<NewSection>)
     requires room { vec_len laid.old < vec_capacity laid.old }

@@ -60,12 +60,16 @@ pub(crate) fn own_landing(
     })
 }
 
+// Whether a ring may not use a segment at all: it is above R3, or above R2 and the segment is not
+// executable.
 fn may_not_use(ring: u8, segment: &Segment) -> bool
     ensures { result ≡ may_not_use ring segment.now }
 {
     segment.r3 < ring || segment.r2 < ring && !segment.mode.executable
 }
 
+// The ring in whose linkage segment the section of a segment is laid, for a link of this ring: the
+// ring in which the segment runs for a caller in this ring.
 fn section_ring(ring: u8, segment: &Segment) -> u8
     requires { ring < 8 }
     ensures value { result ≡ section_ring ring segment.now }
@@ -74,6 +78,8 @@ fn section_ring(ring: u8, segment: &Segment) -> u8
     if segment.r2 < ring { segment.r2 } else { ring }
 }
 
+// The number of the first fault of an object, as L5 reports it: 1 for O1, and so on; 0 for
+// NoMemory.
 fn fault_number(fault: ObjectFault) -> u8
     ensures { result ≡ fault_number fault }
 {
@@ -90,6 +96,7 @@ fn fault_number(fault: ObjectFault) -> u8
     }
 }
 
+// The target of a link to a segment of plain words. They define no entries: L3 if the link has one.
 #[tactic(auto, unfolding(crate::specs::Target::plain_landing))]
 fn plain_landing(ring: u8, seg: u16, link: &Link) -> Result<Target, LinkCode>
     requires ring { ring < 8 }
@@ -106,12 +113,16 @@ fn plain_landing(ring: u8, seg: u16, link: &Link) -> Result<Target, LinkCode>
     })
 }
 
+// The section that has to be laid: this one if it is new, and otherwise none.
 fn lay_if(is_new: bool, section: PlacedSection) -> Option<PlacedSection>
     ensures { result ≡ lay_if is_new section }
 {
     if is_new { Some(section) } else { None }
 }
 
+// The target of a link to an object in segment `seg`, whose section is laid in the ring
+// `section_ring`. L3 if the object does not define the entry, and L6 if there is no room for its
+// section.
 #[tactic(auto, unfolding(crate::specs::Target::object_landing))]
 fn object_landing(
     laid: &PlacedSections<'_>,
@@ -136,7 +147,8 @@ fn object_landing(
     })
 }
 
-/// The target of a link of type 3 or 4, to a segment that was found.
+/// The target of a link of type 3 or 4, to a segment that was found. L4 if the ring may not use the
+/// segment, L5 if its file should be an object and is not, L3 or L6.
 #[tactic(auto, unfolding(crate::specs::Target::target_landing))]
 pub(crate) fn target_landing(
     laid: &PlacedSections<'_>,

@@ -19,6 +19,8 @@ pub(crate) struct ObjectPlace {
     pub(crate) section: Section,
 }
 
+// The section that a link's value is relative to, if its entry does not say: the text for a link
+// with a segment name, and otherwise the section that the link names.
 fn section_of(link: &Link) -> Section
     ensures { result ≡ section_of link.now }
 {

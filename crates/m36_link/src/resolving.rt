@@ -48,6 +48,7 @@ fn link_in(files: &[File], word: u32, section: PlacedSection) -> Option<&Link>
     }
 }
 
+// Whether a laid section is in this ring and has a link whose even word is at `word`.
 fn holds_link(files: &[File], ring: u8, word: u32, section: PlacedSection) -> bool
     ensures { result ≡ holds_link files.now ring word section }
 {

@@ -28,7 +28,7 @@ pub(crate) fn initiated(
     }
 }
 
-// The number of the segment with a name in a directory.
+// The number of the segment with this name in a directory, if it has one.
 #[tactic(auto, unfolding(crate::specs::Search::found_in))]
 fn found_in(catalog: &Catalog, name: &[u8], dir: u16) -> Option<u16>
     ensures value { result ≡ found_in catalog.now name.now dir }

@@ -78,7 +78,7 @@ pub(crate) fn laid_in(laid: &PlacedSections<'_>, ring: u8, seg: u16) -> Option<P
     }
 }
 
-// The even word after a section.
+// The first even word number after a section.
 #[tactic(auto, unfolding(crate::specs::Known::behind))]
 fn behind(section: &PlacedSection) -> u32
     ensures value { result ≡ behind section.now }

@@ -18,7 +18,7 @@ pub record IsSameShape (old new : PagerFields) : Type 0 where
   pub pages : (seg page : ℕ) → has_page new seg page ≡ has_page old seg page
   pub spots : (seg page : ℕ) → spot_of new seg page ≡ spot_of old seg page
 
--- the core word `a` is a page table word of the tables
+-- the core word `a` is a page table word of a page that the pager has
 pub record IsPtwPlace (p : PagerFields) (a : ℕ) : Type 0 where
   pub seg : ℕ
   pub page : ℕ
@@ -98,7 +98,7 @@ abbrev pub is_pinned : List Reference → Option (ℕ × ℕ) → Bool
 is_pinned refs None = false
 is_pinned refs (Some held) = list_any (is_to held) refs
 
--- every frame does
+-- every frame holds a page that one of the references is to
 abbrev pub AllPinned : PagerFields → List Reference → Type 0
 AllPinned p refs = All (λ h. is_pinned refs h ≡ true) p.holders
 

@@ -4,7 +4,7 @@ use Rattle.std.specs.Prelude.{slice_index_or, Option, Some, None}
 use Rattle.m36_model.specs.declared.place.Reference.{Reference}
 use Rattle.m36_page.specs.Changes.{is_pinned, OnlyMarkCleared}
 
--- a frame that holds no page of the references
+-- frame k is one of the pageable frames, and holds no page of the references
 pub record IsFree (refs : List Reference) (holders : List (Option (ℕ × ℕ))) (k : ℕ) : Type 0 where
   pub inside : k < length holders
   pub free : is_pinned refs (slice_index_or holders k None) ≡ false
@@ -29,7 +29,7 @@ pub record ClearsMarksAt (core now : List ℕ) (at : ℕ → Type 0) : Type 0 wh
   pub size : length now ≡ length core
   pub each : (a : ℕ) → OnlyMarkCleared at core now a
 
--- the page table word of each frame that holds a page is a word of core
+-- for each frame that holds a page, the address in `spots` of its page table word is within core
 abbrev pub AreInCore : List (Option (ℕ × ℕ)) → List ℕ → List ℕ → Type 0
 AreInCore holders spots core =
     (k : ℕ) (held : ℕ × ℕ) → slice_index_or holders k None ≡ Some held

@@ -5,7 +5,8 @@ use Rattle.std.specs.List.{list_all}
 use Rattle.m36_page.specs.declared.table.PageTable.{PageTable}
 use Rattle.m36_page.specs.Fields.{TableFields, PagerFields}
 
--- the table of a page table: missing words are zero
+-- the table of a pager for this page table, with a kept word for every word of its pages: missing
+-- words are zero
 abbrev pub table_given : PageTable → TableFields
 table_given t =
     record {

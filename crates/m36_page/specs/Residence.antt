@@ -28,7 +28,7 @@ abbrev pub has_page_in : Option TableFields → ℕ → Bool
 has_page_in None page = false
 has_page_in (Some t) page = nat_lt page t.pages
 
--- the place of the page table word of a page
+-- the core address of the page table word of a page of a segment with this table
 abbrev pub spot_in : Option TableFields → ℕ → ℕ
 spot_in None page = 0
 spot_in (Some t) page = t.at + page
@@ -42,7 +42,7 @@ kept_in (Some t) w = slice_index t.words w
 unfoldable pub has_page : PagerFields → ℕ → ℕ → Bool
 has_page p seg page = has_page_in (table_of p.tables seg) page
 
--- the place in core of the page table word of a page
+-- the core address of the page table word of a page
 unfoldable pub spot_of : PagerFields → ℕ → ℕ → ℕ
 spot_of p seg page = spot_in (table_of p.tables seg) page
 
@@ -108,7 +108,7 @@ pub record Reads (p : PagerFields) (core : List ℕ) : Type 0 where
   pub frames : (k seg page : ℕ) → Holds p k seg page
       → unmarked (slice_index core (spot_of p seg page)) ≡ resident_ptw (p.first + k)
 
--- each table ends below a frame
+-- each table ends below frame `first`
 abbrev pub EndBelow : ℕ → List TableFields → Type 0
 EndBelow first tables = All (λ t. t.at + t.pages ≤ 1024 * first) tables
 
@@ -116,14 +116,16 @@ EndBelow first tables = All (λ t. t.at + t.pages ≤ 1024 * first) tables
 abbrev pub HasFrames : PagerFields → List ℕ → Type 0
 HasFrames p core = 1024 * (p.first + length p.holders) ≤ length core
 
--- a pager and its core, before and after each call
+-- The invariant of a pager and its core, before and after each call: the tables are sound, the page
+-- table words are as the pager left them, and core has all pageable frames and 24-bit addresses.
 pub record IsConsistent (p : PagerFields) (core : List ℕ) : Type 0 where
   pub pager : IsPager p
   pub reads : Reads p core
   pub frames : HasFrames p core
   pub most : length core ≤ 2 ^ 24
 
--- The private part of a pager: the place of the page table word of each frame's page.
+-- The invariant of a pager with its private list: `places` has the core address of the page table
+-- word of each frame's page.
 pub record IsInside (p : PagerFields) (places : List ℕ) : Type 0 where
   pub pager : IsPager p
   pub count : length places ≡ length p.holders

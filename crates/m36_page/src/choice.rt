@@ -13,6 +13,7 @@ use m36_word::Word;
 // The number of words of a page.
 const PAGE: u32 = 1024;
 
+// Whether a reference is to this page, given by its segment and its page number.
 fn is_to(held: (u16, u16), reference: &Reference) -> bool
     ensures { result ≡ is_to held reference.now }
 {
@@ -88,7 +89,7 @@ fn is_used(core: &Core, spot: u32) -> bool
     ptw.used
 }
 
-// Clears the used mark of a page table word, and returns whether it was set.
+// Clears the used mark of the page table word at a core address, and returns whether it was set.
 #[tactic(auto, using(crate::proofs::Frames::unused, crate::proofs::Frames::marked_none))]
 fn clear_used(core: &mut Core, spot: u32) -> bool
     requires { spot < length core.old }
@@ -125,7 +126,8 @@ fn is_skipped(
     }
 }
 
-// The first frame in `from .. to` that the hand does not pass over.
+// The first frame in `from .. to` that the hand does not pass over. `spots` has for each frame the
+// core address of the page table word of its page.
 #[tactic(auto, using(crate::proofs::Frames::marked_none))]
 fn unused_between(
     core: &mut Core,

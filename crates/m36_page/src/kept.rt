@@ -32,7 +32,8 @@ impl Model for KeptWords {
         × (k.count ≤ vec_capacity k.written) };
 }
 
-// Makes the first `count` words written, with zeros for those that were not.
+// Extends `written` with zeros to `count` words, if it has fewer. The capacity must be there
+// already, so no memory is allocated.
 fn write_up_to(written: &mut Vec<Word>, count: usize)
     requires { count ≤ vec_capacity written.old }
     ensures items { written.new.items
@@ -47,7 +48,8 @@ fn write_up_to(written: &mut Vec<Word>, count: usize)
     }
 }
 
-// Overwrites the words from index `from` on with those of a frame.
+// Overwrites the 1,024 words from index `from` on with those of a frame; they must be written
+// already.
 fn write_page(written: &mut Vec<Word>, from: usize, core: &Core, frame: u32)
     requires frame { 1024 * frame + 1024 ≤ length core.now }
     requires room { from + 1024 ≤ length written.old.items }

@@ -70,6 +70,7 @@ fn empty_frames(alloc: Global, frames: usize) -> Result<Vec<Option<(u16, u16)>>,
     Ok(holders)
 }
 
+// `frames` core addresses, all zero: an entry has no meaning as long as its frame holds no page.
 fn no_spots(alloc: Global, frames: usize) -> Result<Vec<u32>, NoMemory>
     ensures { IfOk result (λ spots. spots.items ≡ replicate frames 0) }
 {
@@ -180,7 +181,9 @@ impl Pager {
         self.hand = next_of(k, self.holders.len());
     }
 
-    // The frame to take next.
+    // The frame to take next, counted from the first pageable one: it holds no page of the
+    // references. None if every frame holds one. Clears used marks of pages that the references do
+    // not pin.
     fn choose(&self, core: &mut Core, references: &[Reference]) -> Option<usize>
         requires { IsConsistent self.now core.old }
         ensures found { IfSome result (IsFree references.now self.now.holders) }
@@ -248,7 +251,7 @@ impl Pager {
         self.empty(core, k);
     }
 
-    // Whether a segment has a page.
+    // Whether a segment has a page; the page number may be any.
     fn has(&self, seg: u16, page: u32) -> bool
         ensures { result ≡ has_page self.now seg page }
     {

@@ -27,6 +27,7 @@ pub struct PageTable {
     pub pages: u16,
 }
 
+// Whether a page table ends below frame `first`, and has no more words than its pages.
 fn fits_below(first: u32, table: &PageTable) -> bool
     ensures { result ≡ fits_below first table.now }
 {
@@ -34,12 +35,14 @@ fn fits_below(first: u32, table: &PageTable) -> bool
     end <= PAGE as u64 * first as u64 && table.words.slice().len() <= PAGE * table.pages as usize
 }
 
+// Whether two page tables share no core word.
 fn is_apart(a: &PageTable, b: &PageTable) -> bool
     ensures { result ≡ is_apart a.now b.now }
 {
     a.at as u64 + a.pages as u64 <= b.at as u64 || b.at as u64 + b.pages as u64 <= a.at as u64
 }
 
+// Whether a page table shares no core word with any of the others.
 fn is_apart_of_all(table: &PageTable, others: &[PageTable]) -> bool
     ensures { result ≡ list_all (is_apart table.now) others.now }
 {
@@ -53,6 +56,7 @@ fn is_placed(first: u32, table: &PageTable, others: &[PageTable]) -> bool
     fits_below(first, table) && is_apart_of_all(table, others)
 }
 
+// The tables after table i.
 #[tactic(auto, using(crate::proofs::Placed::rest_of))]
 fn tables_after(tables: &[PageTable], i: usize) -> &[PageTable]
     requires { i < length tables.now }
@@ -91,6 +95,7 @@ impl Model for Table {
     ghost view = { λ t. record { seg = t.seg; at = t.at; pages = t.pages; words = t.words } };
 }
 
+// Whether the table is that of this segment.
 fn is_of(seg: u16, table: &Table) -> bool
     ensures { result ≡ is_of seg table.now }
 {

@@ -112,7 +112,7 @@ may_name Naming = true
 may_name Placing = false
 may_name Turning = false
 
--- whether an `at` line may follow: also after an `at` line
+-- whether an `at` line may follow: before the first `turns` line
 abbrev pub may_place : Stage → Bool
 may_place Naming = true
 may_place Placing = true
@@ -124,7 +124,7 @@ may_end Naming = false
 may_end Placing = false
 may_end Turning = true
 
--- the state after an `at` line that ends there, or its code
+-- the state after an `at` line, given the address after its last word; P1 if it has a code
 abbrev pub placed_from : ParseState → Result ℕ ImageCode → Result ParseState Code
 placed_from s (Ok end) = Ok (record s { stage = Placing; next = end })
 placed_from s (Err code) = Err P1
@@ -176,7 +176,7 @@ abbrev pub core_code : Result ℕ ImageCode → Option Code
 core_code (Ok frames) = None
 core_code (Err code) = Some P1
 
--- the state after the first line
+-- the state after the first line, with a core of `size` words
 abbrev pub at_start : ℕ → ParseState
 at_start size = record { stage = Naming; size = size; processes = 0; next = 0; events = 0 }
 

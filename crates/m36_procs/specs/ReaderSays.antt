@@ -10,7 +10,8 @@ use Rattle.m36_procs.specs.declared.fault.LineFault.{LineFault}
 use Rattle.m36_procs.specs.declared.fault.LineFault.TheVariants.{Refused, NoMemory}
 use Rattle.m36_procs.specs.declared.reader.Reader.{Reader}
 
--- a line that is neither a `process` nor a `turns` line
+-- a parsed line that is known to be neither a `process` nor a `turns` line: an `at` line, or one
+-- without a form
 abbrev pub rest_in : List (List ℕ) → Line
 rest_in words = line_by None None (at_words words)
 
@@ -33,7 +34,7 @@ procs_read r =
       schedule = r.schedule.items;
     }
 
--- the invariant of what was read
+-- the invariant of a reader: the limits are kept, and if the text may end there is a process
 pub record IsReaderInvariant (r : Reader) : Type 0 where
   pub are : IsFew (length r.regs.items) r.schedule.items
   pub some : may_end r.stage ≡ true → 0 < length r.regs.items

@@ -25,7 +25,7 @@ pub record IsPartRun
   pub state : new ≡ last_state made old
   pub grew : PutResult put.Failed before now (schedule_text schedule old)
 
--- what the result implies for the processes and for what is written
+-- what the result of a run implies for the state of the processes and for what is written
 abbrev pub RunSays :
     Result (Unit {0}) WriteFault → List ℕ → Processes (List ℕ) → Processes (List ℕ)
     → Option (List ℕ) → Option (List ℕ) → Type 0

@@ -17,7 +17,7 @@ pub enum Code {
     P2,
 }
 
-/// Why a line was not accepted.
+/// Why a line was not accepted: it has a code, or memory ran out.
 #[derive(Clone, Copy, PartialEq, Eq)]
 pub(crate) enum LineFault {
     Refused(Code),

@@ -33,8 +33,8 @@ impl Model for ProcessSet {
     ghost invariant = { λ p. p.inside < length p.regs.items };
 }
 
-/// Exchanges the registers in the machine for those of process i. The registers that the machine
-/// had go back to their process.
+/// Loads the registers of process i into the machine. The registers that the machine had are stored
+/// as those of their process, `inside`.
 #[tactic(auto, using(crate::proofs::Exchanging::exchanging))]
 fn bring(machine: &mut Machine, regs: &mut Vec<Regs>, inside: &mut usize, i: usize)
     requires inside { inside.old < length regs.old.items }

@@ -97,6 +97,7 @@ fn events_with(events: usize, turns: &Turns) -> u64
     events as u64 + turns.times as u64 * turns.order.len() as u64
 }
 
+// Adds the registers of a process to those of the processes before it.
 fn push_process(all: &mut Vec<Regs>, regs: Regs) -> Result<(), NoMemory>
     ensures { OnOk result (all.new.items ≡ all.old.items ++ regs ∷ []) }
 {
@@ -125,7 +126,7 @@ fn push_turns(schedule: &mut Vec<u8>, turns: &Turns) -> Result<(), NoMemory>
     push_numbers(schedule, turns.order.as_slice(), turns.times)
 }
 
-// Takes a `process` line.
+// Takes a `process` line: adds the process. Refuses it with P1 if it is out of order or the ninth.
 #[tactic(auto, unfolding(crate::specs::ProcsFile::state_after_line), using(crate::proofs::Taking::taking))]
 fn take_process(reader: &mut Reader, regs: Regs) -> Result<(), LineFault>
     ensures { TakeSays result reader.old reader.new (ProcessLine regs) }
@@ -137,7 +138,8 @@ fn take_process(reader: &mut Reader, regs: Regs) -> Result<(), LineFault>
     Ok(())
 }
 
-// Takes a `turns` line.
+// Takes a `turns` line: adds its turns to the schedule. Refuses it with P1 if there is no process
+// or there are too many events, and with P2 if no process has one of its numbers.
 #[tactic(auto, unfolding(crate::specs::ProcsFile::state_after_line), using(crate::proofs::Taking::taking))]
 fn take_turns(reader: &mut Reader, turns: &Turns) -> Result<(), LineFault>
     requires { IsReaderInvariant reader.old }
@@ -155,7 +157,8 @@ fn take_turns(reader: &mut Reader, turns: &Turns) -> Result<(), LineFault>
     }
 }
 
-// Takes a line that is neither: an `at` line, or a line without a form.
+// Takes a line that is neither a `process` nor a `turns` line: writes the words of an `at` line
+// into core, and refuses any other line with P1.
 #[tactic(auto, unfolding(crate::specs::ProcsFile::state_after_line), using(crate::proofs::Taking::taking))]
 fn take_words(reader: &mut Reader, line: &[u8]) -> Result<(), LineFault>
     ensures { TakeSays result reader.old reader.new (rest_in (words_of line.now)) }

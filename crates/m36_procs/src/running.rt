@@ -17,7 +17,7 @@ use m36_outside::{Block, Put, Sink};
 use m36_text::decimal;
 use m36_trace::line;
 
-/// The line of an event, with its line feed.
+/// The line of event n, a step of this process, with its line feed.
 #[tactic(auto, unfolding(crate::specs::ScheduleText::event_line))]
 pub fn event_line(process: u8, n: u64, told: &StepRecord) -> ArrayString<176>
     ensures { result.bytes ≡ event_line n process told.now }
@@ -30,7 +30,7 @@ pub fn event_line(process: u8, n: u64, told: &StepRecord) -> ArrayString<176>
     text
 }
 
-/// The last line, with its line feed.
+/// The last line of a run of a schedule of this many events, with its line feed.
 #[tactic(auto, unfolding(crate::specs::ScheduleText::end_line))]
 pub fn end_line(events: u64) -> ArrayString<40>
     ensures { result.bytes ≡ end_line events }

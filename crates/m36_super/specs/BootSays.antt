@@ -36,7 +36,7 @@ pub record IsBooted (lib : Library) (s : SuperFields) : Type 0 where
   -- what follows
   pub stands : IsLaidOut lib.catalog.frames (booted_of s).state
 
--- the system, or the first fault; or NoMemory
+-- the result of booting is the system, or the first fault; NoMemory is allowed in place of either
 abbrev pub BootSays : Library → Result SuperFields BootFault → Type 0
 BootSays lib (Ok s) = IsBooted lib s
 BootSays lib (Err told) = ReportsFault told (boot_answer lib.catalog lib.files)

@@ -32,7 +32,8 @@ use Rattle.m36_super.specs.Services.{console_text}
 use Rattle.m36_super.specs.NextEvent.{NextEvent, Step, Link, Print, Over, loaded_after, next_event_after}
 use Rattle.m36_super.specs.FlatRun.{FlatRun}
 
--- a state of the booted run
+-- a state of the booted run: registers and memory, what the rings know of links, what the next turn
+-- is, and whether an LDBR has been executed
 pub record Booted : Type 0 where
   pub state : PagedState
   pub known : KnownFields
@@ -41,7 +42,7 @@ pub record Booted : Type 0 where
 
 -- ---- steps
 
--- the record of a step over the current core
+-- the record of a step from this state, over its core
 abbrev pub record_of_state : PagedState → StepRecord
 record_of_state s = record_of core_store (core_state s)
 
@@ -63,7 +64,8 @@ pub record IsStepTo (s : PagedState) (before : Booted) (turn : Turn) (after : Bo
   pub told : turn ≡ Stepped (record_of_state s)
   pub after_is : after ≡ with_step before s
 
--- Pages are served until the step meets no absent page.
+-- A turn that is a step: some pages are served, and then the step is taken, which meets no absent
+-- page.
 pub record IsStep (frames : ℕ) (before : Booted) (turn : Turn) (after : Booted) : Type 0 where
   pub services : ℕ
   pub few : services ≤ pages_of_an_instruction
@@ -108,12 +110,13 @@ IsLinkTurn (Err why) frames at before turn after =
     (turn ≡ Linked (note_refused at why))
     × (after ≡ record before { coming = Over (end.Link why.code) })
 
--- the turn that a link service is, by what it did; none is want of memory
+-- the turn that a link service is: its note, or that memory ran out
 abbrev pub link_turn : {E : Type 0} → Result LinkNoteFields E → Turn
 link_turn (Ok note) = Linked note
 link_turn (Err cause) = NoMemory
 
--- the console service
+-- A console service: refused if it asks for too much (true); otherwise a text, or the fault of
+-- reading it.
 abbrev pub IsConsoleTurn : Bool → Result (List ℕ) Fault → Booted → Turn → Booted → Type 0
 IsConsoleTurn true text before turn after =
     (turn ≡ Ended end.Console) × (after ≡ record before { coming = Over end.Console })
@@ -147,7 +150,7 @@ IsTurn lib before turn after = IsTurnBy before.coming lib before turn after
 
 -- ---- the run
 
--- a list of turns, one after another
+-- the run may make these turns, one after another, and then be in the state `last`
 unfoldable pub AreTurns : Library → Booted → List Turn → Booted → Type 0
 AreTurns lib r [] last = last ≡ r
 AreTurns lib r (turn ∷ turns) last =

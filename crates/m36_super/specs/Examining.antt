@@ -3,7 +3,7 @@ use Rattle.std.specs.Prelude.{◌≡◌, ℕ, ◌++◌, List, slice_index, Resul
 use Rattle.m36_model.specs.Act.{Answer}
 use Rattle.m36_model.specs.declared.outcome.Fault.{Fault}
 
--- the result is the word of the answer, or the fault
+-- the result of the code is the word of the answer of the definition, or its fault
 abbrev pub ExaminedSays : Result ℕ Fault → Result Answer Fault → Type 0
 ExaminedSays (Ok w) definition =
     (a : Answer) × (definition ≡ Ok a) × (slice_index a.words 0 ≡ w)

@@ -31,7 +31,7 @@ pub record FlatTurn : Type 0 where
   pub turn : Turn
   pub after : FlatRun
 
--- a step
+-- a turn of the flat run that is a step
 unfoldable pub flat_stepped : FlatRun → FlatTurn
 flat_stepped r =
     let told = record_of flat_store r.state in
@@ -45,7 +45,8 @@ flat_stepped r =
           };
     }
 
--- a link service
+-- a turn of the flat run that is the service of the link at this address, by the answer to the
+-- link; if it is refused, the next turn is the end
 abbrev pub flat_linked_by : Result SnapFields RefusedFields → FlatRun → AtFields → FlatTurn
 flat_linked_by (Ok s) r at =
     record {
@@ -67,7 +68,8 @@ flat_linked_by (Err why) r at =
       after = record r { coming = Over (end.Link why.code) };
     }
 
--- a console service; if it is refused, the run ends at once
+-- a turn of the flat run that is a console service; if it is refused (true) or its text cannot be
+-- read, the run ends at once
 abbrev pub flat_printed_by : Bool → Result (List ℕ) Fault → FlatRun → FlatTurn
 flat_printed_by true text r =
     record { turn = Ended end.Console; after = record r { coming = Over end.Console } }

@@ -13,7 +13,8 @@ written_from seg w (v ∷ words) =
     record { spot = Segment_word seg w; part = Whole; value = v }
     ∷ written_from seg (w + 1) words
 
--- a linkage section that is laid: its words, and its word of the linkage offset table of the ring
+-- the words that are written to lay a linkage section: those of the section, and its word of the
+-- linkage offset table of the ring; none if no section is laid
 unfoldable pub laying : Option LayFields → List Change
 laying None = []
 laying (Some l) =

@@ -12,21 +12,21 @@ use Rattle.m36_model.specs.declared.record.StepRecord.{StepRecord}
 pub use Rattle.m36_super.specs.declared.coming.NextEvent.{NextEvent}
 pub use Rattle.m36_super.specs.declared.coming.NextEvent.TheVariants.{Step, Link, Print, Over}
 
--- Until an LDBR has been executed, the fault of fault tag 2, which a link to be snapped has, calls
--- for a link service, and MME in ring 0 for a console service. Every other fault and every stop
--- ends the run.
+-- The next turn after a fault, if no LDBR has been executed: a link service if it is that of fault
+-- tag 2 (first flag), which a link to be snapped has; a console service if it is MME in ring 0
+-- (second flag); the end of the run otherwise.
 abbrev pub coming_in : Bool → Bool → Fault → NextEvent
 coming_in true console f = Link f.at
 coming_in false true f = Print
 coming_in false false f = Over (end.Fault f)
 
--- what follows a fault in a ring; once an LDBR has been executed, the end
+-- the next turn after a fault in a ring; once an LDBR has been executed (true), the end
 abbrev pub coming_on : Bool → ℕ → Fault → NextEvent
 coming_on true ring f = Over (end.Fault f)
 coming_on false ring f =
     coming_in (nat_eq f.number fault_tag_2) (nat_eq f.number master_mode_entry && nat_eq ring 0) f
 
--- what follows a step in a ring
+-- the next turn after a step in a ring with this outcome; every stop ends the run
 abbrev pub coming_after : Bool → ℕ → Outcome → NextEvent
 coming_after loaded ring Next = Step
 coming_after loaded ring (Faulted f) = coming_on loaded ring f
@@ -52,6 +52,6 @@ abbrev pub loaded_after : Bool → StepRecord → Bool
 loaded_after true e = true
 loaded_after false e = loads e.word e.outcome
 
--- what follows a step
+-- the next turn after a step with this record; the flag is whether an LDBR was executed before it
 abbrev pub next_event_after : Bool → StepRecord → NextEvent
 next_event_after loaded e = coming_after (loaded_after loaded e) e.ppr.prr e.outcome

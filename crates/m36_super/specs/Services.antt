@@ -33,7 +33,7 @@ abbrev pub link_text : Option LinkFields → List ℕ
 link_text None = codes "?"
 link_text (Some link) = reference_text link
 
--- the note of a link service
+-- the note of the service of a link at this address, with the pair or the code
 abbrev pub note_of : AtFields → Option LinkFields → Result Pair LinkCode → LinkNoteFields
 note_of at link answer = record { name = link_text link; answer = answer; at = at; ring = at.ring }
 

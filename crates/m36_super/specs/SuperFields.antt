@@ -37,7 +37,7 @@ pub record SuperFields : Type 0 where
 abbrev pub paged_of : State (List ℕ) → PagerFields → PagedState
 paged_of s p = record { regs = s.regs; memory = paged_by s.store p }
 
--- the state of the booted run
+-- a state of the booted run, from the parts of a system
 abbrev pub run_of : State (List ℕ) → PagerFields → KnownFields → NextEvent → Bool → Booted
 run_of s p known coming loaded =
     record { state = paged_of s p; known = known; coming = coming; loaded = loaded }
@@ -47,7 +47,7 @@ abbrev pub booted_of : SuperFields → Booted
 booted_of s =
     run_of (record { regs = s.regs; store = s.core }) s.pager s.known s.coming s.loaded
 
--- The descriptor of a linkage segment: it has all the pages that a segment can have.
+-- Segment `seg` is live and has all the pages that a segment can have, as a linkage segment does.
 pub record IsLinkage (core : List ℕ) (seg : ℕ) : Type 0 where
   pub sdw : SdwFields
   pub live : core_sdw core booted_dbr seg ≡ Ok sdw
@@ -61,7 +61,8 @@ pub record IsManaged (frames : ℕ) (core : List ℕ) (p : PagerFields) : Type 0
   pub reads : Reads p core
   pub linkage : (ring : ℕ) → ring < 8 → IsLinkage core (linkage_segment ring)
 
--- Until an LDBR has been executed, segments are found by the descriptors of the image.
+-- The descriptor segment base register is that of the image, and the core and the pager satisfy
+-- `IsManaged`. So segments are found by the descriptors of the image.
 pub record IsRunning (frames : ℕ) (regs : RegsFields) (core : List ℕ)
     (p : PagerFields) : Type 0 where
   pub dbr : regs.dbr ≡ booted_dbr
@@ -79,7 +80,9 @@ NoServiceAfterLdbr (Link at) loaded = loaded ≡ false
 NoServiceAfterLdbr Print loaded = loaded ≡ false
 NoServiceAfterLdbr (Over e) loaded = Unit {0}
 
--- The invariant of a booted system.
+-- The invariant of a booted system: each segment of the catalog has a file, the pager has the
+-- frames of the catalog, the core is that of a running image until an LDBR has been executed, what
+-- the rings know agrees with catalog and files, and no service is next after an LDBR.
 pub record IsSuper (s : SuperFields) : Type 0 where
   pub files : length s.lib.files ≡ length s.lib.catalog.segments
   pub frames : length s.pager.holders ≡ s.lib.catalog.frames
@@ -87,7 +90,7 @@ pub record IsSuper (s : SuperFields) : Type 0 where
   pub made : IsConsistent s.lib.catalog s.lib.files s.known
   pub due : NoServiceAfterLdbr s.coming s.loaded
 
--- the frame of a page of the image, if it is in one
+-- the frame of a page, if the pager has the page (true)
 abbrev pub frame_by : Bool → Option ℕ → Option ℕ
 frame_by true frame = frame
 frame_by false frame = None

@@ -29,7 +29,7 @@ LocatesInTurn (Ended e) = ⊥
 LocatesInTurn Full = ⊥
 LocatesInTurn NoMemory = ⊥
 
--- a turn of the flat run
+-- the turn and the state after it are those of the flat run
 pub record IsFlatTurn (lib : Library) (before : Booted) (turn : Turn)
     (after : Booted) : Type 0 where
   pub turn_is : turn ≡ (flat_turn lib (flat_run_of before)).turn

@@ -65,7 +65,8 @@ impl Model for Super {
 }
 
 impl Super {
-    /// A system at its start.
+    /// The system at its start, from the parts of a booted image: the next turn is a step, and no
+    /// LDBR has been executed.
     pub(crate) fn at_start(
         alloc: Global,
         machine: Machine,
@@ -168,7 +169,8 @@ impl Super {
         self.link(at)
     }
 
-    // Takes a turn that is a link service.
+    // Takes a turn that is the service of the link at this address. Fails only with `NoMemory`, and
+    // then changes nothing.
     #[tactic(auto, using(crate::proofs::SystemTurns::link_is_turn))]
     fn link(&mut self, at: At) -> Result<LinkNote, NoMemory>
         requires coming { self.old.coming ≡ NextEvent.Link at }
@@ -188,7 +190,7 @@ impl Super {
         link(*alloc, catalog, files, machine, pager, known, coming, at)
     }
 
-    // Takes a turn that is a console service.
+    // Takes a turn that is a console service; the run ends if the service is refused.
     #[tactic(auto, using(crate::proofs::SystemTurns::print_is_turn))]
     fn print(&mut self) -> Turn
         requires coming { self.old.coming ≡ NextEvent.Print }
@@ -204,7 +206,7 @@ impl Super {
         print(machine, pager, coming)
     }
 
-    // Takes the next turn.
+    // Takes the next turn, which is of this kind.
     #[tactic(auto, using(crate::proofs::SystemTurns::system_turns))]
     fn turn_of(&mut self, coming: NextEvent) -> Turn
         requires coming { coming ≡ self.old.coming }

@@ -20,6 +20,7 @@ use m36_word::{NoMemory, Words};
 use obj36_parts::sections::SEGMENT_LIMIT;
 use std::alloc::Global;
 
+// Whether a file has at most 2^18 words.
 fn is_short(file: &Words) -> bool
     ensures { result ≡ is_short file.now }
 {
@@ -64,7 +65,8 @@ fn known_of(
     Ok(known)
 }
 
-// The system that an image starts.
+// The system that an image starts, with the names and sections that the answer to its link makes
+// known.
 #[tactic(auto, using(crate::proofs::BootTurns::image_runs))]
 fn started(
     alloc: Global,

@@ -39,7 +39,7 @@ fn is_ldbr(word: Word) -> bool
     }
 }
 
-// Whether the instruction is LDBR.
+// Whether this is the effect of LDBR.
 fn loads_dbr(effect: Effect) -> bool
     ensures { (n : ℕ) → result ≡ is_ldbr (Some (effect, n)) }
 {
@@ -66,7 +66,7 @@ pub(crate) fn loaded_after(loaded: bool, told: &StepRecord) -> bool
     loaded || loads(told)
 }
 
-// What follows a fault, if no LDBR has been executed.
+// The next turn after a fault in this ring, if no LDBR has been executed.
 fn coming_in(ring: u8, fault: Fault) -> NextEvent
     ensures { result ≡ coming_on false ring fault }
 {
@@ -79,7 +79,8 @@ fn coming_in(ring: u8, fault: Fault) -> NextEvent
     }
 }
 
-/// What follows a step whose instruction was executed in this ring.
+/// The next turn after a step with this outcome. `ring` is the ring in which its instruction was
+/// executed, and `loaded` whether an LDBR has been executed, in this step or before it.
 pub(crate) fn coming_after(loaded: bool, ring: u8, outcome: Outcome) -> NextEvent
     ensures { result ≡ coming_after loaded ring outcome }
 {

@@ -51,7 +51,8 @@ fn is_executing(regs: &Regs, at: At) -> bool
     at.seg == regs.ppr.psr
 }
 
-// A word of the segment with this descriptor.
+// The word at an address in the segment with this descriptor, by the rules of access, wherever its
+// page is. Fails with the fault at the address.
 #[tactic(auto, using(crate::proofs::ConsoleReads::described))]
 fn described_word(core: &Core, pager: &Pager, regs: &Regs, sdw: &Sdw, at: At) -> Result<Word, Fault>
     requires managed { IsManaged (length pager.now.holders) core.now pager.now }
@@ -69,7 +70,8 @@ fn described_word(core: &Core, pager: &Pager, regs: &Regs, sdw: &Sdw, at: At) ->
     Ok(found_word(core, pager, sdw, at.seg, at.word))
 }
 
-// The word at an address, by the rules of access, wherever its page is. No mark is set.
+// The word at an address, by the rules of access, wherever its page is; or the fault of reading it.
+// No mark of a page table word is set.
 #[tactic(auto, using(crate::proofs::ConsoleReads::dead_word))]
 fn examined(core: &Core, pager: &Pager, regs: &Regs, at: At) -> Result<Word, Fault>
     requires managed { IsManaged (length pager.now.holders) core.now pager.now }
@@ -112,7 +114,7 @@ fn put_characters(text: &mut ArrayVec<u8, 256>, word: Word)
     }
 }
 
-// The address of word k of the text.
+// The address of word k of the text, which begins at PR2, with the ring of PR2.
 fn place(regs: &Regs, k: u32) -> At
     requires { k ≤ console_word_limit }
     ensures { result ≡ console_at regs.now k }
@@ -172,7 +174,7 @@ fn text(core: &Core, pager: &Pager, regs: &Regs, count: u32) -> Result<ConsoleNo
     Ok(ConsoleNote { bytes })
 }
 
-// Ends the run in this way.
+// Ends the run in this way: returns the turn that reports the end, which is also the next turn.
 fn ends(coming: &mut NextEvent, end: &End) -> Turn
     ensures turn { result ≡ Turn.Ended end.now }
     ensures coming { coming.new ≡ NextEvent.Over end.now }
@@ -181,7 +183,8 @@ fn ends(coming: &mut NextEvent, end: &End) -> Turn
     Turn::Ended(*end)
 }
 
-/// Takes a turn that is a console service.
+/// Takes a turn that is a console service: the text of as many characters as A says, at PR2. The
+/// run ends if A is above 256 or the text cannot be read.
 #[tactic(auto, using(crate::proofs::SystemTurns::printed))]
 pub(crate) fn print(machine: &mut Machine, pager: &Pager, coming: &mut NextEvent) -> Turn
     requires { IsRunning (length pager.now.holders) machine.old.state.regs machine.old.state.store

@@ -23,7 +23,8 @@ use m36_word::{NoMemory, Word};
 use obj36::Link;
 use std::alloc::Global;
 
-// Writes a word of the linkage segment of a ring.
+// Writes a word of the linkage segment of a ring: into its frame, or into the kept words if its
+// page is in none.
 #[tactic(auto, using(crate::proofs::PagedContents::words_put))]
 fn write_word(machine: &mut Machine, pager: &mut Pager, ring: u8, word: u32, w: Word)
     requires managed { IsManaged (length pager.old.holders) machine.old.state.store pager.old }
@@ -133,7 +134,8 @@ fn note_refused(at: At, code: LinkCode, link: Option<&Link>) -> LinkNote
     }
 }
 
-// Completes the service of the link at `at`, for which there is an answer.
+// Completes the service of the link at `at`, which resolves to `snap`: makes known what it adds,
+// and writes its changes. If memory runs out, nothing has changed.
 #[tactic(auto, using(crate::proofs::LinkTurns::snapped))]
 fn snapped(
     machine: &mut Machine,
@@ -167,6 +169,8 @@ fn snapped(
 }
 
 /// The service of the link at a place.
+/// If the link is refused, the next turn is the end of the run. Fails only with `NoMemory`, and then
+/// changes nothing.
 #[tactic(auto, using(crate::proofs::LinkTurns::answers))]
 pub(crate) fn link(
     alloc: Global,
@@ -201,7 +205,7 @@ pub(crate) fn link(
     }
 }
 
-/// The turn that a link service is, by its answer.
+/// The turn that a link service is: its note, or that memory ran out.
 pub(crate) fn link_turn(answer: Result<LinkNote, NoMemory>) -> Turn
     ensures { result ≡ link_turn answer }
 {

@@ -99,7 +99,8 @@ fn step_with_pages(machine: &mut Machine, pager: &mut Pager, told: &mut StepReco
     machine.step_into(told);
 }
 
-// Takes a step. Pages are brought in until an LDBR has been executed.
+// Takes a step: with its page services as long as no LDBR has been executed, and without them after
+// that.
 fn step_into(machine: &mut Machine, pager: &mut Pager, loaded: bool, told: &mut StepRecord)
     requires { RunningUntilLdbr loaded (length pager.old.holders) machine.old.state.regs
         machine.old.state.store pager.old }

@@ -47,8 +47,8 @@ link_line_of n =
 
 -- ---- a console service: the characters
 
--- a backslash and every character outside octal 40 to 176 becomes a backslash and three octal
--- digits
+-- whether a character is printed as a backslash and three octal digits: a backslash itself, and
+-- every character outside octal 40 to 176
 abbrev pub is_escaped : ℕ → Bool
 is_escaped c = nat_eq c 92 || nat_le c 31 || nat_le 127 c
 
@@ -62,7 +62,7 @@ console_line_of characters = codes "console " ++ flat_map console_character char
 
 -- ---- the end of a run: how it ended, and the number of steps
 
--- how a run ended
+-- how a run ended, as its end line names it
 abbrev pub end_text : End → List ℕ
 end_text (end.Fault fault) = ending_text (Faulted fault)
 end_text (end.Stop stop) = ending_text (Stopped stop)

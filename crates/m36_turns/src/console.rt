@@ -8,6 +8,8 @@ use arrayvec::ArrayVec;
 use m36_step::ConsoleNote;
 use m36_text::octal;
 
+// Whether a character is printed as a backslash and three octal digits: a backslash itself, and
+// every character outside octal 40 to 176.
 fn is_escaped(character: u8) -> bool
     ensures { result ≡ is_escaped character }
 {

@@ -13,7 +13,7 @@ use m36_text::octal;
 use m36_trace::place_digits;
 use m36_word::{Pair, Word};
 
-/// The name of a code.
+/// The name of the code with which a link service refused a link.
 pub(crate) fn link_code_name(code: LinkCode) -> &'static str
     ensures text { result.now ≡ link_code_text code }
     ensures len { length result.now ≡ 2 }
