@@ -34,7 +34,7 @@ use Rattle.alm_parse.specs.declared.deed.LineEffect.TheVariants as deed
 
 -- ---- terms of the relation
 
--- words that are part of others, after the first `count` of these
+-- The words `part` are a part of `words`, directly after the first `count` of these.
 pub record FollowsAt (count : ℕ) (part words : List ℕ) : Type 0 where
   pub front : List ℕ
   pub rest : List ℕ
@@ -49,7 +49,8 @@ spot_below source above = end_of source.text start above
 abbrev pub IsSplit : Source → List Line36 → Line36 → List Line36 → Type 0
 IsSplit source above line others = source.lines ≡ above ++ line ∷ others
 
--- the symbols of a source with their sums, and its links
+-- the tables of a source: its symbols with their sums, its links, and where links and static words
+-- are
 abbrev pub meaning_of : Source → Tables
 meaning_of source = tables_of source.text source.lines
 
@@ -58,7 +59,7 @@ abbrev pub words_placed : Source → List Line36 → Line36 → List ℕ
 words_placed source above line =
     words_by source.text (meaning_of source) (spot_below source above) line.args line.deed
 
--- whether the operation is `use` and this section, to which it changes, is the static one
+-- whether the operation is `use` and this section, which it selects, is the static one
 abbrev pub enters_static : LineEffect → Section → Bool
 enters_static deed.Nothing section = false
 enters_static (deed.Instruction code bit27) section = false
@@ -138,7 +139,7 @@ abbrev pub static_count : Source → ℕ
 static_count source =
     count_in (static_section (meaning_of source).uses_outer) (spot_below source source.lines)
 
--- The sum of each label is its place.
+-- The sum of each label is the place of its line.
 abbrev pub LabelsMean : Source → Type 0
 LabelsMean source =
     (above : List Line36) (line : Line36) (others : List Line36) → IsSplit source above line others
@@ -153,7 +154,7 @@ above_line source above line =
     labelled source.text (symbols_from source.text [] start above) (spot_below source above) line
 
 -- The sum of the symbol of each `equ` is its number by the symbols above, and that of each `bss` is
--- its place.
+-- the place of its line.
 abbrev pub OwnMean : Source → Type 0
 OwnMean source =
     (above : List Line36) (line : Line36) (others : List Line36) → IsSplit source above line others
@@ -186,7 +187,7 @@ HasEachLink source parts =
 unfoldable pub are_apart : List LinkFields → Bool
 are_apart links = are_distinct_by same_link links
 
--- The entry bound is the place in the text of the last `entrybound` line.
+-- The entry bound is the place in the text of the last `entrybound` line, if there is one.
 abbrev pub BoundIs : Source → PartsFields → Type 0
 BoundIs source parts =
     (above : List Line36) (line : Line36) (others : List Line36) → IsSplit source above line others

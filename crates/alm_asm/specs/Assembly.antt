@@ -30,8 +30,8 @@ use Rattle.alm_lines.specs.declared.refusal.AlmRefusal.{AlmRefusal}
 
 -- ---- tables
 
--- Links are in the linkage section after its head and the static words there, of which there is an
--- even number.
+-- The offset of the first link in the linkage section, given the place after the last line. Links
+-- are after the head and the static words there, of which there is an even number.
 abbrev pub first_link : LocationCounter → ℕ
 first_link ending = first_link_by ending.uses_outer (even_number ending.inner)
 
@@ -47,7 +47,8 @@ tables_of text lines =
 
 -- ---- the entry bound
 
--- the place in the text of the last `entrybound` line, or else the bound so far
+-- the entry bound after a line: its place in the text, if it is an `entrybound` line, or else the
+-- bound so far
 abbrev pub bound_by : LocationCounter → ℕ → LineEffect → ℕ
 bound_by spot bound deed.Nothing = bound
 bound_by spot bound (deed.Instruction code bit27) = bound
@@ -69,13 +70,13 @@ bound_from text bound spot (line ∷ lines) =
 
 -- ---- the parts
 
--- the section that has the static words
+-- the section that has the static words, by whether the lines use a static section
 abbrev pub static_section : Bool → Section
 static_section true = Static
 static_section false = Linkage
 
--- The static words of the object, for those that lines place. In version 1, which is false here, a
--- zero word follows an odd number of words.
+-- The static words of the object, given those that lines place. In version 1, which is false here,
+-- a zero word follows an odd number of words.
 abbrev pub evened : Bool → List ℕ → List ℕ
 evened true words = words
 evened false words = padded_to_even words
@@ -130,18 +131,18 @@ unfoldable pub last_line : ℕ → List Line36 → ℕ
 last_line number [] = number
 last_line number (line ∷ lines) = last_line line.line lines
 
--- If no line is refused but the parts are not well formed, the last line is refused: the object
--- would have more than 2^18 words.
+-- The parts, if they are well formed, which the last argument says. Otherwise E8 at the last line,
+-- which has this number: the object would have more than 2^18 words.
 abbrev pub made : PartsFields → ℕ → Bool → Result PartsFields AlmFault
 made parts number true = Ok parts
 made parts number false = Err (E8 number 1)
 
--- the parts of a source, or its refusal
+-- the parts of a source, given its first refusal, or the fault of this
 abbrev pub assembled_by : Source → Option AlmRefusal → Result PartsFields AlmFault
 assembled_by source (Some refusal) = Err (fault_of refusal)
 assembled_by source None =
     made (parts_of source) (last_line 1 source.lines) (is_well_formed (parts_of source))
 
--- the parts of the object of a source, or the refusal
+-- the parts of the object of a source, or the fault of its first refusal
 unfoldable pub assembled : Source → Result PartsFields AlmFault
 assembled source = assembled_by source (refusal_of source)

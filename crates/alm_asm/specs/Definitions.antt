@@ -25,8 +25,8 @@ use Rattle.alm_lines.specs.declared.refusal.ValueField.TheVariants.{Half}
 
 -- ---- the definitions
 
--- The section of a definition. A symbol that is not a place of a section is no label; its
--- definition is refused.
+-- The section of a definition whose symbol is of this kind. A symbol that is not a place of a
+-- section is no label; its definition is refused.
 abbrev pub section_of : Kind → Section
 section_of Absolute = Text
 section_of (Moved section) = section
@@ -59,7 +59,7 @@ with_names text symbols is_entry done [] = done
 with_names text symbols is_entry done (arg ∷ arguments) =
     with_names text symbols is_entry (done ++ named_by text symbols is_entry arg) arguments
 
--- whether a line has definitions, and if so whether they are entries
+-- whether a line defines names (`Some`), and if so whether they are entries
 abbrev pub gives_entries : LineEffect → Option Bool
 gives_entries deed.Nothing = None
 gives_entries (deed.Instruction code bit27) = None
@@ -98,7 +98,8 @@ definitions_from text symbols done (line ∷ lines) =
 unfoldable pub is_taken : List Named → List ℕ → Bool
 is_taken done name = has_definition name done
 
--- An entry must be a label of the text, another definition a label of any section.
+-- Whether a name can be defined for a symbol of this kind: an entry must be a place of the text,
+-- another definition a place of any section.
 abbrev pub is_label_kind : Bool → Kind → Bool
 is_label_kind is_entry Absolute = false
 is_label_kind is_entry (Moved Text) = true
@@ -107,26 +108,28 @@ is_label_kind is_entry (Moved Symbol) = not is_entry
 is_label_kind is_entry (Moved Static) = not is_entry
 is_label_kind is_entry Inexpressible = false
 
--- whether a sum is a label that may be defined, and its value fits a half
+-- whether a name can be defined for a symbol with this sum: it is such a place, and its value fits
+-- half a word
 unfoldable pub is_label : Bool → Sum → Bool
 is_label is_entry sum = has_room Half sum.value && is_label_kind is_entry (kind_of sum)
 
--- E7 at the index `at`, unless the symbol is such a label
+-- E7 at the index `at`, unless a name can be defined for the symbol, which the last argument says
 abbrev pub label_refusal : Line36 → ℕ → Bool → Option AlmRefusal
 label_refusal line at true = None
 label_refusal line at false = Some (refusal_at line at E7)
 
--- E6 for a symbol that is not defined, and E7 for one that is not such a label
+-- E6 for a symbol that is not defined, and E7 for one for which no name can be defined
 abbrev pub sum_refusal : Line36 → ℕ → Bool → Option Sum → Option AlmRefusal
 sum_refusal line at is_entry None = Some (refusal_at line at E6)
 sum_refusal line at is_entry (Some sum) = label_refusal line at (is_label is_entry sum)
 
--- E5 for a name that has a definition already, and otherwise as `sum_refusal`
+-- E5 for a name that has a definition already, which the last argument says, and otherwise as
+-- `sum_refusal`
 abbrev pub taken_refusal : Line36 → ℕ → Bool → Option Sum → Bool → Option AlmRefusal
 taken_refusal line at is_entry sum true = Some (refusal_at line at E5)
 taken_refusal line at is_entry sum false = sum_refusal line at is_entry sum
 
--- the refusal of a name that a line defines, given the definitions above it, if any
+-- the refusal of a name that a line defines, given the definitions above it, if it is refused
 unfoldable pub name_refusal : List ℕ → List (List ℕ × Sum) → Line36 → Bool → List Named → Span
     → Option AlmRefusal
 name_refusal text symbols line is_entry done span =
@@ -152,7 +155,8 @@ names_refused text symbols line is_entry done first (arg ∷ arguments) =
     names_refused text symbols line is_entry (done ++ named_by text symbols is_entry arg)
     (sooner first (arg_refusal text symbols line is_entry done arg)) arguments
 
--- As `names_refused`, for a line that may define no names. Then only `first` can refuse it.
+-- As `names_refused`, for a line that may define no names, which the last argument says. Then only
+-- `first` can refuse it.
 abbrev pub definitions_refused : List ℕ → List (List ℕ × Sum) → Line36 → List Named → Option AlmRefusal
     → List Arg → Option Bool → Option AlmRefusal
 definitions_refused text symbols line done first arguments None = first

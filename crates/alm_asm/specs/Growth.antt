@@ -35,8 +35,8 @@ use Rattle.alm_asm.specs.declared.growth.Growth.{Growth}
 use Rattle.alm_lines.specs.declared.refusal.AlmCode.TheVariants.{E8}
 use Rattle.alm_lines.specs.declared.refusal.AlmRefusal.{AlmRefusal}
 
--- Before the first line the definition section has its two first words, and the symbol section the
--- number of relocations.
+-- The sizes before the first line. The definition section has its two first words, and the symbol
+-- section the number of relocations.
 abbrev pub at_first : Growth
 at_first = record {
   names = [];
@@ -48,28 +48,28 @@ at_first = record {
 
 -- ---- names
 
--- A name takes words at its first use.
+-- the sizes with a name, which takes words at its first use
 unfoldable pub with_name : Growth → List ℕ → Growth
 with_name g name =
     if is_some (sum_named name g.names) then g
     else record g
     { names = with_symbol g.names name no_sum; definition = g.definition + name_length name }
 
--- several names
+-- the sizes with several names
 unfoldable pub with_names : Growth → List (List ℕ) → Growth
 with_names g [] = g
 with_names g (name ∷ names) = with_names (with_name g name) names
 
 -- ---- definitions
 
--- A definition has two words. Each name is counted once.
+-- The sizes with a definition, which has two words, and its name. Each name is counted once.
 unfoldable pub with_definition : Growth → List ℕ → Growth
 with_definition g name =
     if is_some (sum_named name g.defined) then g
     else with_name
     (record g { defined = with_symbol g.defined name no_sum; definition = g.definition + 2 }) name
 
--- a definition of `entry` or `segdef` is counted unless it is refused
+-- the sizes with a definition of `entry` or `segdef`, unless it is refused
 abbrev pub with_unrefused : Option AlmRefusal → Growth → List ℕ → Growth
 with_unrefused (Some refusal) g name = g
 with_unrefused None g name = with_definition g name
@@ -98,8 +98,8 @@ with_definitions text symbols line g (Some is_entry) =
 
 -- ---- links
 
--- A link has two words for its expression in the definition section, the words of its names, and
--- two words in the linkage section. Each link is counted once.
+-- The sizes with a link that was not counted before. It has two words for its expression in the
+-- definition section, the words of its names, and two words in the linkage section.
 unfoldable pub with_new_link : Growth → LinkFields → Growth
 with_new_link g link =
     with_names (record g { links = g.links ++ link ∷ []; definition = g.definition + 2 })
@@ -109,14 +109,15 @@ with_new_link g link =
 unfoldable pub with_link_once : Growth → LinkFields → Growth
 with_link_once g link = if has_link link g.links then g else with_new_link g link
 
--- with the link of an operand, if it has one
+-- the sizes with the link of an operand, if it has one
 abbrev pub with_link_given : Growth → Option LinkFields → Growth
 with_link_given g None = g
 with_link_given g (Some link) = with_link_once g link
 
 -- ---- relocations
 
--- A relocation is a word of the symbol section. There is none for an expression without a value.
+-- The number of relocations of an expression: 1 if it is a place of a section and has a value,
+-- which the first argument says, and otherwise 0.
 abbrev pub mark_count : Bool → Kind → ℕ
 mark_count valued Absolute = 0
 mark_count valued (Moved section) = if valued then 1 else 0
@@ -127,7 +128,7 @@ abbrev pub operand_room : Option ℕ → Option Span → ValueField
 operand_room pr (Some segment) = Half
 operand_room pr None = own_room pr
 
--- Whether the expression of an operand may be a place of a section. After an external name it must
+-- Whether the expression of an operand may be a place of a section: after an external name it must
 -- be a number.
 abbrev pub is_own : Option Span → Bool
 is_own (Some segment) = false
@@ -182,8 +183,9 @@ grown_by text symbols spot g line =
     (with_link_given (with_definitions text symbols line g (gives_entries line.deed))
     (link_in text symbols spot (first_arg (operand_args line.deed line.args))))
 
--- The linkage section has its head, static words and links. The zero word after an odd number of
--- static words is not counted: the limit is even, and so is the number of all other words.
+-- Whether the definition, linkage or symbol section is too long. The linkage section has its head,
+-- static words and links. The zero word after an odd number of static words is not counted: the
+-- limit is even, and so is the number of all other words.
 unfoldable pub is_over : LocationCounter → Growth → Bool
 is_over spot g =
     is_over_limit g.definition || is_over_limit (linkage_length spot.inner (length g.links))
@@ -201,7 +203,8 @@ growth_refusal text symbols g spot (line ∷ lines) =
 
 -- ---- bounds of the growth
 
--- The definition section has at most this many more words. The symbol section does not grow.
+-- After a change of the sizes the definition section has at most `more` more words, and the symbol
+-- section as many as before.
 pub record IsLarger (more : ℕ) (before after : Growth) : Type 0 where
   pub definition : after.definition ≤ before.definition + more
   pub symbol : after.symbol ≡ before.symbol

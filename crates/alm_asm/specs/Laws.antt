@@ -72,7 +72,7 @@ SymbolsStay =
     → sum_named name (symbols_from text [] start (above ++ lines)) ≡ Some sum
 
 -- The machine reads the offset after a pointer register as the number that was written, modulo
--- 2^18.
+-- 2^18, for each number that fits the field.
 abbrev pub OffsetsAreRead : Type 0
 OffsetsAreRead =
     (code : ℕ) (bit27 : Bool) (pr tag : ℕ) (b : Balance) → has_room Offset b ≡ true

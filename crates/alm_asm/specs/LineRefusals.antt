@@ -44,7 +44,8 @@ op_place None = 0
 
 -- ---- operands
 
--- the index where the expression after an external name begins: after a sign
+-- The index in the text where the expression after an external name begins: after a sign. Without
+-- an entry the dollar sign is before it.
 abbrev pub external_place : Span → Option Span → ℕ
 external_place segment (Some entry) = entry.to + 1
 external_place segment None = segment.to + 2
@@ -56,24 +57,26 @@ is_static Linkage = false
 is_static Symbol = false
 is_static Static = true
 
--- whether a name for a section, if it is one, needs a static section
+-- whether the segment of an operand is the static section of the object itself
 abbrev pub needs_static : Option Section → Bool
 needs_static (Some section) = is_static section
 needs_static None = false
 
--- A section of static words can be referred to only if the lines have one.
+-- Whether an operand may name this section of the object itself: the static section only if the
+-- lines have one.
 abbrev pub may_name : Tables → Option Section → Bool
 may_name tables own = tables.uses_outer || not (needs_static own)
 
--- A link must be in the reach of `pr4|`.
+-- Whether the link of an external operand is in the reach of `pr4|`: its offset in the linkage
+-- section is below 2^14.
 unfoldable pub is_in_reach : List ℕ → Tables → LocationCounter → Span → Option Span → List Term → ℕ → Bool
 is_in_reach text tables spot segment entry terms tag =
     nat_lt
     (link_place tables.links tables.first_link
     (link_of text tables.symbols spot segment entry terms tag)) offset_limit
 
--- The bounds of an expression: those of bits 3 to 17 after a pointer register, and otherwise those
--- of a half.
+-- The field of an expression that is not external: bits 3 to 17 after a pointer register, and
+-- otherwise half a word.
 abbrev pub own_room : Option ℕ → ValueField
 own_room (Some pr) = Offset
 own_room None = Half
@@ -84,7 +87,8 @@ abbrev pub link_expression : List ℕ → List (List ℕ × Sum) → LocationCou
 link_expression text symbols spot line segment entry terms =
     number_refusal text symbols spot line terms (external_place segment entry)
 
--- An operand whose expression has no value is not a link, so its place is not checked.
+-- Whether the link of an external operand is in reach. An operand whose expression has no value is
+-- not a link, so its place is not checked.
 unfoldable pub reaches : List ℕ → Tables → LocationCounter → Span → Option Span → List Term → ℕ → Bool
 reaches text tables spot segment entry terms tag =
     not (has_number text tables.symbols spot terms)
@@ -102,12 +106,13 @@ external_refusal text tables spot line segment entry terms tag =
     (unless (reaches text tables spot segment entry terms tag) at))
     (unless (may_name tables (own_section (slice_of text segment))) at)
 
--- the refusal of an operand that is an expression
+-- the refusal of an operand that is an expression, without a segment
 abbrev pub own_operand : List ℕ → Tables → LocationCounter → Line36 → ValueField → List Term → Option AlmRefusal
 own_operand text tables spot line room terms =
     expression_refusal text tables.symbols spot line terms (expression_place terms) room true
 
--- the refusal of an operand: external if it names a segment, and otherwise an expression
+-- the refusal of an operand with these parts: external if it names a segment, and otherwise an
+-- expression
 abbrev pub operand_by : List ℕ → Tables → LocationCounter → Line36 → Option ℕ → Option Span → Option Span
     → List Term → ℕ → Option AlmRefusal
 operand_by text tables spot line pr (Some segment) entry terms tag =
@@ -127,7 +132,7 @@ operand_refusal text tables spot line None = None
 
 -- ---- operations
 
--- Whether a `use` line may change to a section: the static words of a source are in one section.
+-- Whether a `use` line may select a section: the static words of a source are all in one section.
 abbrev pub may_enter : LocationCounter → Section → Bool
 may_enter spot Text = true
 may_enter spot Linkage = not spot.uses_outer
@@ -152,7 +157,7 @@ halves_refusal text tables spot line =
     sooner (own_operand text tables spot line Half (terms_in (first_arg line.args)))
     (own_operand text tables spot line Half (terms_in (second_arg line.args)))
 
--- the refusal of the operation of a line, without those of definitions and of symbols
+-- the refusal of the operation of a line, apart from those of the names and symbols that it defines
 abbrev pub refusal_of_deed : List ℕ → Tables → LocationCounter → Line36 → LineEffect → Option AlmRefusal
 refusal_of_deed text tables spot line deed.Nothing = None
 refusal_of_deed text tables spot line (deed.Instruction code bit27) =
@@ -169,7 +174,7 @@ refusal_of_deed text tables spot line deed.Bound = None
 
 -- ---- the lines
 
--- the tables with other links
+-- the tables with these links instead of theirs
 abbrev pub with_links : Tables → List LinkFields → Tables
 with_links tables links = record tables { links = links }
 

@@ -14,12 +14,12 @@ use Rattle.alm_lines.specs.SpotFields.{LocationCounter}
 use Rattle.alm_asm.specs.Links.{operand_args, link_in}
 use Rattle.alm_asm.specs.declared.seen.LineValues.{LineValues}
 
--- the index of a link in a list
+-- the index of a link in a list, if there is a link and the list has it
 abbrev pub place_in : List LinkFields → Option LinkFields → Option ℕ
 place_in links None = None
 place_in links (Some link) = position (same_link link) links
 
--- the value of the first argument of a line, and the index of its link
+-- the values of a line: that of its first argument, and the index of its link
 unfoldable pub seen_of : List ℕ → List (List ℕ × Sum) → List LinkFields → LocationCounter → Line36 → LineValues
 seen_of text symbols links spot line =
     record {
@@ -28,18 +28,18 @@ seen_of text symbols links spot line =
           (link_in text symbols spot (first_arg (operand_args line.deed line.args)));
     }
 
--- The entry of a line, before those of later lines. Only a line with arguments has an entry; any
--- other has no value and no link.
+-- The values of lines: those of a line with these arguments, if it has any, before those of the
+-- lines below.
 unfoldable pub seen_with : List Arg → LineValues → List LineValues → List LineValues
 seen_with [] seen later = later
 seen_with (argument ∷ arguments) seen later = seen ∷ later
 
--- the entries of earlier lines, with that of a line if it has arguments
+-- the values of lines, with those of one more line at the end, if it has arguments
 unfoldable pub with_seen : List LineValues → List Arg → LineValues → List LineValues
 with_seen before [] seen = before
 with_seen before (argument ∷ arguments) seen = before ++ seen ∷ []
 
--- the entries of these lines, in order
+-- the values of the lines that have arguments, in order
 unfoldable pub seen_from : List ℕ → List (List ℕ × Sum) → List LinkFields → LocationCounter → List Line36
     → List LineValues
 seen_from text symbols links spot [] = []

@@ -80,7 +80,8 @@ operand_args deed.Block arguments = []
 operand_args deed.Even arguments = []
 operand_args deed.Bound arguments = []
 
--- An external operand whose expression has no value is not a link.
+-- The link of an operand with these parts. It is a link if it names a segment and its expression
+-- has a value.
 abbrev pub link_by : List ℕ → List (List ℕ × Sum) → LocationCounter → Option Span → Option Span → List Term → ℕ
     → Option LinkFields
 link_by text symbols spot (Some segment) entry terms tag =
@@ -99,7 +100,7 @@ link_in text symbols spot (Some (arg.Operand pr segment entry terms tag)) =
     link_by text symbols spot segment entry terms tag
 link_in text symbols spot None = None
 
--- the links with one at the end, unless they have it
+-- the links with one more at the end, if there is one and they do not have it
 abbrev pub with_link : List LinkFields → Option LinkFields → List LinkFields
 with_link links None = links
 with_link links (Some link) = with_unless (has_link link links) links link
@@ -119,7 +120,8 @@ links_from text symbols links spot (line ∷ lines) =
 
 -- ---- the place of a link
 
--- the offset of a link in the linkage section, if the first link is at `first`
+-- The offset of a link in the linkage section, if the first link is at `first`. A link that the
+-- list does not have counts as the first.
 unfoldable pub link_place : List LinkFields → ℕ → LinkFields → ℕ
 link_place links first link =
     word_of_link first (unwrap_or (position (same_link link) links) 0)

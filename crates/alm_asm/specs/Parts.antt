@@ -6,6 +6,8 @@ use Rattle.alm_asm.specs.declared.tables.Tables.{Tables}
 use Rattle.alm_asm.specs.declared.parts.PlacedWords.{PlacedWords}
 use Rattle.alm_asm.specs.declared.parts.DefinitionsAndRelocations.{DefinitionsAndRelocations}
 
+-- The parts of an object, put together from the words that the lines place, their definitions and
+-- relocations, and the links in the tables.
 abbrev pub parts_by : Tables → PlacedWords → DefinitionsAndRelocations → ℕ → PartsFields
 parts_by tables placed noted entry_bound =
     record {

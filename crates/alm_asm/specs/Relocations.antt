@@ -21,7 +21,8 @@ use Rattle.alm_lines.specs.SpotFields.{LocationCounter}
 use Rattle.alm_parse.specs.declared.deed.LineEffect.{LineEffect}
 use Rattle.alm_parse.specs.declared.deed.LineEffect.TheVariants as deed
 
--- the relocation of a part of the word at this place
+-- The relocation of a part of the word at this place, as a list: it has one if the value of the
+-- part is a place of a section.
 abbrev pub mark : LocationCounter → ℕ → Kind → List RelocFields
 mark spot part Absolute = []
 mark spot part (Moved target) =
@@ -33,19 +34,24 @@ mark spot part (Moved target) =
     } ∷ []
 mark spot part Inexpressible = []
 
--- the part of the word that holds the value of an operand; the kind of this value
+-- The part of the word of an instruction that holds the value of its operand: bits 3 to 17 for an
+-- external operand or after a pointer register, and otherwise the left half.
 abbrev pub operand_part : Option ℕ → Option Span → ℕ
 operand_part pr (Some segment) = offset_part
 operand_part (Some pr) None = offset_part
 operand_part None None = left_part
 
+-- the kind of the value in the word of an operand: a place of the linkage section for an external
+-- one, otherwise that of its expression
 abbrev pub kind_given : Option Span → Kind → Kind
 kind_given (Some segment) kind = Moved Linkage
 kind_given None kind = kind
 
+-- the kind of the value in the word of an operand with this segment and the sum of its expression
 abbrev pub operand_kind : Option Span → Sum → Kind
 operand_kind segment sum = kind_given segment (kind_of sum)
 
+-- the relocation of the operand of an instruction, as a list, which is empty if it has none
 abbrev pub operand_mark : List ℕ → List (List ℕ × Sum) → LocationCounter → Option Arg → List RelocFields
 operand_mark text symbols spot (Some (arg.Symbol span)) = []
 operand_mark text symbols spot (Some (arg.Number word)) = []
@@ -55,7 +61,7 @@ operand_mark text symbols spot (Some (arg.Operand pr segment entry terms tag)) =
     mark spot (operand_part pr segment) (operand_kind segment (sum_of text symbols spot terms))
 operand_mark text symbols spot None = []
 
--- the relocations, with those of the word of a line
+-- the relocations, with those of the words of a line with this operation
 abbrev pub marks_by : List ℕ → List (List ℕ × Sum) → LocationCounter → List RelocFields → List Arg → LineEffect
     → List RelocFields
 marks_by text symbols spot marks arguments deed.Nothing = marks
@@ -74,6 +80,7 @@ marks_by text symbols spot marks arguments deed.Block = marks
 marks_by text symbols spot marks arguments deed.Even = marks
 marks_by text symbols spot marks arguments deed.Bound = marks
 
+-- the relocations, with those of the words of a line, if it is in this section
 unfoldable pub marks_after : List ℕ → List (List ℕ × Sum) → Section → List RelocFields → LocationCounter
     → Line36 → List RelocFields
 marks_after text symbols section marks spot line =

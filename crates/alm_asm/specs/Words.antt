@@ -48,12 +48,13 @@ pointed_inst code bit27 pr offset tag =
       tag = tag % 2 ^ 6;
     }
 
--- the fields of an instruction whose operand is an expression, after a pointer register or not
+-- The fields of an instruction whose operand is an expression: its value is the offset after a
+-- pointer register, or the address.
 abbrev pub own_inst : ℕ → Bool → Option ℕ → ℕ → ℕ → ℕ → InstFields
 own_inst code bit27 (Some pr) y offset tag = pointed_inst code bit27 pr offset tag
 own_inst code bit27 None y offset tag = plain_inst code bit27 y tag
 
--- The fields of an instruction with this operand. An external operand is `pr4|link,*`.
+-- The fields of an instruction with an operand of these parts. An external operand is `pr4|link,*`.
 abbrev pub inst_by : List ℕ → Tables → LocationCounter → ℕ → Bool → Option ℕ → Option Span → Option Span
     → List Term → ℕ → InstFields
 inst_by text tables spot code bit27 pr (Some segment) entry terms tag =

@@ -31,6 +31,7 @@ use obj36::{Links, Object, Parts};
 use obj36_parts::sections::HEAD_WORDS;
 use std::alloc::Global;
 
+// The offset of the first link in the linkage section, given the place after the last line.
 fn first_link(ending: LocationCounter) -> Count
     requires { HasRoom 0 ending }
     ensures { result ≡ first_link ending }
@@ -41,8 +42,8 @@ fn first_link(ending: LocationCounter) -> Count
     Count::of(HEAD_WORDS as u128 + (ending.inner + ending.inner % 2))
 }
 
-/// The tables of lines, the values of the lines, and the first refusal of the layout: of the
-/// definition of a symbol or of the length of a section.
+// The tables of lines, the values of the lines, and the first refusal of the layout: of the
+// definition of a symbol or of the length of a section.
 #[derive(Drop)]
 struct TablesAndValues {
     tables: Tables,
@@ -57,7 +58,7 @@ struct Linked {
     seen: AllLineValues,
 }
 
-// The links of the lines, and for each line with arguments the value and the link.
+// The links of the lines, and the values of each line with arguments.
 fn linked_in(
     alloc: Global,
     text: &[u8],
@@ -81,7 +82,8 @@ fn linked_in(
     }
 }
 
-// The tables of the lines, and for each line with arguments the value and the link.
+// The tables of the lines, the values of each line with arguments, and the first refusal of the
+// layout.
 #[tactic(auto, unfolding(crate::specs::Assembly::tables_of))]
 fn found_in(alloc: Global, text: &[u8], lines: &[Line36]) -> Result<TablesAndValues, NoMemory>
     requires { length lines.now < 2 ^ 32 }
@@ -173,6 +175,7 @@ fn tables_in(
     }
 }
 
+// The number of the last line, or 1 if there is none.
 #[tactic(auto, unfolding(crate::specs::Assembly::last_line))]
 fn last_line(lines: &[Line36]) -> u32
     ensures { result ≡ last_line 1 lines.now }
@@ -225,7 +228,7 @@ fn object_with(
     object_of(alloc, parts, last_line(lines))
 }
 
-// The object of lines, or the first refusal. Sets `seen` to the values of the lines.
+// The object of lines, or the fault of the first refusal. Sets `seen` to the values of the lines.
 fn meaning_seen(
     alloc: Global,
     lines: &Lines36,
@@ -241,7 +244,7 @@ fn meaning_seen(
     }
 }
 
-// The object of lines, or the first refusal.
+// The object of lines, or the fault of the first refusal.
 fn meaning(alloc: Global, lines: &Lines36) -> Result<Object, AlmFault>
     ensures { ParseSays result (assembled lines.now) }
 {

@@ -20,6 +20,8 @@ use m36_word::NoMemory;
 use obj36::{Def, Defs, Named, Section};
 use std::alloc::Global;
 
+// The section of a definition whose symbol is of this kind. A symbol that is not a place of a
+// section is refused.
 fn section_of(kind: Kind) -> Section
     ensures { result ≡ section_of kind }
 {
@@ -29,6 +31,7 @@ fn section_of(kind: Kind) -> Section
     }
 }
 
+// The definition of a name, with the section and the value of its symbol.
 #[tactic(auto, unfolding(crate::specs::Definitions::named))]
 fn named(text: &[u8], symbols: &Symbols, is_entry: bool, span: Span) -> Named
     ensures { result ≡ named text.now symbols.now is_entry span }
@@ -79,6 +82,7 @@ pub fn gives_entries(deed: LineEffect) -> Option<bool>
     }
 }
 
+// Whether a name has a definition already.
 #[tactic(auto, unfolding(crate::specs::Definitions::is_taken))]
 fn is_taken(done: &Defs, name: &Name) -> bool
     ensures { result ≡ is_taken done.now name.now }
@@ -86,6 +90,8 @@ fn is_taken(done: &Defs, name: &Name) -> bool
     done.has(name)
 }
 
+// Whether a name can be defined for a symbol of this kind: an entry must be a place of the text,
+// another definition a place of any section.
 fn is_label_kind(is_entry: bool, kind: Kind) -> bool
     ensures { result ≡ is_label_kind is_entry kind }
 {
@@ -98,6 +104,8 @@ fn is_label_kind(is_entry: bool, kind: Kind) -> bool
     }
 }
 
+// Whether a name can be defined for a symbol with this sum: it is such a place, and its value fits
+// half a word.
 #[tactic(auto, unfolding(crate::specs::Definitions::is_label))]
 fn is_label(is_entry: bool, sum: Sum) -> bool
     ensures { result ≡ is_label is_entry sum }
@@ -122,6 +130,8 @@ pub fn sum_refusal(line: &Line36, at: u64, is_entry: bool, sum: Option<Sum>) -> 
     }
 }
 
+// The refusal of a name that a line defines: E5 if it has a definition already, or as
+// `sum_refusal`.
 #[tactic(auto, unfolding(crate::specs::Definitions::name_refusal))]
 fn name_refusal(
     text: &[u8],
@@ -140,6 +150,7 @@ fn name_refusal(
     sum_refusal(line, span.from as u64, is_entry, symbols.find(&name))
 }
 
+// The refusal of an argument as a name that a line defines. Only symbols are names.
 fn arg_refusal(
     text: &[u8],
     symbols: &Symbols,

@@ -133,6 +133,7 @@ impl Growth {
         self.add_new_link(link)
     }
 
+    // Whether one of these sections is too long, if the next line is at `spot`.
     #[tactic(auto, unfolding(crate::specs::Growth::is_over))]
     fn is_over(&self, spot: LocationCounter) -> bool
         ensures value { result ≡ is_over spot self.now }
@@ -171,7 +172,8 @@ fn take_arg(
     }
 }
 
-// A line has fewer than 2^64 arguments, so the number of words does not overflow.
+// Counts the definitions that the arguments of a line give. A line has fewer than 2^64 arguments,
+// so the number of words does not overflow.
 #[tactic(auto, using(crate::proofs::GrowthLaws::larger_more), unfolding(crate::specs::Growth::with_args))]
 fn take_args(
     text: &[u8],
@@ -343,6 +345,7 @@ fn take_link(
     }
 }
 
+// The number of relocations of an expression: 1 if it has a value and is a place of a section.
 fn mark_count(is_valued: bool, kind: Kind) -> u64
     ensures value { result ≡ mark_count is_valued kind }
     ensures bound { result ≤ 1 }
@@ -353,6 +356,7 @@ fn mark_count(is_valued: bool, kind: Kind) -> u64
     }
 }
 
+// The field that the expression of an operand must fit. After an external name it is a half.
 fn operand_room(pr: Option<u8>, segment: Option<Span>) -> ValueField
     ensures { result ≡ operand_room pr segment }
 {
@@ -362,6 +366,8 @@ fn operand_room(pr: Option<u8>, segment: Option<Span>) -> ValueField
     }
 }
 
+// Whether the expression of an operand may be a place of a section: after an external name it must
+// be a number.
 fn is_own(segment: Option<Span>) -> bool
     ensures { result ≡ is_own segment }
 {
@@ -371,6 +377,7 @@ fn is_own(segment: Option<Span>) -> bool
     }
 }
 
+// The number of relocations of the operand of an instruction.
 fn operand_count(
     text: &[u8],
     symbols: &Symbols,
@@ -403,6 +410,7 @@ fn operand_count(
     }
 }
 
+// The number of relocations of an expression that is a half of a word.
 fn half_count(
     text: &[u8],
     symbols: &Symbols,
@@ -418,6 +426,7 @@ fn half_count(
     mark_count(has_value, kind_valued(text, symbols, spot, terms, value))
 }
 
+// The number of relocations of the words that a line places.
 fn marks_count(
     text: &[u8],
     symbols: &Symbols,
@@ -469,6 +478,7 @@ fn take_marks(
     growth.symbol += marks_count(text, symbols, spot, line, value) as u128;
 }
 
+// Counts the definitions, the link and the relocations of a line.
 #[tactic(auto, unfolding(crate::specs::Growth::grown_by))]
 fn take_line(
     text: &[u8],

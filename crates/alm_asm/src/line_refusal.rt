@@ -35,12 +35,14 @@ use obj36_parts::halves::OFFSET_LIMIT;
 use obj36_parts::sections::is_text_section;
 use std::alloc::Global;
 
+// The refusal, unless the condition holds.
 fn unless(holds: bool, refusal: AlmRefusal) -> Option<AlmRefusal>
     ensures { result ≡ unless holds refusal }
 {
     if holds { None } else { Some(refusal) }
 }
 
+// The index of an operation in the text; 0 if there is none.
 fn op_place(op: Option<Span>) -> u64
     ensures { result ≡ op_place op }
 {
@@ -50,6 +52,8 @@ fn op_place(op: Option<Span>) -> u64
     }
 }
 
+// The index in the text where the expression after an external name begins: after a sign. Without
+// an entry the dollar sign is before it.
 fn external_place(segment: Span, entry: Option<Span>) -> u64
     ensures { result ≡ external_place segment entry }
 {
@@ -59,6 +63,7 @@ fn external_place(segment: Span, entry: Option<Span>) -> u64
     }
 }
 
+// Whether the segment of an operand is the static section of the object itself.
 fn needs_static(own: Option<Section>) -> bool
     ensures { result ≡ needs_static own }
 {
@@ -68,6 +73,8 @@ fn needs_static(own: Option<Section>) -> bool
     }
 }
 
+// Whether an operand may name this section of the object itself: the static section only if the
+// lines have one.
 fn may_name(tables: &Tables, own: Option<Section>) -> bool
     ensures { result ≡ may_name tables.now own }
 {
@@ -115,6 +122,8 @@ fn is_in_reach(first: Count, place: Option<u64>) -> bool
     offset_of_link(first, place) < OFFSET_LIMIT as u128
 }
 
+// Whether the link of an external operand is in reach. An operand whose expression has no value is
+// not a link, so its place is not checked.
 #[tactic(auto, using(crate::proofs::SeenLaws::by_place), unfolding(crate::specs::LineRefusals::reaches, crate::specs::LineRefusals::is_in_reach))]
 fn reaches(
     text: &[u8],
@@ -140,6 +149,8 @@ fn reaches(
     is_in_reach(tables.first_link, place)
 }
 
+// The refusal of an external operand: that of its expression; or E7 at its segment, if its link is
+// out of reach or it names a static section that the lines do not have.
 fn external_refusal(
     text: &[u8],
     tables: &Tables,
@@ -196,6 +207,7 @@ fn own_operand_refusal(
     value_refused(text, &tables.symbols, spot, line, terms, wanted, value)
 }
 
+// The refusal of the operand of an instruction, if it has one that is refused.
 fn operand_refusal(
     text: &[u8],
     tables: &Tables,
@@ -235,6 +247,7 @@ fn operand_refusal(
     }
 }
 
+// Whether a `use` line may select a section: the static words of a source are all in one section.
 fn may_enter(spot: LocationCounter, section: Section) -> bool
     ensures { result ≡ may_enter spot section }
 {
@@ -245,6 +258,7 @@ fn may_enter(spot: LocationCounter, section: Section) -> bool
     }
 }
 
+// The refusal of an instruction: E7 at the operation outside the text, and that of its operand.
 fn instruction_refusal(
     text: &[u8],
     tables: &Tables,
@@ -265,6 +279,7 @@ fn instruction_refusal(
     sooner(unless(is_text_section(spot.section), at), operand)
 }
 
+// The refusal of a `use` line: E7 at the operation, if static words are in another section.
 fn use_refusal(text: &[u8], spot: LocationCounter, line: &Line36) -> Option<AlmRefusal>
     ensures { result ≡ use_refusal text.now spot line.now }
 {
@@ -273,6 +288,7 @@ fn use_refusal(text: &[u8], spot: LocationCounter, line: &Line36) -> Option<AlmR
     unless(may_enter(spot, section), at)
 }
 
+// The first refusal of the two expressions of a `zero` line.
 fn halves_refusal(
     text: &[u8],
     tables: &Tables,
@@ -293,6 +309,8 @@ fn halves_refusal(
     sooner(left, right)
 }
 
+// The refusal of the operation of a line, apart from those of the names and symbols that it
+// defines. `value` is that of the first argument, `place` the index of the link.
 fn refusal_of_deed(
     text: &[u8],
     tables: &Tables,

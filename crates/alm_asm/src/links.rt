@@ -24,6 +24,8 @@ use m36_word::NoMemory;
 use obj36::{Link, Links, Section};
 use obj36_parts::sections::number;
 
+// The type of a link: to a section of the object itself (1, or 5 with an entry) or to another
+// segment (3, or 4 with an entry).
 fn link_kind(own: Option<Section>, entry: Option<Span>) -> u8
     ensures { result ≡ link_kind own entry }
 {
@@ -35,6 +37,7 @@ fn link_kind(own: Option<Section>, entry: Option<Span>) -> u8
     }
 }
 
+// The section of a link to the object itself; otherwise the text, which has no meaning.
 fn link_section(own: Option<Section>) -> Section
     ensures { result ≡ link_section own }
 {
@@ -44,6 +47,7 @@ fn link_section(own: Option<Section>) -> Section
     }
 }
 
+// The name of the segment of a link; empty for a link to the object itself.
 fn link_name(own: Option<Section>, text: &[u8], segment: Span) -> Name
     ensures { result ≡ link_name own (name_at text.now segment) }
 {
@@ -53,6 +57,7 @@ fn link_name(own: Option<Section>, text: &[u8], segment: Span) -> Name
     }
 }
 
+// The name of the entry of a link; empty if it has none.
 fn entry_name(text: &[u8], entry: Option<Span>) -> Name
     ensures { result ≡ entry_name text.now entry }
 {
@@ -109,6 +114,8 @@ fn external_link(
     Some(link_of(text, symbols, spot, segment, entry, terms, tag, value))
 }
 
+// The link of the operand of an instruction. None if it is not external or its expression has no
+// value.
 fn link_in(
     text: &[u8],
     symbols: &Symbols,
@@ -217,7 +224,8 @@ pub fn offset_of_link(first: Count, place: Option<u64>) -> u128
     first.value() + 2 * (place.unwrap_or(0) as u128)
 }
 
-/// The offset of a link in the linkage section. `first` is the offset of the first link.
+/// The offset of a link in the linkage section. `first` is the offset of the first link. A link
+/// that the list does not have counts as the first.
 #[tactic(auto, unfolding(crate::specs::Links::link_place))]
 pub fn link_place(links: &Links, first: Count, link: &Link) -> u128
     ensures { result ≡ link_place links.now first link.now }

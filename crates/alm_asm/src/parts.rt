@@ -21,6 +21,8 @@ use obj36::{Defs, Parts, Relocs, Section};
 use obj36_parts::sections::{push_evening, version_of};
 use std::alloc::Global;
 
+// The entry bound after a line: its place in the text, if it is an `entrybound` line, or else the
+// bound so far.
 fn bound_by(spot: LocationCounter, bound: u32, deed: LineEffect) -> u32
     requires { bound < 2 ^ 18 }
     ensures value { result ≡ bound_by spot bound deed }
@@ -59,6 +61,7 @@ fn bound_of(alloc: Global, text: &[u8], lines: &[Line36]) -> Result<u32, NoMemor
     Ok(bound)
 }
 
+// The section that has the static words, by whether the lines use a static section.
 fn static_section(uses_outer: bool) -> Section
     ensures { result ≡ static_section uses_outer }
 {
@@ -102,6 +105,7 @@ fn statics_of(
     Ok(words)
 }
 
+// The relocations of lines: those of the text, and then those of the static words.
 fn relocations_of(
     alloc: Global,
     text: &[u8],
@@ -210,7 +214,7 @@ fn parts_of(tables: Tables, contents: Contents) -> Parts
     }
 }
 
-// The parts of the object of the lines, given their tables.
+// What the lines place in an object except the links, given their tables.
 #[tactic(auto, unfolding(crate::specs::Assembly::parts_with))]
 fn contents_of(
     alloc: Global,

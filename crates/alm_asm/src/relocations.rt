@@ -47,6 +47,8 @@ fn push_relocation(
     }
 }
 
+// The part of the word of an instruction that holds the value of its operand: 2 (bits 3 to 17) for
+// an external operand or after a pointer register, and otherwise 0 (the left half).
 fn operand_part(pr: Option<u8>, segment: Option<Span>) -> u8
     ensures { result ≡ operand_part pr segment }
 {
@@ -147,6 +149,7 @@ fn push_marks(
     }
 }
 
+// Adds the relocations of a line, if it is in this section.
 #[tactic(auto, unfolding(crate::specs::Relocations::marks_after))]
 fn take_line(
     text: &[u8],

@@ -60,6 +60,7 @@ impl AllLineValues {
         })
     }
 
+    // Adds values at the end. If memory runs out, nothing changes.
     fn push(&mut self, x: LineValues) -> Result<(), NoMemory>
         ensures ok { OnOk result (self.new ≡ self.old ++ x ∷ []) }
         ensures err { OnErr result (self.new ≡ self.old) }

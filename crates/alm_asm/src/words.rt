@@ -32,6 +32,7 @@ struct OperationCode {
     bit27: bool,
 }
 
+// The instruction with the address `y`.
 fn plain_inst(operation: OperationCode, y: u64, tag: u8) -> Inst
     requires { y < 2 ^ 18 }
     ensures { result ≡ plain_inst operation.code operation.bit27 y tag }
@@ -46,6 +47,7 @@ fn plain_inst(operation: OperationCode, y: u64, tag: u8) -> Inst
     }
 }
 
+// The instruction with an offset of 15 bits after the pointer register `pr`.
 fn pointed_inst(operation: OperationCode, pr: u8, offset: u64, tag: u8) -> Inst
     requires { offset < 2 ^ 15 }
     ensures { result ≡ pointed_inst operation.code operation.bit27 pr offset tag }
@@ -61,6 +63,7 @@ fn pointed_inst(operation: OperationCode, pr: u8, offset: u64, tag: u8) -> Inst
     }
 }
 
+// The instruction whose operand is an expression with this value, after a pointer register or not.
 fn own_inst(operation: OperationCode, pr: Option<u8>, value: Value, tag: u8) -> Inst
     ensures { result
         ≡ own_inst operation.code operation.bit27 pr value.half value.offset tag }
@@ -145,6 +148,8 @@ fn own_operand(
     own_inst(operation, pr, value, tag)
 }
 
+// The instruction with the operand in these arguments. Without an operand its address and tag are
+// 0.
 fn inst_in(
     text: &[u8],
     tables: &Tables,
@@ -185,6 +190,7 @@ fn inst_in(
     }
 }
 
+// The word of an instruction.
 #[tactic(auto, unfolding(crate::specs::Words::instruction_word))]
 fn instruction_word(
     text: &[u8],
@@ -213,6 +219,7 @@ fn word_of(left: Value, right: Value) -> Word
     Word::low(left.half as u64 * (1 << 18) + right.half as u64)
 }
 
+// The word of a `zero` line: the values of its two expressions.
 #[tactic(auto, unfolding(crate::specs::Words::halves_word, alm_lines::specs::Values::evaluated))]
 fn halves_word(
     text: &[u8],
@@ -270,6 +277,7 @@ fn push_words(
     }
 }
 
+// Adds the words of a line, if it is in this section.
 #[tactic(auto, unfolding(crate::specs::Words::words_of_line))]
 fn take_line(
     alloc: Global,

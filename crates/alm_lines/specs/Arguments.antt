@@ -16,13 +16,15 @@ name_at text span = take name_limit (slice_of text span)
 
 -- ---- arguments
 
+-- the first argument, if there is one
 abbrev pub first_arg : List Arg → Option Arg
 first_arg arguments = slice_get arguments 0
 
+-- the second argument, if there is one
 abbrev pub second_arg : List Arg → Option Arg
 second_arg arguments = slice_get arguments 1
 
--- the symbol that an argument is, if it is one
+-- the symbol in an argument, if it is one
 abbrev pub symbol_in : Option Arg → Option Span
 symbol_in (Some (Symbol span)) = Some span
 symbol_in (Some (Number word)) = None
@@ -40,7 +42,7 @@ terms_in (Some (Plain terms)) = terms
 terms_in (Some (Operand pr seg entry terms tag)) = terms
 terms_in None = []
 
--- the number that an argument is; 0 if it is none
+-- the number in an argument; 0 if it is not a number
 abbrev pub number_in : Option Arg → ℕ
 number_in (Some (Symbol span)) = 0
 number_in (Some (Number word)) = word
@@ -49,7 +51,7 @@ number_in (Some (Plain terms)) = 0
 number_in (Some (Operand pr seg entry terms tag)) = 0
 number_in None = 0
 
--- the words of an argument of `dec`, `oct` or `aci`
+-- the words that an argument of `dec`, `oct` or `aci` places
 abbrev pub words_of_arg : Arg → List ℕ
 words_of_arg (Symbol span) = []
 words_of_arg (Number word) = word ∷ []
@@ -62,7 +64,7 @@ unfoldable pub words_of_args : List ℕ → List Arg → List ℕ
 words_of_args words [] = words
 words_of_args words (arg ∷ more) = words_of_args (words ++ words_of_arg arg) more
 
--- the section that a `use` line selects
+-- the section with this name after `use`; the text if there is none
 abbrev pub section_named : List ℕ → Section
 section_named name = unwrap_or (used_section name) Text
 

@@ -29,7 +29,7 @@ term_sum text symbols spot term =
     let sum = atom_sum text symbols spot term.span term.what in
     if term.minus then sum_turned sum else sum
 
--- a sum to which terms are added
+-- a sum, to which the sums of terms are added
 unfoldable pub added : List ℕ → List (List ℕ × Sum) → LocationCounter → Sum → List Term → Sum
 added text symbols spot sum [] = sum
 added text symbols spot sum (term ∷ terms) =
@@ -43,11 +43,13 @@ sum_of text symbols spot terms = added text symbols spot no_sum terms
 unfoldable pub is_defined : List ℕ → List (List ℕ × Sum) → Span → Bool
 is_defined text symbols span = is_some (sum_named (name_at text span) symbols)
 
+-- whether a term is a symbol
 abbrev pub is_symbol_atom : Atom → Bool
 is_symbol_atom (Number n) = false
 is_symbol_atom Symbol = true
 is_symbol_atom Here = false
 
+-- whether a term is a symbol that is not defined
 unfoldable pub is_undefined : List ℕ → List (List ℕ × Sum) → Term → Bool
 is_undefined text symbols term =
     if is_symbol_atom term.what then not (is_defined text symbols term.span) else false
@@ -57,7 +59,7 @@ unfoldable pub place_undefined : List ℕ → List (List ℕ × Sum) → List Te
 place_undefined text symbols terms =
     option_map (λ term. term.span.from) (find (is_undefined text symbols) terms)
 
--- the index where an expression begins; a minus may be before its first term
+-- the index in the text where an expression begins; a minus may be before its first term
 abbrev pub expression_place : List Term → ℕ
 expression_place [] = 0
 expression_place (term ∷ terms) = if term.minus then term.span.from - 1 else term.span.from

@@ -21,7 +21,7 @@ use Rattle.alm_lines.specs.declared.refusal.AlmRefusal.{AlmRefusal}
 
 -- ---- labels
 
--- the refusal of a symbol that is defined a second time
+-- the refusal (E5) of a symbol that is defined already
 unfoldable pub redefinition : List ℕ → Line36 → List (List ℕ × Sum) → Span → Option AlmRefusal
 redefinition text line symbols span =
     if is_defined text symbols span then Some (refusal_at line span.from E5) else None
@@ -32,7 +32,7 @@ with_labels text sum symbols [] = symbols
 with_labels text sum symbols (span ∷ spans) =
     with_labels text sum (with_symbol symbols (name_at text span) sum) spans
 
--- the first in the text of `first` and the refusals of labels that are defined already
+-- the first in the text of the refusal `first` and those of labels that are defined already
 unfoldable pub labels_refused : List ℕ → Line36 → Sum → List (List ℕ × Sum) → Option AlmRefusal
     → List Span → Option AlmRefusal
 labels_refused text line sum symbols first [] = first
@@ -42,7 +42,7 @@ labels_refused text line sum symbols first (span ∷ spans) =
 
 -- ---- `equ` and `bss`
 
--- the symbol that an operation defines
+-- the symbol that an operation defines: the first argument of `equ` and `bss`
 abbrev pub own_symbol : LineEffect → List Arg → Option Span
 own_symbol deed.Nothing arguments = None
 own_symbol (deed.Instruction code bit27) arguments = None
@@ -62,7 +62,8 @@ value_refusal text symbols spot line =
     number_refusal text symbols spot line (terms_in (second_arg line.args))
     (expression_place (terms_in (second_arg line.args)))
 
--- the refusal of the symbol that an operation defines, as far as it is not defined already
+-- the refusal of the value of the symbol that an operation defines: that of the expression of an
+-- `equ`
 abbrev pub own_refusal : List ℕ → List (List ℕ × Sum) → LocationCounter → Line36 → LineEffect → Option AlmRefusal
 own_refusal text symbols spot line deed.Nothing = None
 own_refusal text symbols spot line (deed.Instruction code bit27) = None
@@ -76,7 +77,7 @@ own_refusal text symbols spot line deed.Block = None
 own_refusal text symbols spot line deed.Even = None
 own_refusal text symbols spot line deed.Bound = None
 
--- the sum that is the number of this sum, and the place of no section
+-- the sum that is the number of this sum, and not a place of a section
 abbrev pub number_of : Sum → Sum
 number_of sum =
     record {
@@ -87,7 +88,8 @@ number_of sum =
       unknown = false;
     }
 
--- the sum of the symbol of an `equ`, which is unknown if the expression is not a number
+-- the sum of the symbol of an `equ`: the number of its expression, if this has one, which the first
+-- argument says, and otherwise unknown
 abbrev pub value_by : Bool → Sum → Sum
 value_by true sum = number_of sum
 value_by false sum = unknown_sum
@@ -113,23 +115,24 @@ own_sum text symbols spot line deed.Block = here spot
 own_sum text symbols spot line deed.Even = here spot
 own_sum text symbols spot line deed.Bound = here spot
 
--- symbols with the symbol of an operation, if it defines one
+-- the symbols with that which an operation defines, if it defines one
 abbrev pub with_own : List ℕ → List (List ℕ × Sum) → Option Span → Sum → List (List ℕ × Sum)
 with_own text symbols None sum = symbols
 with_own text symbols (Some span) sum = with_symbol symbols (name_at text span) sum
 
--- the refusal of the symbol of an operation that is defined already
+-- the refusal of the symbol that an operation defines, if it is defined already
 abbrev pub own_redefinition : List ℕ → Line36 → List (List ℕ × Sum) → Option Span → Option AlmRefusal
 own_redefinition text line symbols None = None
 own_redefinition text line symbols (Some span) = redefinition text line symbols span
 
--- the symbols with that of an operation
+-- the symbols with that which the operation of a line defines, if it defines one
 unfoldable pub symbols_with : List ℕ → List (List ℕ × Sum) → LocationCounter → Line36 → LineEffect
     → List (List ℕ × Sum)
 symbols_with text symbols spot line deed =
     with_own text symbols (own_symbol deed line.args) (own_sum text symbols spot line deed)
 
--- the refusal of the symbol that an operation defines
+-- the refusal of the symbol that the operation of a line defines: it is defined already, or its
+-- value is refused
 unfoldable pub refused_with : List ℕ → List (List ℕ × Sum) → LocationCounter → Line36 → LineEffect → Option AlmRefusal
 refused_with text symbols spot line deed =
     sooner (own_redefinition text line symbols (own_symbol deed line.args))
@@ -137,7 +140,8 @@ refused_with text symbols spot line deed =
 
 -- ---- a line
 
--- the refusal of a section with more words than it may have
+-- the refusal (E8) of a section with more words than it may have, at the line that makes it too
+-- long
 unfoldable pub over : Line36 → LocationCounter → Option AlmRefusal
 over line spot = if is_over_limit (count spot) then Some (refusal_at line line.start E8) else None
 
@@ -169,7 +173,8 @@ symbols_from text symbols spot [] = symbols
 symbols_from text symbols spot (line ∷ lines) =
     symbols_from text (symbols_after text symbols spot line) (below text spot line) lines
 
--- the first refusal of a definition or of the length of a section
+-- the first in the text of the refusal `first`, those of the definitions of the lines, and those of
+-- sections that are too long
 unfoldable pub layout_refusal : List ℕ → Option AlmRefusal → List (List ℕ × Sum) → LocationCounter → List Line36
     → Option AlmRefusal
 layout_refusal text first symbols spot [] = first

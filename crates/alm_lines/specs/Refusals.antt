@@ -62,7 +62,8 @@ fault_of refusal = fault_by refusal.code refusal.line (column_of refusal)
 
 -- ---- expressions
 
--- Half a word holds -131072 to 262143, the offset after a pointer register -16384 to 16383.
+-- Whether a number fits a field: half a word holds -131072 to 262143, the offset after a pointer
+-- register -16384 to 16383.
 abbrev pub has_room : ValueField → Balance → Bool
 has_room Half value = is_within 131072 262143 value
 has_room Offset value = is_within offset_limit (offset_limit - 1) value
@@ -77,7 +78,8 @@ is_kind_allowed may_move Inexpressible = false
 unfoldable pub is_expressible : ValueField → Bool → Sum → Bool
 is_expressible room may_move sum = has_room room sum.value && is_kind_allowed may_move (kind_of sum)
 
--- E6 at the first symbol that is not defined; else E7 at the expression, unless it can be expressed
+-- The refusal of an expression that begins at `place`: E6 at its first symbol that is not defined,
+-- if there is one, and otherwise E7, unless `said`: an object can express its value.
 abbrev pub refusal_by : Line36 → Option ℕ → ℕ → Bool → Option AlmRefusal
 refusal_by line (Some at) place said = Some (refusal_at line at E6)
 refusal_by line None place true = None
@@ -100,8 +102,8 @@ has_value text symbols spot terms room may_move =
     not (is_some (place_undefined text symbols terms)) && not sum.unknown
     && is_expressible room may_move sum
 
--- The expression of an `equ`, and one after an external name, must be a number that fits half a
--- word, and not a place of a section.
+-- The refusal of an expression that must be a number that fits half a word, and not a place of a
+-- section: that of an `equ`, and one after an external name.
 abbrev pub number_refusal : List ℕ → List (List ℕ × Sum) → LocationCounter → Line36 → List Term → ℕ
     → Option AlmRefusal
 number_refusal text symbols spot line terms place =

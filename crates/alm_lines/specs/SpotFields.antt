@@ -3,8 +3,9 @@
 use Rattle.std.specs.Prelude.{ℕ, Bool}
 use Rattle.obj36_parts.specs.declared.section.Section.{Section}
 
--- The place of a line. `inner` counts the static words of the linkage section, `outer` those of a
--- static section.
+-- The fields of the place of a line. `text`, `inner` and `outer` count the words of the text, of
+-- the static words of the linkage section, and of a static section, that the lines above place.
+-- `uses_inner` and `uses_outer` say whether a `use` line above selects these sections.
 pub record LocationCounter : Type 0 where
   pub text : ℕ
   pub inner : ℕ

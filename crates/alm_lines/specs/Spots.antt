@@ -36,7 +36,8 @@ count_in Static spot = spot.outer
 abbrev pub count : LocationCounter → ℕ
 count spot = count_in spot.section spot
 
--- the offset in a section; the static words of the linkage section begin after its head
+-- The offset in a section after the words that the lines above place there. The static words of the
+-- linkage section begin after its head.
 abbrev pub place_in : Section → LocationCounter → ℕ
 place_in Text spot = spot.text
 place_in Linkage spot = spot.inner + head_words
@@ -47,7 +48,7 @@ place_in Static spot = spot.outer
 abbrev pub place : LocationCounter → ℕ
 place spot = place_in spot.section spot
 
--- the sum of a label at this place
+-- the sum of a label at this place, if the line is in this section
 abbrev pub here_in : Section → LocationCounter → Sum
 here_in Text spot =
     record {
@@ -79,7 +80,7 @@ here_in Static spot =
 abbrev pub here : LocationCounter → Sum
 here spot = here_in spot.section spot
 
--- the place after n more words
+-- the place after n more words of a section
 abbrev pub grown_in : Section → LocationCounter → ℕ → LocationCounter
 grown_in Text spot n = record spot { text = spot.text + n }
 grown_in Linkage spot n = record spot { inner = spot.inner + n }
@@ -90,7 +91,7 @@ grown_in Static spot n = record spot { outer = spot.outer + n }
 abbrev pub grown : LocationCounter → ℕ → LocationCounter
 grown spot n = grown_in spot.section spot n
 
--- the place after a `use` line that selects a section
+-- the place after a `use` line, which selects a section
 abbrev pub selected : LocationCounter → Section → LocationCounter
 selected spot Text = record spot { section = Text }
 selected spot Linkage = record spot { section = Linkage; uses_inner = true }
@@ -111,7 +112,7 @@ size_of deed.Block arguments at = number_in (second_arg arguments)
 size_of deed.Even arguments at = at % 2
 size_of deed.Bound arguments at = 0
 
--- the place of the next line
+-- the place of the next line, by the operation of this one and its arguments
 abbrev pub moved_by : List ℕ → LineEffect → List Arg → LocationCounter → LocationCounter
 moved_by text deed.Use arguments spot =
     selected spot (section_in text (symbol_in (first_arg arguments)))
@@ -127,25 +128,24 @@ moved_by text deed.Block arguments spot = grown spot (size_of deed.Block argumen
 moved_by text deed.Even arguments spot = grown spot (size_of deed.Even arguments (place spot))
 moved_by text deed.Bound arguments spot = spot
 
--- the place of the line after this one
+-- the place of the next line
 unfoldable pub below : List ℕ → LocationCounter → Line36 → LocationCounter
 below text spot line = moved_by text line.deed line.args spot
 
--- the place after the last line
+-- the place after the last of these lines, the first of which is at `spot`
 unfoldable pub end_of : List ℕ → LocationCounter → List Line36 → LocationCounter
 end_of text spot [] = spot
 end_of text spot (line ∷ lines) = end_of text (below text spot line) lines
 
 -- ---- bounds of the numbers of words
 
--- There is room for this many more lines, each of fewer than 2^64 words. There are fewer than 2^32
--- lines.
+-- The counts leave room for this many more lines, each of fewer than 2^64 words.
 pub record HasRoom (lines : ℕ) (spot : LocationCounter) : Type 0 where
   pub text : spot.text + lines * 2 ^ 64 ≤ 2 ^ 96 - 2 ^ 64
   pub inner : spot.inner + lines * 2 ^ 64 ≤ 2 ^ 96 - 2 ^ 64
   pub outer : spot.outer + lines * 2 ^ 64 ≤ 2 ^ 96 - 2 ^ 64
 
--- The place of the next line is at most 2^64 words further in each section.
+-- The place `after` is at most 2^64 words further in each section than `spot`.
 pub record IsNear (spot after : LocationCounter) : Type 0 where
   pub text : after.text ≤ spot.text + 2 ^ 64
   pub inner : after.inner ≤ spot.inner + 2 ^ 64

@@ -25,19 +25,19 @@ balance_plus a b = record { up = a.up + b.up; down = a.down + b.down }
 abbrev pub turned : Balance → Balance
 turned b = record { up = b.down; down = b.up }
 
--- the integer is 0
+-- whether the integer is 0
 abbrev pub is_zero : Balance → Bool
 is_zero b = nat_eq b.up b.down
 
--- the integer is 1
+-- whether the integer is 1
 abbrev pub is_one : Balance → Bool
 is_one b = nat_lt b.down b.up && nat_eq (b.up - b.down) 1
 
--- whether the number is from -`low` to `high`
+-- whether the integer is from -`low` to `high`
 abbrev pub is_within : ℕ → ℕ → Balance → Bool
 is_within low high b = nat_le (b.down - b.up) low && nat_le (b.up - b.down) high
 
--- the number modulo another, modulo 2^18, and modulo 2^15
+-- the integer modulo m
 abbrev pub balance_modulo : ℕ → Balance → ℕ
 balance_modulo m b = (b.up % m + (m - b.down % m)) % m
 
@@ -49,7 +49,7 @@ half_of b = balance_modulo (2 ^ 18) b
 unfoldable pub offset_of : Balance → ℕ
 offset_of b = balance_modulo (2 ^ 15) b
 
--- the same number, with the lesser of `up` and `down` reduced to 0
+-- the same integer, with the lesser of `up` and `down` reduced to 0
 abbrev pub normalized : Balance → Balance
 normalized b = record { up = b.up - b.down; down = b.down - b.up }
 
@@ -70,11 +70,11 @@ absolute n =
 abbrev pub no_sum : Sum
 no_sum = absolute 0
 
--- the sum of the symbol of a refused `equ`; what depends on it is unknown too
+-- the sum of the symbol of a refused `equ`; a sum that depends on it is unknown too
 abbrev pub unknown_sum : Sum
 unknown_sum = record no_sum { unknown = true }
 
--- two sums together
+-- the sum of two sums
 unfoldable pub sum_plus : Sum → Sum → Sum
 sum_plus a b =
     record {
@@ -96,7 +96,8 @@ sum_turned a =
       unknown = a.unknown;
     }
 
--- A sum is a number, a place of a section, or something that an object cannot express.
+-- What a sum is: a number, if no section counts in it; a place of a section, if this counts once
+-- and no other; and otherwise something that an object cannot express.
 unfoldable pub kind_of : Sum → Kind
 kind_of s =
     if is_zero s.text && is_zero s.inner && is_zero s.outer
@@ -109,7 +110,7 @@ kind_of s =
 
 -- ---- bounds of sums
 
--- Each part of the sum is at most this.
+-- Each part of the sum is at most `most`.
 pub record IsAtMost (most : ℕ) (s : Sum) : Type 0 where
   pub value_up : s.value.up ≤ most
   pub value_down : s.value.down ≤ most
@@ -120,7 +121,7 @@ pub record IsAtMost (most : ℕ) (s : Sum) : Type 0 where
   pub outer_up : s.outer.up ≤ most
   pub outer_down : s.outer.down ≤ most
 
--- Each part of a term is less than 2^96, since fewer than 2^32 lines place fewer than 2^64 words
--- each.
+-- Each part of the sum of one term is less than 2^96, since fewer than 2^32 lines place fewer than
+-- 2^64 words each.
 abbrev pub IsTerm : Sum → Type 0
 IsTerm s = IsAtMost (2 ^ 96 - 1) s

@@ -2,8 +2,9 @@
 use Rattle.std.specs.Prelude.{ℕ, Bool, Option}
 use Rattle.alm_lines.specs.declared.sum.Kind.{Kind}
 
--- The value modulo 2^18 and modulo 2^15, the first symbol that is not defined, the kind, which
--- fields it fits, and whether it is unknown.
+-- The fields of `Value`: the value modulo 2^18 (`half`) and modulo 2^15 (`offset`), the index of
+-- the first symbol that is not defined, the kind, which fields it fits, and whether it depends on a
+-- refused `equ`.
 pub record ValueFields : Type 0 where
   pub half : ℕ
   pub undefined : Option ℕ

@@ -44,7 +44,7 @@ abbrev pub is_value : ValueField → Bool → ValueFields → Bool
 is_value room may_move value =
     not (is_some value.undefined) && not value.unknown && value_is_expressible room may_move value
 
--- the refusal of an expression with this value
+-- the refusal of an expression that begins at `place` and has this value
 abbrev pub value_refused : Line36 → ValueFields → ℕ → ValueField → Bool → Option AlmRefusal
 value_refused line value place room may_move =
     refusal_by line value.undefined place (value.unknown || value_is_expressible room may_move value)

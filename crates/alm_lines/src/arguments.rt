@@ -106,6 +106,7 @@ pub fn words_of_args(alloc: Global, args: &[Arg]) -> Result<Words, NoMemory>
     Ok(words)
 }
 
+// The section with this name after `use`; the text if there is none.
 fn section_named(bytes: &[u8]) -> Section
     ensures { result ≡ section_named bytes.now }
 {

@@ -24,6 +24,7 @@ pub fn symbol_sum(text: &[u8], symbols: &Symbols, span: Span) -> Sum
     }
 }
 
+// The sum of a term without its sign. A symbol that is not defined counts as 0.
 fn atom_sum(text: &[u8], symbols: &Symbols, spot: LocationCounter, span: Span, atom: Atom) -> Sum
     ensures value { result ≡ atom_sum text.now symbols.now spot span atom }
     ensures small { IsTerm result }
@@ -35,6 +36,7 @@ fn atom_sum(text: &[u8], symbols: &Symbols, spot: LocationCounter, span: Span, a
     }
 }
 
+// The sum of a term. A symbol that is not defined counts as 0.
 #[tactic(auto, unfolding(crate::specs::Expressions::term_sum))]
 fn term_sum(text: &[u8], symbols: &Symbols, spot: LocationCounter, term: Term) -> Sum
     ensures value { result ≡ term_sum text.now symbols.now spot term }
@@ -67,6 +69,7 @@ pub fn is_defined(text: &[u8], symbols: &Symbols, span: Span) -> bool
     symbols.find(&name_at(text, span)).is_some()
 }
 
+// Whether a term is a symbol that is not defined.
 #[tactic(auto, unfolding(crate::specs::Expressions::is_undefined))]
 fn is_undefined(text: &[u8], symbols: &Symbols, term: &Term) -> bool
     ensures { result ≡ is_undefined text.now symbols.now term.now }

@@ -28,6 +28,7 @@ use m36_text::HashSeed;
 use m36_word::NoMemory;
 use std::alloc::Global;
 
+// The refusal (E5) of a symbol that is defined already.
 #[tactic(auto, unfolding(crate::specs::Layout::redefinition))]
 fn redefinition(text: &[u8], line: &Line36, symbols: &Symbols, span: Span) -> Option<AlmRefusal>
     ensures { result ≡ redefinition text.now line.now symbols.now span }
@@ -73,6 +74,7 @@ fn define_labels(
     Ok(first)
 }
 
+// The symbol that an operation defines: the first argument of `equ` and `bss`.
 fn own_symbol(deed: LineEffect, args: &[Arg]) -> Option<Span>
     ensures { result ≡ own_symbol deed args.now }
 {
@@ -90,6 +92,7 @@ fn own_symbol(deed: LineEffect, args: &[Arg]) -> Option<Span>
     }
 }
 
+// The refusal of an `equ` whose expression is not a number by the symbols above.
 fn value_refusal(
     text: &[u8],
     symbols: &Symbols,
@@ -107,6 +110,7 @@ fn value_refusal(
     expression_refusal(text, symbols, spot, line, terms, wanted)
 }
 
+// The sum that is the number of this sum, and not a place of a section.
 #[tactic(auto, using(crate::proofs::SumLaws::number_small))]
 fn number_of(sum: Sum) -> Sum
     requires { has_room Half sum.value ≡ true }
@@ -122,6 +126,8 @@ fn number_of(sum: Sum) -> Sum
     }
 }
 
+// The sum of the symbol of an `equ`: the number of its expression; unknown if it is refused or
+// depends on an unknown one.
 #[tactic(auto, using(crate::proofs::SumLaws::valued_fits), unfolding(crate::specs::Layout::value_of))]
 fn value_of(text: &[u8], symbols: &Symbols, spot: LocationCounter, line: &Line36) -> Sum
     ensures value { result ≡ value_of text.now symbols.now spot line.now }
@@ -134,6 +140,8 @@ fn value_of(text: &[u8], symbols: &Symbols, spot: LocationCounter, line: &Line36
     number_of(sum_of(text, symbols, spot, terms))
 }
 
+// The refusal of the value of the symbol that an operation defines: that of the expression of an
+// `equ`.
 fn own_refusal(
     text: &[u8],
     symbols: &Symbols,
@@ -158,6 +166,8 @@ fn own_refusal(
     }
 }
 
+// The sum of the symbol that an operation defines: the number of an `equ`, or the place of the
+// line.
 fn own_sum(
     text: &[u8],
     symbols: &Symbols,
@@ -183,6 +193,7 @@ fn own_sum(
     }
 }
 
+// The refusal of the symbol that an operation defines, if it is defined already.
 fn own_redefinition(
     text: &[u8],
     line: &Line36,
@@ -213,6 +224,8 @@ fn define_own(
     }
 }
 
+// The refusal of the symbol that the operation of a line defines: it is defined already, or its
+// value is refused.
 #[tactic(auto, unfolding(crate::specs::Layout::refused_with))]
 fn refused_with(
     text: &[u8],
@@ -243,6 +256,8 @@ fn define_with(
     define_own(text, symbols, own_symbol(deed, line.args.items()), sum)
 }
 
+// The refusal (E8) of a section with more words than it may have, at the line that makes it too
+// long.
 #[tactic(auto, unfolding(crate::specs::Layout::over))]
 fn over(line: &Line36, spot: LocationCounter) -> Option<AlmRefusal>
     ensures { result ≡ over line.now spot }
@@ -254,6 +269,8 @@ fn over(line: &Line36, spot: LocationCounter) -> Option<AlmRefusal>
     }
 }
 
+// Defines the symbols of a line. Returns the first in the text of `refused`, the refusals of these
+// symbols, and that of a section that the line makes too long.
 #[tactic(auto, unfolding(crate::specs::Layout::symbols_after, crate::specs::Layout::refused_after))]
 fn take_line(
     alloc: Global,

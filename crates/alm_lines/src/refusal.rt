@@ -47,6 +47,7 @@ pub enum ValueField {
     Offset,
 }
 
+// The number of a code, by which refusals at one place are ordered.
 fn code_number(code: AlmCode) -> u8
     ensures { result ≡ code_number code }
 {
@@ -58,6 +59,7 @@ fn code_number(code: AlmCode) -> u8
     }
 }
 
+// Whether a refusal is earlier in the text than another, or at the same place with a lesser code.
 #[tactic(auto, unfolding(crate::specs::Refusals::precedes))]
 fn precedes(a: AlmRefusal, b: AlmRefusal) -> bool
     ensures { result ≡ precedes a b }
@@ -88,6 +90,7 @@ pub fn refusal_at(line: &Line36, place: u64, code: AlmCode) -> AlmRefusal
     }
 }
 
+// The column of a refusal, counted from 1.
 fn column_of(refusal: AlmRefusal) -> u32
     ensures { result ≡ column_of refusal }
 {
@@ -95,6 +98,7 @@ fn column_of(refusal: AlmRefusal) -> u32
     ((column + 1) % (1 << 32)) as u32
 }
 
+// The fault with this code at a line and a column.
 fn fault_by(code: AlmCode, line: u32, column: u32) -> AlmFault
     ensures { result ≡ fault_by code line column }
 {
@@ -124,6 +128,8 @@ pub fn has_room(room: ValueField, value: Balance) -> bool
     }
 }
 
+// Whether an object can express a sum of this kind. `may_move` says whether the field may have a
+// place of a section.
 pub(crate) fn is_kind_allowed(may_move: bool, kind: Kind) -> bool
     ensures { result ≡ is_kind_allowed may_move kind }
 {
@@ -143,6 +149,8 @@ pub fn is_expressible(room: ValueField, may_move: bool, sum: Sum) -> bool
     has_room(room, sum.value) && is_kind_allowed(may_move, sum.kind())
 }
 
+// The refusal of an expression that begins at `place`: E6 at `undefined`, its first symbol that is
+// not defined, if there is one; otherwise E7, unless `said`: an object can express its value.
 pub(crate) fn refusal_by(
     line: &Line36,
     undefined: Option<u32>,

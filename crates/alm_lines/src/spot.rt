@@ -226,7 +226,8 @@ fn grown_by(
     Ok(spot.grown(size))
 }
 
-// The place of the next line, if a line selects a section, or if its words must be counted.
+// The place of the next line, for an operation that is no instruction. Not inlined, since most
+// lines are instructions.
 #[inline(never)]
 fn next_line_other(
     alloc: Global,

@@ -63,6 +63,7 @@ impl Model for Value {
     } };
 }
 
+// The value of a sum. `undefined` is the index in the text of the first symbol that is not defined.
 fn value_by(sum: Sum, undefined: Option<u32>) -> Value
     ensures { result ≡ value_by sum undefined }
 {
@@ -141,7 +142,8 @@ fn seek_term(text: &[u8], symbols: &Symbols, spot: LocationCounter, term: Term) 
     }
 }
 
-// Most expressions have one term. A symbol in it is looked up once.
+// The sum of an expression, and its first symbol that is not defined. Most expressions have one
+// term, so a symbol in it is looked up only once.
 fn seek(text: &[u8], symbols: &Symbols, spot: LocationCounter, terms: &[Term]) -> Sought
     requires { length terms.now ≤ 2 ^ 32 }
     ensures sum { result.sum ≡ sum_of text.now symbols.now spot terms.now }
@@ -182,6 +184,7 @@ pub fn no_value() -> Value
     }
 }
 
+// Whether a value fits a field.
 fn fits(room: ValueField, value: Value) -> bool
     ensures { result ≡ fits room value }
 {
@@ -191,20 +194,22 @@ fn fits(room: ValueField, value: Value) -> bool
     }
 }
 
+// Whether a value fits a field and an object can express it there.
 fn value_is_expressible(room: ValueField, may_move: bool, value: Value) -> bool
     ensures { result ≡ value_is_expressible room may_move value }
 {
     fits(room, value) && is_kind_allowed(may_move, value.kind)
 }
 
+// Whether an expression with this value is not refused, and does not depend on a refused `equ`.
 fn is_value(room: ValueField, may_move: bool, value: Value) -> bool
     ensures { result ≡ is_value room may_move value }
 {
     value.undefined.is_none() && !value.unknown && value_is_expressible(room, may_move, value)
 }
 
-/// Whether an expression has a value: it is not refused, and it does not depend on a refused `equ`.
-/// `value` is what `evaluate` returned for it.
+/// As `has_value`, if `value` is what `evaluate` returned for the expression: whether it is not
+/// refused, and does not depend on a refused `equ`.
 #[tactic(auto, using(crate::proofs::ValueLaws::value_given))]
 pub fn is_valued(
     _text: &[u8],
@@ -229,7 +234,7 @@ fn refused_by(line: &Line36, value: Value, wanted: Requirement) -> Option<AlmRef
     refusal_by(line, value.undefined, wanted.place, said)
 }
 
-/// The refusal of an expression. `value` is what `evaluate` returned for it.
+/// As `expression_refusal`, if `value` is what `evaluate` returned for the expression.
 #[tactic(auto, using(crate::proofs::ValueLaws::refused_given))]
 pub fn value_refused(
     _text: &[u8],
@@ -248,7 +253,7 @@ pub fn value_refused(
     refused_by(line, value, wanted)
 }
 
-/// What the sum of an expression is. `value` is what `evaluate` returned for it.
+/// The kind of the sum of an expression, if `value` is what `evaluate` returned for it.
 #[tactic(auto, using(crate::proofs::ValueLaws::kind_given))]
 pub fn kind_valued(
     _text: &[u8],

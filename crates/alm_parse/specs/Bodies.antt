@@ -24,7 +24,8 @@ use Rattle.alm_tokens.specs.Bytes.{is_sign}
 unfoldable pub place_of : List ℕ → Span → ℕ → Option ℕ
 place_of text span byte = first_in (λ b. b == byte) text span
 
--- the index of a byte in the text, given that in its span; the end of the span if there is none
+-- the index in the text after the first bytes of a span, given the index in the span of the byte
+-- that ends them; without one it is the end of the span
 abbrev pub end_by : Option ℕ → ℕ → ℕ → ℕ
 end_by (Some i) from count = from + i
 end_by None from count = from + count
@@ -35,7 +36,8 @@ symbol_end text span =
     end_by (position (λ b. not (is_name_character b)) (slice_of text span)) span.from
     (length (slice_of text span))
 
--- an external operand, given the indexes of the dollar sign and of the end of the entry
+-- An external operand: the segment up to the dollar sign, the entry after it up to `end`, and the
+-- rest.
 abbrev pub external_by : Span → ℕ → ℕ → Body
 external_by whole dollar end =
     External (span_at whole.from dollar) (span_at (dollar + 1) end) (span_at end whole.to)
@@ -59,7 +61,7 @@ body_by text whole None = body_without_bar text whole (place_of text whole 36)
 unfoldable pub body_of : List ℕ → Span → Body
 body_of text whole = body_by text whole (place_of text whole 124)
 
--- the section with a name, among those that a source can name
+-- the section of a name, given the names of sections; only text, linkage and static are looked for
 abbrev pub section_by : (Section → List ℕ) → List ℕ → Option Section
 section_by named name =
     if is_text (named Text) name
@@ -72,15 +74,15 @@ section_by named name =
 unfoldable pub own_section : List ℕ → Option Section
 own_section name = section_by own_name name
 
--- whether this can be the segment of an external operand
+-- whether a text can be the segment of an external operand
 abbrev pub is_segment : List ℕ → Bool
 is_segment bytes = is_symbol bytes || is_some (own_section bytes)
 
--- whether this can be the entry of an external operand: a symbol, or nothing
+-- whether a text can be the entry of an external operand: a symbol, or nothing
 abbrev pub is_entry : List ℕ → Bool
 is_entry bytes = (length bytes == 0) || is_symbol bytes
 
--- whether this can follow the entry: a sign and more, or nothing
+-- whether a text can follow the entry of an external operand: a sign and more, or nothing
 abbrev pub is_tail : List ℕ → Bool
 is_tail bytes = (length bytes == 0) || is_sign (slice_index bytes 0)
 

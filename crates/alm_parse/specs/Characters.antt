@@ -13,7 +13,7 @@ use Rattle.alm_tokens.specs.Bytes.{is_blank, begins_comment, is_character}
 use Rattle.alm_tokens.specs.Tokens.{slice_of, span_at, first_in}
 use Rattle.alm_parse.specs.Bodies.{place_of}
 
--- A character has nine bits. Zeros follow the last one.
+-- The words of characters, four in each word with nine bits each. Zeros follow the last character.
 unfoldable pub packed : List ℕ → List ℕ
 packed [] = []
 packed (a ∷ []) = of_quarters a 0 0 0 ∷ []
@@ -33,12 +33,12 @@ first_word bytes =
     of_quarters (slice_index bytes 0) (slice_index bytes 1) (slice_index bytes 2)
     (slice_index bytes 3)
 
--- whether the first byte that is not blank, if there is one, begins a comment
+-- whether the first byte that is not blank begins a comment, or there is no such byte
 abbrev pub ended_by : Option ℕ → Bool
 ended_by None = true
 ended_by (Some b) = begins_comment b
 
--- whether only blanks, and perhaps a comment, are after the closing delimiter
+-- whether a text has only blanks, and perhaps a comment, as it must after the closing delimiter
 abbrev pub is_ended : List ℕ → Bool
 is_ended bytes = ended_by (find (λ b. not (is_blank b)) bytes)
 
@@ -51,25 +51,28 @@ abbrev pub characters_by : List ℕ → Span → Option ℕ → Result (List Arg
 characters_by text span (Some place) = Err (record { place = place; code = E1 })
 characters_by text span None = Ok (Chars (packed (slice_of text span)) ∷ [])
 
--- the characters, or the refusal of the operand if more text is after the closing delimiter
+-- The characters in `span`, or E2 at the operand `rest` unless only blanks or a comment are after
+-- the closing delimiter, which the last argument says.
 abbrev pub characters_ended : List ℕ → Span → Span → Bool → Result (List Arg) ParseRefusal
 characters_ended text rest span true = characters_by text span (place_bad text span)
 characters_ended text rest span false = Err (record { place = rest.from; code = E2 })
 
--- the characters, or E2 at the operand if there is no closing delimiter
+-- The characters, given the index of the closing delimiter, or E2 at the operand `rest` if there is
+-- none.
 abbrev pub characters_closed : List ℕ → Span → Option ℕ → Result (List Arg) ParseRefusal
 characters_closed text rest (Some close) =
     characters_ended text rest (span_at (rest.from + 1) close)
     (is_ended (slice_of text (span_at (close + 1) rest.to)))
 characters_closed text rest None = Err (record { place = rest.from; code = E2 })
 
--- The delimiter is the first byte of the operand.
+-- The characters between two bytes that are `delimiter`, the first of which begins the operand, or
+-- E1 if this byte cannot be a delimiter.
 abbrev pub characters_from : List ℕ → Span → ℕ → Result (List Arg) ParseRefusal
 characters_from text rest delimiter =
     if is_character delimiter
     then characters_closed text rest (place_of text (span_at (rest.from + 1) rest.to) delimiter)
     else Err (record { place = rest.from; code = E1 })
 
--- the argument of an `aci` line
+-- The argument of an `aci` line, or its refusal. The operand begins with the delimiter.
 unfoldable pub parse_characters : List ℕ → Span → Result (List Arg) ParseRefusal
 parse_characters text rest = characters_from text rest (slice_index text rest.from)

@@ -56,8 +56,8 @@ args_with Block text operand = parse_block text operand
 args_with Bare text operand = Err (refusal_at_token text operand.from E2)
 args_with End text operand = Ok []
 
--- the operand of an operation in the text after it; for characters, a quotation mark can be a part
--- of it
+-- The operand of an operation in the text after it. That of `aci` extends to the end of the line,
+-- and can have quotation marks.
 abbrev pub operand_for : Operation → List ℕ → Span → Option Span
 operand_for Instruction text rest = operand_in text rest
 operand_for Names text rest = operand_in text rest
@@ -84,8 +84,8 @@ args_of operation text op rest = args_by operation text op (operand_for operatio
 abbrev pub is_no_symbol : List ℕ → Span → Bool
 is_no_symbol text span = not (is_symbol (slice_of text span))
 
--- the refusal of the first label that is not a symbol: E2, or E1 if it begins with a byte that no
--- source can have
+-- The refusal of the first label that is not a symbol: E2, or E1 if it begins with a byte that no
+-- source can have. `marks` are the labels.
 unfoldable pub label_refusal : List ℕ → List Span → Option ParseRefusal
 label_refusal text marks =
     option_map (λ mark. refusal_at_token text mark.from E2) (find (is_no_symbol text) marks)
@@ -123,7 +123,7 @@ abbrev pub line_unless : Option ParseRefusal → List ℕ → Row → Head → R
 line_unless (Some refusal) text row head = Err refusal
 line_unless None text row head = line_from text row head head.op
 
--- the line with this head, or its refusal
+-- the line with these labels and this operation, or its refusal
 abbrev pub line_headed : List ℕ → Row → Head → Result Line36 ParseRefusal
 line_headed text row head = line_unless (label_refusal text head.labels) text row head
 

@@ -20,7 +20,8 @@ use Rattle.m36_text.specs.Results.{unless}
 use Rattle.alm_parse.specs.Refusals.{refusal_at_token, refused}
 use Rattle.alm_parse.specs.Bodies.{section_by}
 
--- An operand of two members, parsed by `read`. An operand with fewer or more members is refused.
+-- The arguments of an operand of two members, parsed by `read`. An operand with fewer or more
+-- members is refused at the index `at` of the operand.
 abbrev pub by_two :
     (TextPiece → TextPiece → Result (List Arg) ParseRefusal) → List ℕ → ℕ → List TextPiece
     → Result (List Arg) ParseRefusal

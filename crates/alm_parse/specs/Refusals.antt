@@ -27,11 +27,12 @@ Reads (Ok value) definition = definition ≡ Ok value
 Reads (Err (Refused refusal)) definition = definition ≡ Err refusal
 Reads (Err NoMemory) definition = ⊤
 
--- The place of a refusal is that of a byte of the text, which has `count` bytes.
+-- the place of a refusal is that of a byte of the text, which has `count` bytes
 abbrev pub IsInside : ℕ → ParseRefusal → Type 0
 IsInside count refusal = refusal.place < count
 
--- the same for a halt, if it is a refusal
+-- If the parser stopped with a refusal, its place is that of a byte of the text, which has `count`
+-- bytes.
 abbrev pub HaltsInside : ℕ → ParseError → Type 0
 HaltsInside count (Refused refusal) = IsInside count refusal
 HaltsInside count NoMemory = ⊤

@@ -32,13 +32,13 @@ fault_by code.E4 line column = E4 line column
 abbrev pub fault_of : Row → ParseRefusal → AlmFault
 fault_of row refusal = fault_by refusal.code row.number (column_at row.span.from refusal.place)
 
--- Text after the operation `end` is ignored.
+-- whether the operation of a line is `end`, after which the text is ignored
 abbrev pub names_end : List ℕ → Option Span → Bool
 names_end text (Some op) = is_text end_name (slice_of text op)
 names_end text None = false
 
--- A line is parsed, or refuses the source. The lines after it, unless it is the last, are parsed by
--- `further`.
+-- The lines of a source, given what parsing the line `row` yielded. If it is refused, so is the
+-- source. It is the last if its operation is `end`; otherwise `further` parses the lines after it.
 abbrev pub continued : List ℕ → Row → List Line36 → (List Line36 → Result (List Line36) AlmFault)
     → Result Line36 ParseRefusal → Result (List Line36) AlmFault
 continued text row before further (Ok line) =
@@ -51,11 +51,11 @@ read_lines text before [] = Ok before
 read_lines text before (row ∷ rows) =
     continued text row before (λ more. read_lines text more rows) (parse_line text row)
 
--- the source with these lines
+-- the source with these lines and this text, or the fault
 abbrev pub with_text : List ℕ → Result (List Line36) AlmFault → Result Source AlmFault
 with_text text read = and_then read (λ lines. Ok (record { text = text; lines = lines }))
 
--- the lines of a text, or its first refusal
+-- the source that a text is, with its lines, or its first refusal
 unfoldable pub parsed : List ℕ → Result Source AlmFault
 parsed text = with_text text (read_lines text [] (rows_of text))
 

@@ -8,17 +8,18 @@ use Rattle.alm_parse.specs.declared.args.Arg.TheVariants.{Symbol, Number, Chars,
 use Rattle.alm_parse.specs.declared.line.Line36.{Line36}
 use Rattle.alm_tokens.specs.Expressions.{IsSmall}
 
--- a span is within the text, and does not end before it begins
+-- A span is within the text, which has `count` bytes, and does not end before it begins.
 pub record IsSpan (count : ℕ) (span : Span) : Type 0 where
   pub ordered : span.from ≤ span.to
   pub inside : span.to ≤ count
 
--- a term is within the text, and a number in it is within its range
+-- A term is within the text, and a number in it is within its range.
 pub record TermIn (count : ℕ) (term : Term) : Type 0 where
   pub place : IsSpan count term.span
   pub number : IsSmall term.what
 
--- There are eight pointer registers, and a tag has six bits.
+-- The parts of the operand of an instruction are within the text and their ranges. There are eight
+-- pointer registers, and a tag has six bits.
 pub record OperandIn (count : ℕ) (register : Option ℕ) (seg name : Option Span)
     (parts : List Term) (modifier : ℕ) : Type 0 where
   pub pointer : IfSome register (λ n. n < 8)

@@ -96,7 +96,7 @@ fn with(mut args: Args, arg: Arg) -> Result<Args, NoMemory>
     }
 }
 
-// A list of one argument, with room for exactly `room` arguments.
+// A list of one argument, with memory for exactly `room` arguments.
 fn begun(alloc: Global, room: usize, arg: Arg) -> Result<Args, NoMemory>
     ensures { IfOk result (λ args. args ≡ arg ∷ []) }
 {

@@ -61,6 +61,8 @@ fn symbol_end(text: &[u8], span: Span) -> u32
     }
 }
 
+// Divides an operand with a dollar sign at the index `dollar` into its segment, its entry and the
+// text after the entry.
 fn external(text: &[u8], whole: Span, dollar: u32) -> Body
     requires text { length text.now < 2 ^ 32 }
     requires dollar { dollar < length text.now }
@@ -138,18 +140,21 @@ pub fn own_section(text: &[u8], segment: Span) -> Option<Section>
     section_named(bytes_of(text, segment))
 }
 
+// Whether a text can be the segment of an external operand: a symbol, or a section such as `*text`.
 fn is_segment(bytes: &[u8]) -> bool
     ensures { result ≡ is_segment bytes.now }
 {
     is_symbol(bytes) || section_named(bytes).is_some()
 }
 
+// Whether a text can be the entry of an external operand: a symbol, or nothing.
 fn is_entry(bytes: &[u8]) -> bool
     ensures { result ≡ is_entry bytes.now }
 {
     bytes.is_empty() || is_symbol(bytes)
 }
 
+// Whether a text can follow the entry of an external operand: a sign and more, or nothing.
 fn is_tail(bytes: &[u8]) -> bool
     ensures { result ≡ is_tail bytes.now }
 {
@@ -171,6 +176,7 @@ pub fn is_body(text: &[u8], body: Body) -> bool
     }
 }
 
+// The terms after the entry of an external operand, as pieces. The sign belongs to the first.
 #[tactic(auto, unfolding(crate::specs::Bodies::tail_pieces))]
 fn tail_pieces(alloc: Global, text: &[u8], tail: Span) -> Result<Pieces, NoMemory>
     requires { length text.now < 2 ^ 32 }

@@ -56,6 +56,7 @@ fn after_four(bytes: &[u8]) -> &[u8]
     }
 }
 
+// The words of characters, four in each word with nine bits each. Zeros follow the last character.
 #[tactic(auto, using(crate::proofs::Packed::packed_none))]
 fn packed(alloc: Global, bytes: &[u8]) -> Result<Words, NoMemory>
     ensures { IfOk result (λ words. words ≡ packed bytes.now) }
@@ -76,6 +77,7 @@ fn first_no_blank(bytes: &[u8]) -> Option<&u8>
     bytes.iter().find(|b| !is_blank(**b))
 }
 
+// Whether a text has only blanks, and perhaps a comment, as it must after the closing delimiter.
 fn is_ended(bytes: &[u8]) -> bool
     ensures { result ≡ is_ended bytes.now }
 {
@@ -93,6 +95,7 @@ fn first_no_character(bytes: &[u8]) -> Option<usize>
     bytes.iter().position(|b| !is_character(*b))
 }
 
+// The index in the text of the first byte of a span that cannot be placed.
 #[tactic(auto, unfolding(crate::specs::Characters::place_bad))]
 fn place_bad(text: &[u8], span: Span) -> Option<u32>
     requires { length text.now < 2 ^ 32 }

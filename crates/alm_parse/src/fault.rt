@@ -53,6 +53,7 @@ impl From<NoMemory> for AlmFault {
     }
 }
 
+// The fault with this code at a line and a column, both counted from 1.
 fn fault_by(code: ParseCode, line: u32, column: u32) -> AlmFault
     ensures { result ≡ fault_by code line column }
 {

@@ -25,7 +25,8 @@ use alm_tokens::span::{Span, bytes_of};
 use alm_tokens::tokens::is_symbol;
 use std::alloc::Global;
 
-// The refusal of an operation that lacks its operand, if it must have one.
+// The refusal of an operation that lacks its operand, if it must have one. `at` is the index of the
+// operation.
 fn missing(operation: Operation, at: u32) -> Option<ParseRefusal>
     ensures value { result ≡ missing operation at }
     ensures place { IfSome result (λ refusal. refusal.place ≡ at) }
@@ -46,6 +47,7 @@ fn missing(operation: Operation, at: u32) -> Option<ParseRefusal>
     }
 }
 
+// Parses the operand of an operation, by the kind that the operation has.
 fn args_with(
     alloc: Global,
     operation: Operation,
@@ -76,6 +78,7 @@ fn args_with(
     }
 }
 
+// The operand of an operation, in the text after it in its line. None if there is none.
 fn operand_for(operation: Operation, text: &[u8], rest: Span) -> Option<Span>
     requires { length text.now < 2 ^ 32 }
     ensures value { result ≡ operand_for operation text.now rest }
@@ -87,8 +90,8 @@ fn operand_for(operation: Operation, text: &[u8], rest: Span) -> Option<Span>
     }
 }
 
-/// The arguments of an operation. It begins at the index `op`, and `rest` is the text after it in
-/// its line.
+// The arguments of an operation. It begins at the index `op`, and `rest` is the text after it in
+// its line.
 #[tactic(auto, unfolding(crate::specs::Lines::args_of))]
 fn args_of(
     alloc: Global,
@@ -111,13 +114,14 @@ fn args_of(
     }
 }
 
+// Whether a label is not a symbol.
 fn is_no_symbol(text: &[u8], span: Span) -> bool
     ensures { result ≡ is_no_symbol text.now span }
 {
     !is_symbol(bytes_of(text, span))
 }
 
-/// The refusal of the first label that is not a symbol.
+// The refusal of the first label that is not a symbol.
 #[tactic(auto, using(crate::proofs::Inside::mark_inside), unfolding(crate::specs::Lines::label_refusal))]
 fn label_refusal(text: &[u8], labels: &[Span]) -> Option<ParseRefusal>
     requires { All (IsMark (length text.now)) labels.now }
@@ -130,6 +134,7 @@ fn label_refusal(text: &[u8], labels: &[Span]) -> Option<ParseRefusal>
     }
 }
 
+// The line with these labels, this operation, and these arguments and effect.
 fn line_of(text: &[u8], row: Row, head: Head, given: Given) -> Line36
     requires { given.deed ≡ deed_of text.now head.op }
     ensures { result ≡ line_of text.now row head given.args }
@@ -146,7 +151,7 @@ fn line_of(text: &[u8], row: Row, head: Head, given: Given) -> Line36
     }
 }
 
-/// The arguments of the operation of a line, and its effect.
+// The arguments of the operation of a line, and its effect.
 #[derive(Drop)]
 struct Given {
     args: Args,

@@ -15,6 +15,7 @@ use alm_tokens::numerals::Numeral;
 use alm_tokens::span::{Span, bytes_of};
 use std::alloc::Global;
 
+// The operand without its modifier, given the index of the comma.
 fn body_span(operand: Span, comma: Option<u32>) -> Span
     ensures { result ≡ body_span operand comma }
 {
@@ -27,8 +28,8 @@ fn body_span(operand: Span, comma: Option<u32>) -> Span
     }
 }
 
-// The tag of the modifier after the comma, and 0 if there is no comma. None if the modifier is not
-// one.
+// The tag of the modifier after the comma, and 0 if there is no comma. None if no modifier has this
+// text.
 fn tag_given(text: &[u8], operand: Span, comma: Option<u32>) -> Option<u8>
     requires text { length text.now < 2 ^ 32 }
     requires comma { IfSome comma (λ i. i < length text.now) }
@@ -47,6 +48,7 @@ fn tag_given(text: &[u8], operand: Span, comma: Option<u32>) -> Option<u8>
     }
 }
 
+// The entry of an external operand. None if it is empty.
 fn entry_given(text: &[u8], span: Span) -> Option<Span>
     ensures { result ≡ entry_given text.now span }
 {
@@ -57,6 +59,7 @@ fn entry_given(text: &[u8], span: Span) -> Option<Span>
     }
 }
 
+// The argument of an operand with these parts, this expression and this tag.
 fn operand_of(text: &[u8], body: Body, expr: Expr, tag: u8) -> Arg
     ensures { result ≡ operand_of text.now body expr tag }
 {

@@ -15,7 +15,7 @@ use m36_word::NoMemory;
 use std::alloc::Global;
 use std::marker::Model;
 
-/// A list of lines that grows at its end.
+// A list of lines that grows at its end.
 #[derive(Drop)]
 struct Lines {
     items: Vec<Line36>,
@@ -31,6 +31,7 @@ impl Model for Lines {
 }
 
 impl Lines {
+    // An empty list.
     fn new(alloc: Global) -> Lines
         ensures { result ≡ [] }
     {
@@ -39,6 +40,7 @@ impl Lines {
         }
     }
 
+    // Adds a line at the end. If memory runs out, nothing changes.
     fn push(&mut self, x: Line36) -> Result<(), NoMemory>
         ensures ok { OnOk result (self.new ≡ self.old ++ x ∷ []) }
         ensures err { OnErr result (self.new ≡ self.old) }
@@ -47,6 +49,7 @@ impl Lines {
         Ok(())
     }
 
+    // The lines in order.
     fn items(&self) -> &[Line36]
         ensures { result.now ≡ self.now }
     {
@@ -91,6 +94,7 @@ impl Lines36 {
     }
 }
 
+// Whether the operation of a line is `end`, after which the text is ignored.
 fn names_end(text: &[u8], op: Option<Span>) -> bool
     ensures { result ≡ names_end text.now op }
 {
@@ -100,6 +104,7 @@ fn names_end(text: &[u8], op: Option<Span>) -> bool
     }
 }
 
+// The lines of a text, up to that of the operation `end`, or the first refusal.
 #[tactic(auto, using(crate::proofs::SourceLaws::read_all))]
 fn read_lines(alloc: Global, text: &[u8], rows: &[Row]) -> Result<Lines, AlmFault>
     requires { length text.now < 2 ^ 32 }

@@ -15,7 +15,7 @@ use Rattle.alm_tokens.specs.Pieces.{pieces_of, piece_at}
 abbrev pub is_here : List ℕ → Bool
 is_here bytes = is_text (codes "*") bytes
 
--- A term is a number, a symbol, or `*`.
+-- whether a text is a term: a number, a symbol, or `*`
 unfoldable pub is_term : List ℕ → Bool
 is_term bytes = is_here bytes || is_number bytes || is_symbol bytes
 
@@ -46,7 +46,7 @@ abbrev pub term_of : List ℕ → TextPiece → Term
 term_of text piece =
     record { what = atom_of (slice_of text piece.span); span = piece.span; minus = piece.minus }
 
--- a number in a term is within the limit
+-- A term that is a number is within the limit.
 abbrev pub IsSmall : Atom → Type 0
 IsSmall (Number n) = n ≤ most_number
 IsSmall Symbol = ⊤

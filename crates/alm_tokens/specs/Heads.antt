@@ -48,11 +48,12 @@ head_from marks from at (b ∷ rest) =
 unfoldable pub head_of : List ℕ → Span → Head
 head_of text line = head_from [] line.from line.from (slice_of text line)
 
--- The operand begins with the first byte that is not blank.
+-- the index of the first byte that is not blank, where the operand begins
 unfoldable pub operand_start : List ℕ → Span → Option ℕ
 operand_start text rest = first_in (λ b. not (is_blank b)) text rest
 
--- The operand ends after the last byte that is not blank and is before the comment.
+-- The index after the operand, which ends after the last byte that is not blank and is before the
+-- comment. `end` is the index after the last such byte so far, and `at` that of the next byte.
 unfoldable pub end_from : ℕ → ℕ → List ℕ → ℕ
 end_from end at [] = end
 end_from end at (b ∷ rest) =
@@ -62,7 +63,7 @@ end_from end at (b ∷ rest) =
 abbrev pub operand_end : List ℕ → Span → ℕ
 operand_end text rest = end_from rest.from rest.from (slice_of text rest)
 
--- the operand that begins at `from`, if there is one
+-- the operand, given the index where it begins, if there is one
 abbrev pub operand_by : List ℕ → Span → Option ℕ → Option Span
 operand_by text rest None = None
 operand_by text rest (Some from) = token from (operand_end text (span_at from rest.to))
@@ -71,13 +72,14 @@ operand_by text rest (Some from) = token from (operand_end text (span_at from re
 unfoldable pub operand_in : List ℕ → Span → Option Span
 operand_in text rest = operand_by text rest (operand_start text rest)
 
--- In the operand of delimited characters, a quotation mark begins a comment only directly after the
--- operation.
+-- The operand of delimited characters, given the index where it begins, if there is one. It extends
+-- to the end of the line, since a quotation mark in it does not begin a comment.
 abbrev pub delimited_by : Span → Option ℕ → Option Span
 delimited_by rest None = None
 delimited_by rest (Some from) = Some (span_at from rest.to)
 
--- the operand of delimited characters in the text after the operation, if there is one
+-- The operand of delimited characters in the text after the operation, if there is one. There is
+-- none if a comment begins directly after the operation.
 unfoldable pub delimited_in : List ℕ → Span → Option Span
 delimited_in text rest =
     if begins_comment (slice_index (slice_of text rest) 0)

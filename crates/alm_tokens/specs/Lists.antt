@@ -25,7 +25,7 @@ is_written_at numeral text member = is_written numeral (slice_of text member.spa
 abbrev pub is_out_of_range : Numeral → List ℕ → TextPiece → Bool
 is_out_of_range numeral text member = is_over (read_as numeral (slice_of text member.span))
 
--- the index of the first number that is out of its range
+-- the index where the first number begins that is out of its range
 unfoldable pub place_out : Numeral → List ℕ → List TextPiece → Option ℕ
 place_out numeral text pieces =
     option_map (λ member. member.span.from) (find (is_out_of_range numeral text) pieces)

@@ -24,7 +24,7 @@ number_beside [] bytes = None
 number_beside (row ∷ rows) bytes =
     if is_text row.name bytes then Some row.number else number_beside rows bytes
 
--- index registers: x0 to x7, or the digit alone
+-- a text without the `x` that may be at its beginning, as in the names of index registers
 abbrev pub after_x : List ℕ → List ℕ
 after_x [] = []
 after_x (b ∷ rest) = if b == 120 then rest else b ∷ rest
@@ -81,7 +81,7 @@ star_tag = 0x10
 abbrev pub first_tag : ℕ
 first_tag = 0x30
 
--- * and the tally modifiers
+-- the modifiers that are a name alone, `*` and the tally modifiers, with their tags
 abbrev pub single_tags : List NumberedName
 single_tags =
     numbered (codes "*") star_tag

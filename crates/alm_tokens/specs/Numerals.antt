@@ -18,7 +18,7 @@ abbrev pub unsigned : List ℕ → List ℕ
 unsigned [] = []
 unsigned (b ∷ rest) = if is_sign b then rest else b ∷ rest
 
--- 2^36 - 1
+-- the greatest number of a word, 2^36 - 1
 abbrev pub greatest_word : ℕ
 greatest_word = 68719476735
 
@@ -32,7 +32,7 @@ read_as Decimal bytes =
 read_as Octal bytes = number_read 8 bytes greatest_word
 read_as Small bytes = small_read bytes
 
--- whether there is no redundant leading zero; octal numbers may have them
+-- whether a number has no redundant leading zeros, if its notation forbids them
 abbrev pub has_its_zeros : Numeral → List ℕ → Bool
 has_its_zeros Decimal bytes = has_no_leading_zero (unsigned bytes)
 has_its_zeros Octal bytes = true
@@ -50,7 +50,7 @@ is_number bytes = is_written Small bytes
 abbrev pub signed_word : Bool → ℕ → ℕ
 signed_word negative magnitude = (if negative then 2 ^ 36 - magnitude else magnitude) % 2 ^ 36
 
--- the word of a number in this notation
+-- the word of a number in this notation; 0 if the text is no such number or it is out of range
 abbrev pub word_as : Numeral → List ℕ → ℕ
 word_as Decimal bytes = signed_word (is_negative bytes) (value_of (read_as Decimal bytes))
 word_as Octal bytes = signed_word false (value_of (read_as Octal bytes))

@@ -24,7 +24,7 @@ slice_of text span = take (span.to - span.from) (drop span.from text)
 abbrev pub first_in : (ℕ → Bool) → List ℕ → Span → Option ℕ
 first_in is_so text span = option_map (λ i. span.from + i) (position is_so (slice_of text span))
 
--- a symbol is a name that begins with a letter or _
+-- whether a text is a symbol: a name that begins with a letter or _
 unfoldable pub is_symbol : List ℕ → Bool
 is_symbol bytes = is_name bytes && begins_symbol (slice_index bytes 0)
 
@@ -34,13 +34,13 @@ has_digits (Ok v) = true
 has_digits (Err T2) = true
 has_digits (Err (T1 place)) = false
 
--- whether it is a number over the limit
+-- whether a text is a number over the limit, by the result of parsing it as a number
 abbrev pub is_over : Result ℕ NumberFault → Bool
 is_over (Ok v) = false
 is_over (Err T2) = true
 is_over (Err (T1 place)) = false
 
--- its number; 0 if it is none within the limit
+-- the number that parsing a text as a number yields; 0 if it yields none
 abbrev pub value_of : Result ℕ NumberFault → ℕ
 value_of read = result_unwrap_or read 0
 

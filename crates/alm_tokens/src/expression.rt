@@ -86,12 +86,14 @@ impl Expr {
     }
 }
 
+// Whether a term is `*`, the current place.
 fn is_here(bytes: &[u8]) -> bool
     ensures { result ≡ is_here bytes.now }
 {
     bytes == b"*".as_slice()
 }
 
+// Whether a text is a term: a number, a symbol, or `*`.
 #[tactic(auto, unfolding(crate::specs::Expressions::is_term))]
 fn is_term(bytes: &[u8]) -> bool
     ensures { result ≡ is_term bytes.now }
@@ -99,6 +101,7 @@ fn is_term(bytes: &[u8]) -> bool
     is_here(bytes) || is_number(bytes) || is_symbol(bytes)
 }
 
+// Whether a piece is a term.
 fn is_term_at(text: &[u8], piece: &TextPiece) -> bool
     ensures { result ≡ is_term_at text.now piece.now }
 {
@@ -112,7 +115,7 @@ pub fn are_terms(text: &[u8], pieces: &[TextPiece]) -> bool
     pieces.iter().all(|piece| is_term_at(text, piece))
 }
 
-// A minus at the beginning of an expression is not part of the first term, and negates it.
+// The piece of a whole expression without the minus at its beginning, which negates the first term.
 #[tactic(auto, unfolding(crate::specs::Expressions::signed_start))]
 fn signed_start(text: &[u8], whole: TextPiece) -> TextPiece
     requires { length text.now < 2 ^ 32 }
@@ -141,6 +144,7 @@ pub fn expression_pieces(alloc: Global, text: &[u8], whole: TextPiece) -> Result
     pieces_of(alloc, Separator::Sign, text, signed_start(text, whole))
 }
 
+// The kind of a term, with its number if it is one; 0 if that is over the limit.
 #[tactic(auto, unfolding(crate::specs::Expressions::atom_of))]
 fn atom_of(bytes: &[u8]) -> Atom
     ensures value { result ≡ atom_of bytes.now }
@@ -158,6 +162,7 @@ fn atom_of(bytes: &[u8]) -> Atom
     }
 }
 
+// The term in a piece, with its sign.
 fn term_of(text: &[u8], piece: &TextPiece) -> Term
     ensures { result ≡ term_of text.now piece.now }
 {

@@ -50,6 +50,7 @@ fn turn_of(byte: u8, fresh: bool) -> TokenStep
     TokenStep::Go
 }
 
+// The token between two indexes. None if it has no byte.
 fn token(from: u32, to: u32) -> Option<Span>
     ensures value { result ≡ token from to }
     ensures begun { from ≤ to → IfSome result (IsToken to) }
@@ -99,7 +100,7 @@ fn first_no_blank(bytes: &[u8]) -> Option<usize>
     bytes.iter().position(|b| !is_blank(*b))
 }
 
-/// The index of the first byte that is not blank.
+// The index of the first byte that is not blank, where the operand begins.
 #[tactic(auto, unfolding(crate::specs::Heads::operand_start))]
 fn operand_start(text: &[u8], rest: Span) -> Option<u32>
     requires { length text.now < 2 ^ 32 }
@@ -110,7 +111,8 @@ fn operand_start(text: &[u8], rest: Span) -> Option<u32>
     Some(rest.from + place as u32)
 }
 
-/// The index after the last byte that is not blank and is before the comment.
+// The index after the last byte that is not blank and is before the comment, where the operand
+// ends.
 #[tactic(auto, using(crate::proofs::HeadLaws::ends))]
 fn operand_end(text: &[u8], rest: Span) -> u32
     requires { length text.now < 2 ^ 32 }

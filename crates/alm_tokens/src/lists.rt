@@ -55,6 +55,7 @@ pub fn are_written(numeral: Numeral, text: &[u8], members: &[TextPiece]) -> bool
         .all(|member| is_written_at(numeral, text, member))
 }
 
+// Whether a member is a number out of its range.
 fn is_out_of_range(numeral: Numeral, text: &[u8], member: &TextPiece) -> bool
     ensures { result ≡ is_out_of_range numeral text.now member.now }
 {
@@ -70,7 +71,7 @@ fn first_out<'a>(numeral: Numeral, text: &[u8], members: &'a [TextPiece]) -> Opt
         .find(|member| is_out_of_range(numeral, text, *member))
 }
 
-/// The place of the first member that is a number out of its range.
+/// The index in the text of the first member that is a number out of its range.
 #[tactic(auto, unfolding(crate::specs::Lists::place_out))]
 pub fn place_out(numeral: Numeral, text: &[u8], members: &[TextPiece]) -> Option<u32>
     ensures value { result ≡ place_out numeral text.now members.now }

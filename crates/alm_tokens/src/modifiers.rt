@@ -6,7 +6,7 @@ ghost use Rattle.alm_tokens.specs.Modifiers.{after_x, register_of, pr_digit, pr_
 
 use m36_text::{is_text, octal_in};
 
-/// Parses a text that is one octal digit.
+// Parses a text that is one octal digit.
 fn octal_digit(bytes: &[u8]) -> Option<u8>
     ensures value { result ≡ octal_in 1 bytes.now }
     ensures below { IfSome result (λ n. n < 8) }
@@ -15,6 +15,7 @@ fn octal_digit(bytes: &[u8]) -> Option<u8>
     Some(digit as u8)
 }
 
+// A text without the `x` that may be at its beginning, as in the names of index registers.
 fn after_x(bytes: &[u8]) -> &[u8]
     ensures { result.now ≡ after_x bytes.now }
 {
@@ -59,6 +60,7 @@ pub fn register_of(bytes: &[u8]) -> Option<u8>
     Some(8 + index)
 }
 
+// The number of a pointer register that is written `pr0` to `pr7`.
 fn pr_digit(bytes: &[u8]) -> Option<u8>
     ensures value { result ≡ pr_digit bytes.now }
     ensures below { IfSome result (λ n. n < 8) }
@@ -69,6 +71,7 @@ fn pr_digit(bytes: &[u8]) -> Option<u8>
     }
 }
 
+// The number of a pointer register that is written by its name, `ap` to `sb`.
 #[tactic(auto, unfolding(crate::specs::Modifiers::pr_name))]
 fn pr_name(bytes: &[u8]) -> Option<u8>
     ensures value { result ≡ pr_name bytes.now }
@@ -113,6 +116,7 @@ pub fn pr_number(bytes: &[u8]) -> Option<u8>
     }
 }
 
+// The tag of `*` or a tally modifier.
 #[tactic(auto, unfolding(crate::specs::Modifiers::single_tag))]
 fn single_tag(bytes: &[u8]) -> Option<u8>
     ensures value { result ≡ single_tag bytes.now }
@@ -139,6 +143,7 @@ fn single_tag(bytes: &[u8]) -> Option<u8>
     None
 }
 
+// The tag of `*` before a register.
 fn indirect_first(bytes: &[u8]) -> Option<u8>
     ensures value { result ≡ indirect_first bytes.now }
     ensures below { IfSome result (λ n. n < 64) }
@@ -152,6 +157,7 @@ fn indirect_first(bytes: &[u8]) -> Option<u8>
     }
 }
 
+// The tag of `*` after a register.
 fn indirect_last(bytes: &[u8]) -> Option<u8>
     ensures value { result ≡ indirect_last bytes.now }
     ensures below { IfSome result (λ n. n < 64) }

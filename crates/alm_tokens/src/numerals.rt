@@ -24,12 +24,14 @@ pub enum Numeral {
 /// The greatest number of a word, 2^36 - 1.
 const GREATEST_WORD: u64 = 0o777777777777;
 
+// Whether a number begins with a minus.
 fn is_negative(bytes: &[u8]) -> bool
     ensures { result ≡ is_negative bytes.now }
 {
     first_byte(bytes) == b'-'
 }
 
+// A number without its sign.
 fn unsigned(bytes: &[u8]) -> &[u8]
     ensures { result.now ≡ unsigned bytes.now }
 {
@@ -39,7 +41,7 @@ fn unsigned(bytes: &[u8]) -> &[u8]
     }
 }
 
-/// The magnitude of a number, or why it has none.
+/// Parses a number of this notation and returns its magnitude, or the fault of the text.
 pub fn read_as(numeral: Numeral, bytes: &[u8]) -> Result<u64, NumberFault>
     ensures value { result ≡ read_as numeral bytes.now }
     ensures bound { IfOk result (λ v. v ≤ greatest_word) }
@@ -86,6 +88,7 @@ pub fn is_out(numeral: Numeral, bytes: &[u8]) -> bool
     is_over(read_as(numeral, bytes))
 }
 
+// The word of a number; a negative one is in two's complement.
 fn signed_word(negative: bool, magnitude: u64) -> Word
     requires { magnitude ≤ greatest_word }
     ensures { result ≡ signed_word negative magnitude }
@@ -97,6 +100,7 @@ fn signed_word(negative: bool, magnitude: u64) -> Word
     }
 }
 
+// The number that parsing a text as a number yields; 0 if it yields none.
 fn value_of(read: Result<u64, NumberFault>) -> u64
     requires { IfOk read (λ v. v ≤ greatest_word) }
     ensures value { result ≡ value_of read }

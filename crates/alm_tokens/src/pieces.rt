@@ -66,6 +66,7 @@ impl Pieces {
     }
 }
 
+// Whether a byte separates pieces.
 fn parts(parter: Separator, byte: u8) -> bool
     ensures { result ≡ parts parter byte }
 {

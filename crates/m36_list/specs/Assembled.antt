@@ -20,7 +20,7 @@ use Rattle.m36_list.specs.Disassembly.{disassembly}
 
 -- ---- a line anywhere in a source
 
--- the words that a line places, if it was parsed
+-- the words that a line places, given what parsing it yielded; None if it was refused
 abbrev pub words_if_parsed : List ℕ → Tables → LocationCounter → Result Line36 ParseRefusal → Option (List ℕ)
 words_if_parsed source tables spot (Ok line) = Some (words_by source tables spot line.args line.deed)
 words_if_parsed source tables spot (Err refusal) = None
@@ -43,11 +43,11 @@ PlacesItself =
 
 -- ---- a whole source
 
--- the object of a source that was parsed, or its fault
+-- the parts of the object of a source, given what parsing it yielded, or its fault
 abbrev pub object_of : Result Source AlmFault → Result PartsFields AlmFault
 object_of read = and_then read assembled
 
--- the object whose text is this one word, with nothing else
+-- the parts of the object whose text is this one word, with nothing else
 abbrev pub object_of_word : ℕ → PartsFields
 object_of_word w =
     record {

@@ -8,7 +8,7 @@ use Rattle.m36_inst.specs.Lookup.{name_at}
 use Rattle.m36_word.specs.Field.{offset_limit}
 use Rattle.m36_list.specs.Modifiers.{modifier_text}
 
--- a number of 15 bits as a signed one
+-- the text in decimal of a signed number of 15 bits, in two's complement
 unfoldable pub signed_text : ℕ → List ℕ
 signed_text offset =
     if nat_lt offset offset_limit then decimal_text offset else codes "-"
@@ -25,13 +25,14 @@ address_text i =
 abbrev pub octal_constant : ℕ → List ℕ
 octal_constant w = codes "oct " ++ word_text w
 
--- the name, a space, the address and the modifier, if there are a name and a modifier
+-- the text of a word with these fields: the name, a space, the address and the modifier, if it has
+-- a name and a modifier, and otherwise an octal constant
 abbrev pub by_parts : ℕ → InstFields → Option (List ℕ) → Option (List ℕ) → List ℕ
 by_parts w i (Some name) (Some modifier) = name ++ codes " " ++ address_text i ++ modifier
 by_parts w i (Some name) None = octal_constant w
 by_parts w i None modifier = octal_constant w
 
--- an instruction whose inhibit bit is on is not shown as one
+-- the text of a word with these fields; an instruction whose inhibit bit is on is not shown as one
 abbrev pub by_fields : ℕ → InstFields → List ℕ
 by_fields w i =
     if i.inhibit

@@ -19,7 +19,7 @@ unfoldable pub placed_line : List ℕ → ℕ → ℕ → ℕ → List ℕ
 placed_line name number at w =
     line (name ∷ half_text at ∷ word_text w ∷ decimal_text number ∷ [])
 
--- the words that one line of the source places, from an offset on
+-- the lines of words that one line of the source, with this number, places, from an offset on
 unfoldable pub placed_lines : List ℕ → ℕ → ℕ → List ℕ → List ℕ
 placed_lines name number at [] = []
 placed_lines name number at (w ∷ ws) =
@@ -30,7 +30,8 @@ unfoldable pub size_in : Section → List ℕ → LocationCounter → Line36 →
 size_in section text spot row =
     if same_section spot.section section then size_of row.deed row.args (place spot) else 0
 
--- the words of a section from an offset on, each with the line that places it
+-- the lines of the words of a section, from an offset on, each with the number of the line of the
+-- source that places it
 unfoldable pub section_words : List ℕ → Section → List ℕ → ℕ → List ℕ → LocationCounter → List Line36 → List ℕ
 section_words name section text at words spot [] = []
 section_words name section text at words spot (row ∷ lines) =
@@ -39,12 +40,13 @@ section_words name section text at words spot (row ∷ lines) =
     placed_lines name row.line at here
     ++ section_words name section text (at + length here) left (below text spot row) lines
 
--- the words of a section, from the offset of its first line on
+-- the lines of the words of a section, the first of which is at the offset of its first line
 abbrev pub listed : List ℕ → Section → Source → List ℕ → List ℕ
 listed name section source words =
     section_words name section source.text (place_in section start) words start source.lines
 
--- The text, the static words of the linkage section, and those of a static section; then the print.
+-- The listing of a source and of the object of these parts, under this name: the lines of the text,
+-- of the static words of the linkage section, and of those of a static section; then the print.
 unfoldable pub listing_of : List ℕ → Source → PartsFields → List ℕ
 listing_of name source p =
     listed (section_name Text) Text source p.text

@@ -11,7 +11,7 @@ pub record Modifier : Type 0 where
   pub tag : ℕ
   pub text : List ℕ
 
--- the tag with this text, as a list
+-- the tag with this text, as a list of one modifier
 abbrev pub written : ℕ → List ℕ → List Modifier
 written tag text = record { tag = tag; text = text } ∷ []
 

@@ -19,7 +19,7 @@ use Rattle.m36_list.specs.Disassembly.{disassembly}
 unfoldable pub line : List (List ℕ) → List ℕ
 line fields = as_line (joined_by_spaces fields)
 
--- the name and the number of words, in decimal
+-- the line with the name and the number of words of an object, in decimal
 abbrev pub object_line : List ℕ → PartsFields → List ℕ
 object_line name p = line (codes "object" ∷ name ∷ decimal_text (length (words_of p)) ∷ [])
 
@@ -30,7 +30,7 @@ section_text Linkage = codes "linkage"
 section_text Symbol = codes "symbol"
 section_text Static = codes "static"
 
--- the name, the offset and the number of words of a section
+-- the line of a section: its name, its offset in the object, and its number of words
 abbrev pub section_line : List ℕ → ℕ → ℕ → List ℕ
 section_line name at len = line (name ∷ half_text at ∷ half_text len ∷ [])
 
@@ -49,12 +49,12 @@ symbol_offset p =
     symbol_at (length p.text) (length (definition_section p)) (length (linkage_section p))
     (length (outer_statics p))
 
--- the static section, which only version 2 has
+-- the line of the static section, which only version 2 has
 abbrev pub static_line : PartsFields → List ℕ
 static_line p =
     if is_newer p then section_line (section_text Static) (statics_offset p) (length p.statics) else []
 
--- a name, and a number of 18 bits in octal
+-- a line with a name, and a number of 18 bits in octal
 abbrev pub value_line : List ℕ → ℕ → List ℕ
 value_line name v = line (name ∷ half_text v ∷ [])
 
@@ -68,34 +68,34 @@ section_lines p =
     ++ section_line (section_text Symbol) (symbol_offset p) (length (symbol_section p))
     ++ value_line (codes "entrybound") p.entry_bound
 
--- a definition: its name, the section of its class, its value, and `entry` if it is one
+-- the fields of the line of a definition except `entry`: `def`, its name, its section and its value
 abbrev pub definition_fields : Named → List (List ℕ)
 definition_fields d =
     codes "def" ∷ d.name ∷ section_text d.def.section ∷ half_text d.def.value ∷ []
 
--- the line of a definition
+-- the line of a definition, with `entry` at the end if it is one
 unfoldable pub definition_line : Named → List ℕ
 definition_line d =
     line (if d.def.is_entry then definition_fields d ++ codes "entry" ∷ [] else definition_fields d)
 
--- A link at an offset of the linkage section: its reference, its expression, and its modifier in
--- two digits.
+-- The line of a link at an offset of the linkage section: its reference, the number that is added,
+-- and its modifier in two digits.
 unfoldable pub link_line : ℕ → LinkFields → List ℕ
 link_line at l =
     line
     (codes "link" ∷ half_text at ∷ reference_text l ∷ half_text l.expr
     ∷ octal_text 2 l.modifier ∷ [])
 
--- links from an offset on, two words each
+-- the lines of links, two words each, the first of which is at this offset
 unfoldable pub link_lines : ℕ → List LinkFields → List ℕ
 link_lines at [] = []
 link_lines at (l ∷ ls) = link_line at l ++ link_lines (at + 2) ls
 
--- a word of the text at an offset, with its disassembly
+-- the line of a word of the text at an offset, with its disassembly
 unfoldable pub word_line : ℕ → ℕ → List ℕ
 word_line at w = line (half_text at ∷ word_text w ∷ disassembly w ∷ [])
 
--- the lines of words, from an offset on
+-- the lines of words of the text, the first of which is at this offset
 unfoldable pub word_lines : ℕ → List ℕ → List ℕ
 word_lines at [] = []
 word_lines at (w ∷ ws) = word_line at w ++ word_lines (at + 1) ws

@@ -18,7 +18,7 @@ pub struct Counts {
     pub symbol: u64,
 }
 
-/// Counts the words of an object, by writing it. Fails only with `NoMemory`.
+/// The numbers of words of an object. It is written to count the whole. Fails only with `NoMemory`.
 pub fn counted(alloc: Global, o: &Object) -> Result<Counts, NoMemory>
     ensures { IfOk result (λ counts. IsCount counts o.now) }
 {

@@ -9,7 +9,7 @@ use m36_outside::Text;
 use m36_word::NoMemory;
 use obj36::{Named, Section};
 
-/// The name of the class of a definition.
+// The name of a section, as the class of a definition is shown.
 fn class(section: Section) -> &'static str
     ensures { result.now ≡ section_text section }
 {

@@ -29,7 +29,7 @@ pub fn disassemble(w: Word) -> ArrayString<32>
     }
 }
 
-// The text of a word that is not shown as an instruction.
+// The text of a word that is not shown as an instruction: `oct` and twelve octal digits.
 fn constant(w: Word) -> ArrayString<32>
     ensures text { result.bytes ≡ octal_constant w }
     ensures len { length result.bytes ≡ 16 }
@@ -71,7 +71,7 @@ fn put_address(line: &mut ArrayString<32>, inst: &Inst)
     }
 }
 
-// Adds a number of 15 bits as a signed one.
+// Adds the text in decimal of a signed number of 15 bits, in two's complement.
 #[tactic(auto, unfolding(crate::specs::Disassembly::signed_text))]
 fn put_offset(line: &mut ArrayString<32>, offset: u32)
     requires offset { offset < 2 ^ 15 }
@@ -87,6 +87,7 @@ fn put_offset(line: &mut ArrayString<32>, offset: u32)
     }
 }
 
+// Adds a number in decimal.
 #[tactic(auto, using(crate::proofs::Lengths::short_decimal))]
 fn put_number(line: &mut ArrayString<32>, v: u32)
     requires fits { v < 2 ^ 18 }

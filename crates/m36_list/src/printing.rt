@@ -52,7 +52,7 @@ fn put_object(text: &mut Text, name: &[u8], count: Counts, o: &Object) -> Result
     put_last(text, decimal(count.whole).as_str().as_bytes())
 }
 
-// The offset of the first link. All links are in the first 2^18 words of the linkage section.
+// The offset of the first link in the linkage section. All links are in the first 2^18 words of it.
 #[tactic(auto, using(crate::proofs::SectionPlaces::links_behind))]
 fn first_link(count: Counts, o: &Object) -> u64
     requires { IsCount count o.now }

@@ -17,7 +17,7 @@ value_of words =
     let parts = parts_of words in
     if is_well_formed parts && pointwise nat_eq (words_of parts) words then Some parts else None
 
--- the parts, or the fault if there are none
+-- the parts as a result, or the fault if there are none
 abbrev pub or_fault : Option PartsFields → ObjectFault → Result PartsFields ObjectFault
 or_fault (Some parts) fault = Ok parts
 or_fault None fault = Err fault

@@ -17,6 +17,7 @@ use obj36_read::spelling::fault_of_names;
 use obj36_read::tables::fault_of_tables;
 use std::alloc::Global;
 
+// The words of the definition section, where the map says that it is.
 #[tactic(auto, unfolding(crate::specs::Faults::told_definition))]
 fn definition_told(words: &[Word]) -> &[Word]
     ensures { result.now ≡ told_definition words.now }
@@ -24,6 +25,7 @@ fn definition_told(words: &[Word]) -> &[Word]
     words_within(words, extents_in_map(words).definition)
 }
 
+// The words of the linkage section, where the map says that it is.
 #[tactic(auto, unfolding(crate::specs::Faults::told_linkage))]
 fn linkage_words(words: &[Word]) -> &[Word]
     ensures { result.now ≡ told_linkage words.now }
@@ -31,6 +33,8 @@ fn linkage_words(words: &[Word]) -> &[Word]
     words_within(words, extents_in_map(words).linkage)
 }
 
+// The first invalid word of the tables of definitions and expressions (O5), as an index in the
+// list.
 #[tactic(auto, unfolding(crate::specs::Faults::definition_fault))]
 fn fault_of_definitions(alloc: Global, words: &[Word]) -> Result<Option<u64>, NoMemory>
     ensures value { IfOk result (λ place. place ≡ definition_fault words.now) }
@@ -41,6 +45,7 @@ fn fault_of_definitions(alloc: Global, words: &[Word]) -> Result<Option<u64>, No
     Ok(index_in_list(from, place))
 }
 
+// The first invalid name (O6), as an index in the list.
 #[tactic(auto, unfolding(crate::specs::Faults::spelling_fault))]
 fn fault_of_spelling(words: &[Word]) -> Option<u64>
     ensures value { result ≡ spelling_fault words.now }
@@ -50,6 +55,8 @@ fn fault_of_spelling(words: &[Word]) -> Option<u64>
     index_in_list(from, fault_of_names(definition_told(words)))
 }
 
+// The first invalid word of the links and the types of their expressions (O7), as an index in the
+// list.
 #[tactic(auto, unfolding(crate::specs::Faults::linking_fault))]
 fn fault_of_linking(words: &[Word]) -> Option<u64>
     ensures value { result ≡ linking_fault words.now }

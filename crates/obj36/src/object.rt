@@ -93,6 +93,7 @@ struct Lengths {
     symbol: u64,
 }
 
+// Adds the map word of the static section, which only version 2 has.
 fn push_static_entry(out: &mut Words, newer: bool, offset: u64, length: u64) -> Result<(), NoMemory>
     ensures { OnOk result (out.new ≡ out.old ++ (if newer then joined offset length ∷ [] else [])) }
 {

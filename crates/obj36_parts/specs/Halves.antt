@@ -9,7 +9,7 @@ left w = w / 2 ^ 18
 unfoldable pub right : ℕ → ℕ
 right w = w % 2 ^ 18
 
--- bits 3 to 17
+-- bits 3 to 17, which can hold the offset after the number of a pointer register
 unfoldable pub offset_in : ℕ → ℕ
 offset_in w = left w % 2 ^ 15
 
@@ -17,7 +17,7 @@ offset_in w = left w % 2 ^ 15
 unfoldable pub joined : ℕ → ℕ → ℕ
 joined l r = l % 2 ^ 18 * 2 ^ 18 + r % 2 ^ 18
 
--- a quarter of a word; quarter 0 is the leftmost
+-- quarter 0 to 3 of a word, nine bits each; quarter 0 is the leftmost
 unfoldable pub quarter : ℕ → ℕ → ℕ
 quarter w zero = w / 2 ^ 27
 quarter w (suc zero) = w / 2 ^ 18 % 2 ^ 9

@@ -10,7 +10,8 @@ use Rattle.obj36_parts.specs.Sections.{class_number, same_section}
 use Rattle.obj36_parts.specs.ObjectSegment.{definition_names, all_link_names}
 use Rattle.obj36_parts.specs.ObjectSegment.{definition_named}
 
--- the places of the first definitions, with that of one more, unless its name has one
+-- the table of the first definition of each name, after one more definition, which is added unless
+-- the table has its name
 unfoldable pub with_first : List (List ℕ × DefFields) → Named → List (List ℕ × DefFields)
 with_first firsts d = with_unless (is_some (lookup (same d.name) firsts)) firsts (d.name, d.def)
 
@@ -34,7 +35,8 @@ same_link a b =
 abbrev pub has_link : LinkFields → List LinkFields → Bool
 has_link link links = list_any (same_link link) links
 
--- the first indexes of links, with that of one more, unless it has one
+-- the table of the first index of each link, after one more link at the index `place`, which is
+-- added unless the table has it
 unfoldable pub with_place : List (LinkFields × ℕ) → LinkFields → ℕ → List (LinkFields × ℕ)
 with_place places link place =
     with_unless (is_some (lookup (same_link link) places)) places (link, place)

@@ -12,7 +12,8 @@ unfoldable pub laid : List (List ℕ) → ℕ → List (List ℕ × ℕ)
 laid [] at = []
 laid (name ∷ names) at = (name, at) ∷ laid names (at + name_length name)
 
--- The entries are names at their offsets, and `next` is the offset after the last.
+-- The entries are names at their offsets, and `next` is the offset after the last. The other two
+-- clauses bound the offsets, so that they do not overflow.
 pub record ArePlaced (entries : List (List ℕ × ℕ)) (base next : ℕ) : Type 0 where
   pub near : base ≤ 2 ^ 40
   pub places : entries ≡ laid (names_in entries) base

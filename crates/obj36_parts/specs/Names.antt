@@ -17,7 +17,7 @@ unfoldable pub with_names : List (List ℕ) → List (List ℕ) → List (List �
 with_names names [] = names
 with_names names (name ∷ more) = with_names (with_name names name) more
 
--- the names of entries
+-- the names of a table that has a name in each entry
 abbrev pub names_in : {A : Type 0} → List (List ℕ × A) → List (List ℕ)
 names_in entries = map (λ e. e.0) entries
 
@@ -34,7 +34,8 @@ place_of name (first ∷ others) at =
 
 -- ---- the words of a name
 
--- a part of nine bits of a name: its length, then its characters, then zeros
+-- part i of the nine-bit parts of a name: part 0 is its length, then its characters follow, then
+-- zeros
 unfoldable pub unit_of : List ℕ → ℕ → ℕ
 unit_of name i = slice_index (length name ∷ name) i
 

@@ -148,7 +148,8 @@ expression_words names base (l ∷ ls) =
     joined l.kind (subject_of names base l) ∷ joined (entry_place names base l) l.expr
     ∷ expression_words names base ls
 
--- the definition section; it has each name once, in order of first use
+-- the words of a definition section: its head, the definitions, the expressions of the links, and
+-- the names, each once, in order of first use
 unfoldable pub definition_part : List Named → List LinkFields → List ℕ
 definition_part ds ls =
     let names = with_names [] (definition_names ds ++ all_link_names ls) in
@@ -160,7 +161,7 @@ definition_part ds ls =
     ++ expression_words names base ls
     ++ all_name_words names
 
--- the words of the definition section
+-- the words of the definition section of the object of these parts
 unfoldable pub definition_section : PartsFields → List ℕ
 definition_section p = definition_part p.definitions p.links
 
@@ -176,7 +177,8 @@ link_head at = joined (2 ^ 18 - at) 0o46
 abbrev pub linkage_register : ℕ
 linkage_register = 4
 
--- links: for each its first word, then the offset of its expression and its modifier
+-- The words of links, two each: the first word, then the offset of the expression and the modifier.
+-- The first link is at the offset `at`, and its expression at `expression`.
 unfoldable pub link_words : List LinkFields → ℕ → ℕ → List ℕ
 link_words [] at expression = []
 link_words (l ∷ ls) at expression =
@@ -198,13 +200,14 @@ word_of_link first i = first + 2 * i
 abbrev pub linkage_length : ℕ → ℕ → ℕ
 linkage_length statics links = first_link_at statics + 2 * links
 
--- the head, the static words, and the links, whose expressions begin at an offset
+-- the words of a linkage section: its head, the static words, and the links, whose expressions
+-- begin at the offset `expressions` of the definition section
 unfoldable pub linkage_part : List ℕ → List LinkFields → ℕ → List ℕ
 linkage_part statics ls expressions =
     0 ∷ joined (first_link_at (length statics)) (length ls) ∷ 0 ∷ 0 ∷ 0 ∷ 0 ∷ 0 ∷ 0 ∷ statics
     ++ link_words ls (first_link_at (length statics)) expressions
 
--- the words of the linkage section
+-- the words of the linkage section of the object of these parts
 unfoldable pub linkage_section : PartsFields → List ℕ
 linkage_section p =
     linkage_part (inner_statics p) p.links (first_expression_at (length p.definitions))
@@ -219,11 +222,11 @@ first_link p = first_link_at (length (inner_statics p))
 abbrev pub left_part : ℕ
 left_part = 0
 
--- that of the right half
+-- the number of the right half of a word, as the part that is relocated
 abbrev pub right_part : ℕ
 right_part = 1
 
--- that of bits 3 to 17
+-- the number of bits 3 to 17 of a word, as the part that is relocated
 abbrev pub offset_part : ℕ
 offset_part = 2
 
@@ -234,16 +237,16 @@ part_of part w =
     else if nat_eq part right_part then right w
     else offset_in w
 
--- the unit of the section in the right half of a relocation; it has three bits, as the part and the
--- target have
+-- The unit of the section in the right half of a relocation: its number is multiplied by this. The
+-- section, the part and the target have three bits each.
 abbrev pub section_unit : ℕ
 section_unit = 2 ^ 15
 
--- the unit of the part
+-- the unit of the part in the right half of a relocation
 abbrev pub part_unit : ℕ
 part_unit = 2 ^ 12
 
--- the unit of the target
+-- the unit of the target section in the right half of a relocation
 abbrev pub target_unit : ℕ
 target_unit = 2 ^ 9
 
@@ -259,11 +262,11 @@ unfoldable pub relocation_words : List RelocFields → List ℕ
 relocation_words [] = []
 relocation_words (r ∷ rs) = relocation_word r ∷ relocation_words rs
 
--- the number of relocations, then the relocations
+-- the words of a symbol section: the number of relocations, then the relocations
 unfoldable pub symbol_part : List RelocFields → List ℕ
 symbol_part rs = joined 0 (length rs) ∷ relocation_words rs
 
--- the words of the symbol section
+-- the words of the symbol section of the object of these parts
 unfoldable pub symbol_section : PartsFields → List ℕ
 symbol_section p = symbol_part p.relocations
 
@@ -344,12 +347,12 @@ sections_fit p =
 unfoldable pub are_distinct : List (List ℕ) → Bool
 are_distinct names = are_distinct_by same names
 
--- the greatest number of a section in a definition
+-- the greatest class of a definition, without the mark of an entry, in an object of this version
 abbrev pub last_class : ℕ → ℕ
 last_class version =
     if is_newer_version version then class_number Static else class_number Symbol
 
--- the greatest number of a section in links and relocations
+-- the greatest number of a section in links and relocations of an object of this version
 abbrev pub last_place : ℕ → ℕ
 last_place version =
     if is_newer_version version then place_number Static else place_number Linkage
@@ -360,12 +363,13 @@ is_definition version d =
     is_name d.name && nat_lt d.def.value (2 ^ 18)
     && nat_le (class_number d.def.section) (last_class version)
 
--- whether a link of this version can have this section; one that its type does not use is the text
+-- Whether a link of this version can have this section. `used` says whether its type uses one;
+-- otherwise it is the text.
 abbrev pub is_section_where : Bool → ℕ → Section → Bool
 is_section_where used version section =
     nat_le (place_number section) (if used then last_place version else 0)
 
--- whether a link can have this name; one that its type does not use is empty
+-- Whether a link can have this name. `used` says whether its type uses one; otherwise it is empty.
 abbrev pub is_name_where : Bool → List ℕ → Bool
 is_name_where used name = if used then is_name name else nat_eq (length name) 0
 
@@ -444,14 +448,15 @@ unfoldable pub definition_named : List ℕ → List Named → Option DefFields
 definition_named name [] = None
 definition_named name (d ∷ ds) = if same d.name name then Some d.def else definition_named name ds
 
--- The invariant of an object: its parts are well formed, and its sections are made of them.
+-- The invariant of an object: its parts are well formed, and `d`, `k` and `s` are the words of its
+-- definition, linkage and symbol sections.
 pub record IsObject (p : PartsFields) (d k s : List ℕ) : Type 0 where
   pub formed : is_well_formed p ≡ true
   pub definition : d ≡ definition_section p
   pub linkage : k ≡ linkage_section p
   pub symbol : s ≡ symbol_section p
 
--- Different parts have different words. That parts have at most one list of words is plain: it is
--- `words_of` of them.
+-- Different parts have different words. (Parts have only one list of words, since this is
+-- `words_of` of them.)
 abbrev pub ValuesApart : Type 0
 ValuesApart = (p q : PartsFields) (words : List ℕ) → Encodes p words → Encodes q words → p ≡ q

@@ -34,6 +34,7 @@ pub fn greatest_place(version: u8) -> u64
     if version == 2 { 2 } else { 1 }
 }
 
+// Whether an object of this version can have a definition, by its name, value and section.
 #[tactic(auto, unfolding(crate::specs::ObjectSegment::is_definition))]
 fn is_good_definition(version: u8, definition: &Named) -> bool
     ensures { result ≡ is_definition version definition.now }
@@ -44,6 +45,7 @@ fn is_good_definition(version: u8, definition: &Named) -> bool
         && class(def.section) <= greatest_class(version)
 }
 
+// Whether an object of this version can have each of these definitions.
 fn are_good_definitions(version: u8, definitions: &[Named]) -> bool
     ensures { result ≡ list_all (is_definition version) definitions.now }
 {
@@ -86,6 +88,7 @@ fn is_good_section(used: bool, version: u8, section: Section) -> bool
     }
 }
 
+// Whether an object of this version can have a link.
 #[tactic(auto, unfolding(crate::specs::ObjectSegment::is_link))]
 fn is_good_link(version: u8, link: &Link) -> bool
     ensures { result ≡ is_link version link.now }
@@ -99,6 +102,7 @@ fn is_good_link(version: u8, link: &Link) -> bool
         && link.modifier < 1 << 6
 }
 
+// Whether an object of this version can have each of these links.
 fn are_good_links(version: u8, links: &[Link]) -> bool
     ensures { result ≡ list_all (is_link version) links.now }
 {
@@ -140,6 +144,7 @@ fn is_good_place(room: Room, section: Section, offset: u32) -> bool
     }
 }
 
+// Whether an object with these bounds can have a relocation.
 #[tactic(auto, unfolding(crate::specs::ObjectSegment::is_relocation))]
 fn is_good_relocation(room: Room, relocation: &Reloc) -> bool
     ensures { result ≡ is_relocation room.text room.inner room.outer room.version relocation.now }
@@ -150,6 +155,7 @@ fn is_good_relocation(room: Room, relocation: &Reloc) -> bool
         && number(relocation.target) <= greatest_place(room.version)
 }
 
+// Whether an object with these bounds can have each of these relocations.
 fn are_good_relocations(room: Room, relocations: &[Reloc]) -> bool
     ensures { result
         ≡ list_all (is_relocation room.text room.inner room.outer room.version) relocations.now }
@@ -164,7 +170,7 @@ fn are_good_relocations(room: Room, relocations: &[Reloc]) -> bool
     true
 }
 
-// A number by which relocations are in order: by section, offset and part.
+// The number by which relocations are ordered: first by section, then by offset, then by part.
 #[tactic(auto, unfolding(crate::specs::ObjectSegment::order_of))]
 fn order(relocation: &Reloc) -> u64
     ensures value { result ≡ order_of relocation.now }

@@ -102,6 +102,7 @@ impl NameTable {
     }
 }
 
+// Adds the names of definitions. Fails only with `NoMemory`.
 fn add_definitions(table: &mut NameTable, definitions: &[Named]) -> Result<(), NoMemory>
     requires { length table.old.names + length definitions.now < 2 ^ 40 }
     ensures names { OnOk result
@@ -116,6 +117,7 @@ fn add_definitions(table: &mut NameTable, definitions: &[Named]) -> Result<(), N
     Ok(())
 }
 
+// Adds the names that a link uses: none, one or two. Fails only with `NoMemory`.
 #[tactic(auto, unfolding(crate::specs::Names::with_names, crate::specs::ObjectSegment::link_names, crate::specs::ObjectSegment::name_used, crate::specs::ObjectSegment::entry_used))]
 fn add_link(table: &mut NameTable, link: &Link) -> Result<(), NoMemory>
     requires { length table.old.names + 2 < 2 ^ 40 }
@@ -133,6 +135,7 @@ fn add_link(table: &mut NameTable, link: &Link) -> Result<(), NoMemory>
     Ok(())
 }
 
+// Adds the names that links use. Fails only with `NoMemory`.
 fn add_links(table: &mut NameTable, links: &[Link]) -> Result<(), NoMemory>
     requires { length table.old.names + 2 * length links.now < 2 ^ 40 - 2 }
     ensures names { OnOk result
@@ -186,7 +189,8 @@ pub(crate) fn names_used(
     }
 }
 
-// Part i of nine bits of a name: its length, or a character.
+// Part i of the nine-bit parts of a name: part 0 is its length, then its characters follow, then
+// zeros.
 #[tactic(auto, unfolding(crate::specs::Names::unit_of))]
 fn unit(name: &[u8], i: usize) -> u64
     requires { length name.now ≤ name_limit }
@@ -215,6 +219,7 @@ fn word(name: &[u8], j: usize) -> Word
     Word::low(front + back)
 }
 
+// Adds the words of a name.
 #[tactic(auto, using(crate::proofs::NameTables::first_word))]
 fn push_name(out: &mut Words, name: &Name) -> Result<(), NoMemory>
     ensures { OnOk result (out.new ≡ out.old ++ name_words name.now) }
@@ -227,6 +232,7 @@ fn push_name(out: &mut Words, name: &Name) -> Result<(), NoMemory>
     Ok(())
 }
 
+// Adds the words of names, one name after another.
 pub(crate) fn push_names(out: &mut Words, names: &[Name]) -> Result<(), NoMemory>
     ensures { OnOk result (out.new ≡ out.old ++ all_name_words names.now) }
 {

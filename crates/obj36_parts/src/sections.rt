@@ -84,6 +84,7 @@ pub fn is_text_section(section: Section) -> bool
     }
 }
 
+// The order of sections for `later_section`: text and symbol, then linkage, then static.
 fn rank(section: Section) -> u8
     ensures { result ≡ rank section }
 {
@@ -102,6 +103,7 @@ pub fn later_section(a: Section, b: Section) -> Section
     if rank(a) <= rank(b) { b } else { a }
 }
 
+// The offset of a table of `count` items, which is 0 if there are none.
 #[tactic(auto, unfolding(crate::specs::ObjectSegment::place_if_any))]
 fn place_unless_empty(count: usize, at: u64) -> u64
     ensures { result ≡ place_if_any count at }
@@ -109,6 +111,7 @@ fn place_unless_empty(count: usize, at: u64) -> u64
     if count == 0 { 0 } else { at }
 }
 
+// The class of a definition: the number of its section, with a mark if it is an entry.
 #[tactic(auto, unfolding(crate::specs::ObjectSegment::class_of))]
 fn class_with_entry(def: &Def) -> u64
     ensures { result ≡ class_of def.now }
@@ -161,6 +164,7 @@ pub fn push_evening(out: &mut Words) -> Result<(), NoMemory>
     out.push(Word::ZERO)
 }
 
+// Adds two words at the end.
 pub(crate) fn push_pair(out: &mut Words, first: Word, second: Word) -> Result<(), NoMemory>
     ensures { OnOk result (out.new ≡ out.old ++ first ∷ second ∷ []) }
 {
@@ -189,6 +193,7 @@ fn push_definition(
     )
 }
 
+// Adds the words of definitions. The first definition is at offset 2 of the section.
 fn push_definitions(
     out: &mut Words,
     table: &NameTable,
@@ -244,6 +249,7 @@ fn push_expression(out: &mut Words, table: &NameTable, link: &Link) -> Result<()
     push_pair(out, first, second)
 }
 
+// Adds the words of the expressions of links.
 fn push_expressions(out: &mut Words, table: &NameTable, links: &[Link]) -> Result<(), NoMemory>
     ensures { OnOk result
         (out.new ≡ out.old ++ expression_words table.now.names table.now.base links.now) }
@@ -361,6 +367,7 @@ pub fn linkage_words_of(
 
 // ---- the symbol section
 
+// The word that encodes a relocation.
 #[tactic(auto, unfolding(crate::specs::ObjectSegment::relocation_word))]
 fn word_of_relocation(relocation: &Reloc) -> Word
     ensures { result ≡ relocation_word relocation.now }

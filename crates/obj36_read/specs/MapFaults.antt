@@ -15,15 +15,15 @@ use Rattle.obj36_read.specs.declared.map.Extents.{Extents}
 
 -- ---- the map: O2
 
--- whether the map begins where the last word says: it then has the length of a map of either
--- version
+-- Whether the last word locates a map: from there to the end there are as many words as a map of
+-- either version has, with the last word.
 unfoldable pub is_in_map : List ℕ → Bool
 is_in_map words =
     nat_eq (map_place words + older_map) (length words)
     || nat_eq (map_place words + newer_map) (length words)
 
--- The word with the entry bound has 0 in its right half, and the bound is at most the length of the
--- text.
+-- Whether the map word with the entry bound is valid: its right half is 0, and the bound is at most
+-- the length of the text.
 unfoldable pub is_bound : List ℕ → ℕ → Bool
 is_bound words bound =
     nat_eq (right bound) 0
@@ -73,7 +73,7 @@ extents_of words =
       symbol = extent_at words (symbol_index (version_in words));
     }
 
--- whether a section ends past the map, or has fewer words than its head
+-- whether a section ends past the map, which begins at `map`, or has fewer than `least` words
 unfoldable pub is_outside : ℕ → Extent → ℕ → Bool
 is_outside map e least = nat_lt map (e.from + e.count) || nat_lt e.count least
 
@@ -115,6 +115,6 @@ shared_fault words = first_shared (extents_of words) 0 (map_place words)
 
 -- ---- the words of a section
 
--- the words of a section
+-- the words of a section, as far as the list has them
 unfoldable pub extent_words : List ℕ → Extent → List ℕ
 extent_words words e = take e.count (drop e.from words)

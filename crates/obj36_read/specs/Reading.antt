@@ -121,23 +121,23 @@ newer_map = 8
 abbrev pub text_index : ℕ
 text_index = 1
 
--- that of the definition section
+-- the index in the map of the word that describes the definition section
 abbrev pub definition_index : ℕ
 definition_index = 2
 
--- that of the linkage section
+-- the index in the map of the word that describes the linkage section
 abbrev pub linkage_index : ℕ
 linkage_index = 3
 
--- that of the static section, which only version 2 has
+-- the index in the map of the word that describes the static section, which only version 2 has
 abbrev pub statics_index : ℕ
 statics_index = 4
 
--- that of the symbol section
+-- the index in the map of the word that describes the symbol section, by the version
 abbrev pub symbol_index : ℕ → ℕ
 symbol_index version = if is_newer_version version then 5 else 4
 
--- the index in the map of the word with the entry bound
+-- the index in the map of the word with the entry bound, by the version
 abbrev pub bound_index : ℕ → ℕ
 bound_index version = if is_newer_version version then 6 else 5
 
@@ -153,11 +153,12 @@ version_in words = version_of (nat_eq (map_place words + newer_map) (length word
 abbrev pub map_word : List ℕ → ℕ → ℕ
 map_word words i = slice_index words (map_place words + i)
 
--- the length that a word of the map has
+-- the length of the section that word i of the map describes
 unfoldable pub length_of_part : List ℕ → ℕ → ℕ
 length_of_part words i = right (map_word words i)
 
--- a number of items, at most the number of words of the list
+-- a number of items, in the right half of word i of a section; it is reduced to the number of words
+-- of the list
 unfoldable pub count_of_items : List ℕ → List ℕ → ℕ → ℕ
 count_of_items words part i = min (right (slice_index part i)) (length words)
 
@@ -180,7 +181,7 @@ from_symbol words =
     then drop (length_of_part words statics_index) (from_statics words)
     else from_statics words
 
--- the offset of the first link, which the head of the linkage section has
+-- the offset of the first link, which word 1 of a linkage section has
 unfoldable pub link_start : List ℕ → ℕ
 link_start k = left (slice_index k 1)
 
@@ -200,7 +201,7 @@ statics_in words =
 unfoldable pub bound_in : List ℕ → ℕ
 bound_in words = left (map_word words (bound_index (version_in words)))
 
--- the parts that a list may encode
+-- the parts that a list may encode; if encoding them again yields another list, it encodes none
 unfoldable pub parts_of : List ℕ → PartsFields
 parts_of words =
     let definition = from_definition words in

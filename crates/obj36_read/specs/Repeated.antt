@@ -15,12 +15,13 @@ is_spelled d at s =
     pointwise nat_eq (whole_words d at) s.whole.now
     && (nat_eq (unit_at d at 0) s.length && nat_eq (last_parts d at) s.last)
 
--- the lesser of a place and the least place of the same name so far; None if there is none so far
+-- The lesser of `at` and the least place so far of the name at `at`. None if the name did not occur
+-- before, or is not within the section.
 unfoldable pub least_with : List ℕ → List (Spelling × ℕ) → ℕ → Option ℕ
 least_with d places at =
     if lies_within d at then option_map (min at) (lookup (is_spelled d at) places) else None
 
--- the least of these for `count` definitions from `at` on
+-- the least of the results of `least_with` for the names of `count` definitions from `at` on
 unfoldable pub least_of_each : List ℕ → List (Spelling × ℕ) → ℕ → ℕ → Option ℕ
 least_of_each d places zero at = None
 least_of_each d places (suc count) at =

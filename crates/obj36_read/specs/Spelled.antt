@@ -14,6 +14,6 @@ count_leading_quarters w (suc zero) = w / 2 ^ 18
 count_leading_quarters w (suc (suc zero)) = w / 2 ^ 9
 count_leading_quarters w (suc (suc (suc n))) = w
 
--- the parts of the last word of a name that belong to the name
+-- the nine-bit parts of the last word of a name that belong to the name, as one number
 unfoldable pub last_parts : List ℕ → ℕ → ℕ
 last_parts d at = count_leading_quarters (slice_index d (at + unit_at d at 0 / 4)) (unit_at d at 0 % 4)

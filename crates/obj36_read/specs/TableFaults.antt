@@ -10,13 +10,13 @@ use Rattle.obj36_parts.specs.Sections.{entry_mark}
 use Rattle.obj36_parts.specs.ObjectSegment.{first_expression_at}
 use Rattle.obj36_read.specs.Reading.{unit_at}
 
--- the lesser of two places, or the one that there is
+-- the lesser of two indexes, each of which may be missing
 abbrev pub earlier : Option ℕ → Option ℕ → Option ℕ
 earlier None q = q
 earlier (Some p) None = Some p
 earlier (Some p) (Some q) = Some (min p q)
 
--- the place, if the condition holds
+-- the index, if the condition holds
 abbrev pub where_bad : Bool → ℕ → Option ℕ
 where_bad bad at = if bad then Some at else None
 
@@ -47,8 +47,8 @@ chain_fault d zero holder at =
 chain_fault d (suc count) holder at =
     if is_member d at then chain_fault d count at (next_definition d at) else Some 0
 
--- The number of definitions is wrong if the section has no room for them after the two words of its
--- head.
+-- The fault of the number of definitions: word 0, if the section has no room for them after the two
+-- words of its head, and otherwise the fault of their chain.
 unfoldable pub count_fault : List ℕ → Option ℕ
 count_fault d =
     if nat_lt (length d) (first_expression_at (definition_count d))
@@ -130,7 +130,8 @@ abbrev pub is_at_head : Option ℕ → Bool
 is_at_head None = false
 is_at_head (Some p) = nat_eq p 0
 
--- the faults of the tables if the number of definitions is right
+-- the first fault of the table of expressions, the classes and the names that occur twice, if the
+-- number of definitions is right
 unfoldable pub members_fault : ℕ → List ℕ → Option ℕ
 members_fault version d =
     earlier
@@ -158,8 +159,8 @@ unfoldable pub are_zeros : List ℕ → ℕ → ℕ → ℕ → Bool
 are_zeros d at i zero = true
 are_zeros d at i (suc count) = nat_eq (unit_at d at i) 0 && are_zeros d at (i + 1) count
 
--- whether there is a valid name: its length, that many characters, and zeros to the end of its last
--- word
+-- whether a valid name is at an offset: its length, as many characters, and zeros to the end of its
+-- last word
 unfoldable pub is_name_at : List ℕ → ℕ → Bool
 is_name_at d at =
     lies_within d at && nat_le 1 (unit_at d at 0) && nat_le (unit_at d at 0) name_limit

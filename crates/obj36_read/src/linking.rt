@@ -47,6 +47,7 @@ fn fault_of_types(version: u8, d: &[Word]) -> Option<u64>
 
 // ---- links
 
+// The number of links, from the head of the linkage section.
 #[tactic(auto, unfolding(crate::specs::LinkFaults::link_count))]
 fn count_of_links(k: &[Word]) -> u64
     ensures value { result ≡ link_count k.now }
@@ -55,6 +56,7 @@ fn count_of_links(k: &[Word]) -> u64
     right_of(word_at(k, 1))
 }
 
+// The offset of the first link, from the head of the linkage section.
 #[tactic(auto, unfolding(crate::specs::Reading::link_start))]
 fn start_of_links(k: &[Word]) -> u64
     ensures value { result ≡ link_start k.now }
@@ -63,7 +65,8 @@ fn start_of_links(k: &[Word]) -> u64
     left_of(word_at(k, 1))
 }
 
-// Whether the head of the linkage section is valid.
+// Whether the head of the linkage section is valid: there are as many links as expressions, and
+// they fill the section after the static words.
 #[tactic(auto, unfolding(crate::specs::LinkFaults::is_head))]
 fn is_good_head(version: u8, d: &[Word], k: &[Word]) -> bool
     ensures { result ≡ is_head version d.now k.now }
@@ -77,6 +80,7 @@ fn is_good_head(version: u8, d: &[Word], k: &[Word]) -> bool
         && (version != 2 || start == HEAD_WORDS)
 }
 
+// Whether the link at `at` is valid and has its expression at `expression`.
 #[tactic(auto, unfolding(crate::specs::LinkFaults::is_link_at))]
 fn is_good_link(k: &[Word], at: u64, expression: u64) -> bool
     requires { at < 2 ^ 20 }
@@ -136,7 +140,8 @@ pub fn index_in_list(from: u64, place: Option<u64>) -> Option<u64>
     }
 }
 
-// The lesser of two indexes, or the one that there is.
+// The lesser of two indexes, each of which may be missing. As `earlier_of`, but for indexes in the
+// whole list, whose bound is larger.
 fn first_place(first: Option<u64>, second: Option<u64>) -> Option<u64>
     requires first { IfSome first (λ p. p < 2 ^ 21) }
     requires second { IfSome second (λ p. p < 2 ^ 21) }

@@ -64,7 +64,7 @@ fn read_tables(definitions: &mut Defs, links: &mut Links, words: &[Word]) -> Res
     )
 }
 
-// Decodes the lists of a list of words, and adds to each list of `lists` its items.
+// Decodes the parts of an object that are lists from its words, and adds the items to `lists`.
 #[tactic(auto, unfolding(crate::specs::Reading::parts_of))]
 pub(crate) fn read_lists(lists: &mut Lists, words: &[Word]) -> Result<(), NoMemory>
     requires { length words.now < 2 ^ 32 }

@@ -39,7 +39,7 @@ pub struct Extents {
     pub symbol: Extent,
 }
 
-// Where a section is, as word i of the map says.
+// Where the section is that word i of the map describes.
 #[tactic(auto, unfolding(crate::specs::MapFaults::extent_at, crate::specs::Reading::length_of_part))]
 fn extent_in_map(words: &[Word], i: u64) -> Extent
     requires { i < newer_map }
@@ -56,7 +56,8 @@ fn extent_in_map(words: &[Word], i: u64) -> Extent
 
 // ---- the map
 
-// Whether the map has the length of a map of either version.
+// Whether the last word locates a map: from there to the end there are as many words as a map of
+// either version has, with the last word.
 #[tactic(auto, unfolding(crate::specs::MapFaults::is_in_map))]
 fn has_map_length(words: &[Word]) -> bool
     ensures { result ≡ is_in_map words.now }
@@ -66,7 +67,8 @@ fn has_map_length(words: &[Word]) -> bool
     map + OLDER_MAP == count || map + NEWER_MAP == count
 }
 
-// Whether the word with the entry bound is valid.
+// Whether the map word with the entry bound is valid: its right half is 0, and the bound is at most
+// the length of the text.
 #[tactic(auto, unfolding(crate::specs::MapFaults::is_bound))]
 fn is_good_bound(words: &[Word], bound: Word) -> bool
     ensures { result ≡ is_bound words.now bound }
@@ -74,7 +76,8 @@ fn is_good_bound(words: &[Word], bound: Word) -> bool
     right_of(bound) == 0 && left_of(bound) <= length_in_map(words, 1)
 }
 
-// The first invalid word of a map with a valid length.
+// The first invalid word of a map with a valid length: that of the version, that of the entry
+// bound, or the last word.
 #[tactic(auto, unfolding(crate::specs::MapFaults::fixed_fault, m36_text::specs::Lines::first_met))]
 fn fault_of_fixed(words: &[Word], version: u8) -> Option<u64>
     requires some { 1 ≤ length words.now }
@@ -120,6 +123,7 @@ const DEFINITION_HEAD: u64 = 2;
 
 const SYMBOL_HEAD: u64 = 1;
 
+// The index in the map of the word that describes the symbol section.
 fn index_of_symbol(version: u8) -> u64
     ensures value { result ≡ symbol_index version }
     ensures bound { result < newer_map }
@@ -127,6 +131,7 @@ fn index_of_symbol(version: u8) -> u64
     if version == 2 { 5 } else { 4 }
 }
 
+// Where the static section is; in version 1, which has none, an empty one at word 0.
 fn extent_of_statics(words: &[Word], version: u8) -> Extent
     ensures value { result
         ≡ (if is_newer_version version then extent_at words.now statics_index else nowhere) }
@@ -156,7 +161,7 @@ pub fn extents_in_map(words: &[Word]) -> Extents
     }
 }
 
-// Whether a section ends past the map, or has fewer words than its head.
+// Whether a section ends past the map, which begins at `map`, or has fewer than `least` words.
 #[tactic(auto, unfolding(crate::specs::MapFaults::is_outside))]
 fn leaves(map: u64, e: Extent, least: u64) -> bool
     requires from { e.from < 2 ^ 18 }

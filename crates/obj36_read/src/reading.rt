@@ -151,6 +151,7 @@ fn section_of(number: u64) -> Section
 
 // ---- definitions
 
+// Decodes the definition at an index of the definition section.
 #[tactic(auto, unfolding(crate::specs::Reading::definition_at))]
 fn definition(words: &[Word], at: u64) -> Named
     requires { at < 2 ^ 33 }
@@ -184,6 +185,7 @@ pub(crate) fn read_definitions(found: &mut Defs, words: &[Word], count: u64) -> 
 
 // ---- links
 
+// The name at an index, if a link uses it, and otherwise the empty name.
 fn name_if(used: bool, words: &[Word], at: u64) -> Name
     requires { at < 2 ^ 32 }
     ensures { result ≡ (if used then name_at words.now at else []) }
@@ -195,6 +197,7 @@ fn name_if(used: bool, words: &[Word], at: u64) -> Name
     }
 }
 
+// The section of a link; the text if the link has the name of a segment.
 fn section_unless(named: bool, number: u64) -> Section
     ensures { result ≡ (if named then Text else section_with number) }
 {
@@ -254,6 +257,7 @@ pub(crate) fn read_links(
 
 // ---- relocations
 
+// Decodes a relocation.
 #[tactic(auto, unfolding(crate::specs::Reading::relocation_in))]
 fn relocation(word: Word) -> Reloc
     ensures { result ≡ relocation_in word }
@@ -314,7 +318,8 @@ pub fn length_in_map(words: &[Word], i: u64) -> u64
     right_of(word_at(words, place_of_map(words) + i))
 }
 
-// A number of items that word i of a section has, at most the number of words of the list.
+// A number of items, in the right half of word i of a section; it is reduced to the number of words
+// of the list.
 #[tactic(auto, unfolding(crate::specs::Reading::count_of_items))]
 pub(crate) fn count_in_head(words: &[Word], part: &[Word], i: u64) -> u64
     ensures value { result ≡ count_of_items words.now part.now i }
@@ -389,6 +394,7 @@ pub fn index_of_bound(version: u8) -> u64
     if version == 2 { 6 } else { 5 }
 }
 
+// The entry bound, which a word of the map has.
 #[tactic(auto, unfolding(crate::specs::Reading::bound_in))]
 pub(crate) fn bound(words: &[Word]) -> u64
     ensures value { result ≡ bound_in words.now }

@@ -54,7 +54,7 @@ fn words_before_last(d: &[Word], at: u64) -> &[Word]
     front(behind(d, at), unit(d, at, 0) / 4)
 }
 
-// The parts of the last word of a name that belong to the name.
+// The nine-bit parts of the last word of a name that belong to the name, as one number.
 #[tactic(auto, unfolding(crate::specs::Spelled::last_parts))]
 fn parts_of_last(d: &[Word], at: u64) -> u64
     requires at { at < 2 ^ 18 }
@@ -78,7 +78,7 @@ fn spelled_at(d: &[Word], at: u64) -> Spelling<'_>
     }
 }
 
-// The lesser of a place and another, if there is another.
+// The lesser of `place` and `other`. None if there is no other.
 fn lesser(place: u64, other: Option<u64>) -> Option<u64>
     requires { place < 2 ^ 18 }
     ensures value { result ≡ option_map (min place) other }

@@ -27,6 +27,7 @@ fn is_name_unit(unit: u64) -> bool
     unit < 1 << 8 && is_name_character(unit as u8)
 }
 
+// Whether `count` nine-bit parts, from part `from` of the word `at` on, are characters of a name.
 fn have_name_bytes(d: &[Word], at: u64, from: u64, count: u64) -> bool
     requires at { at < 2 ^ 20 }
     requires from { from < 2 ^ 20 }
@@ -41,6 +42,7 @@ fn have_name_bytes(d: &[Word], at: u64, from: u64, count: u64) -> bool
     true
 }
 
+// Whether `count` nine-bit parts, from part `from` of the word `at` on, are zero.
 fn have_zeros(d: &[Word], at: u64, from: u64, count: u64) -> bool
     requires at { at < 2 ^ 20 }
     requires from { from < 2 ^ 20 }
@@ -100,6 +102,7 @@ fn fault_of_defined_names(d: &[Word]) -> Option<u64>
     found
 }
 
+// As `fault_of_name`; None if the expression does not have this name.
 fn fault_of_name_if(named: bool, d: &[Word], holder: u64, at: u64) -> Option<u64>
     requires holder { holder < 2 ^ 20 }
     requires at { at < 2 ^ 20 }
@@ -113,6 +116,7 @@ fn fault_of_name_if(named: bool, d: &[Word], holder: u64, at: u64) -> Option<u64
     }
 }
 
+// The first fault of the names of the expression at an offset. Its type says which names it has.
 #[tactic(auto, unfolding(crate::specs::TableFaults::expression_fault))]
 fn fault_of_expression(d: &[Word], at: u64) -> Option<u64>
     requires { at < 2 ^ 20 - 1 }

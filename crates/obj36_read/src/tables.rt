@@ -18,7 +18,7 @@ use obj36_parts::halves::{left_of, right_of};
 use obj36_parts::sections::ENTRY_MARK;
 use std::alloc::Global;
 
-// The lesser of two places, or the one that there is.
+// The lesser of two indexes, each of which may be missing.
 pub(crate) fn earlier_of(first: Option<u64>, second: Option<u64>) -> Option<u64>
     requires first { IfSome first (λ p. p < 2 ^ 20) }
     requires second { IfSome second (λ p. p < 2 ^ 20) }
@@ -32,6 +32,7 @@ pub(crate) fn earlier_of(first: Option<u64>, second: Option<u64>) -> Option<u64>
     }
 }
 
+// The index, if the word there is bad.
 pub(crate) fn place_if(bad: bool, at: u64) -> Option<u64>
     requires { at < 2 ^ 20 }
     ensures value { result ≡ where_bad bad at }
@@ -42,6 +43,7 @@ pub(crate) fn place_if(bad: bool, at: u64) -> Option<u64>
 
 // ---- the chain of definitions
 
+// The number of definitions, from the head of the section.
 #[tactic(auto, unfolding(crate::specs::TableFaults::definition_count))]
 pub(crate) fn count_of_definitions(d: &[Word]) -> u64
     ensures value { result ≡ definition_count d.now }
@@ -50,6 +52,7 @@ pub(crate) fn count_of_definitions(d: &[Word]) -> u64
     right_of(word_at(d, 0))
 }
 
+// The offset of the first definition, from the head of the section.
 #[tactic(auto, unfolding(crate::specs::TableFaults::first_definition))]
 pub(crate) fn definition_first(d: &[Word]) -> u64
     ensures value { result ≡ first_definition d.now }
@@ -76,6 +79,9 @@ fn is_inside(d: &[Word], at: u64) -> bool
     at != 0 && at + 2 <= d.len() as u64
 }
 
+// The fault after the last of the definitions that are counted. The word `holder` has the offset
+// `at` of a next one. There is no fault if this is 0. If it is a further definition, the fault is
+// that of word 0, and if it is not within the section, that of `holder`.
 #[tactic(auto, unfolding(crate::specs::TableFaults::chain_fault))]
 fn end_of_chain(d: &[Word], holder: u64, at: u64) -> Option<u64>
     requires holder { holder < 2 ^ 18 }
@@ -92,7 +98,8 @@ fn end_of_chain(d: &[Word], holder: u64, at: u64) -> Option<u64>
     }
 }
 
-// The fault of a chain of definitions that does not have `count` members.
+// The fault of the chain of definitions: word 0 if it does not have `count` of them, or the word
+// with the offset of a next one if this is not within the section.
 fn fault_of_chain(d: &[Word], count: u64) -> Option<u64>
     requires { count < 2 ^ 18 }
     ensures value { result ≡ chain_fault d.now count 0 (first_definition d.now) }
@@ -125,6 +132,7 @@ fn fault_of_count(d: &[Word]) -> Option<u64>
 
 // ---- the table of expressions
 
+// The number of expressions, from the head of the section.
 #[tactic(auto, unfolding(crate::specs::TableFaults::expression_count))]
 pub(crate) fn count_of_expressions(d: &[Word]) -> u64
     ensures value { result ≡ expression_count d.now }
@@ -133,6 +141,7 @@ pub(crate) fn count_of_expressions(d: &[Word]) -> u64
     right_of(word_at(d, 1))
 }
 
+// The offset of the first expression, from the head of the section.
 #[tactic(auto, unfolding(crate::specs::TableFaults::first_expression))]
 pub(crate) fn expression_first(d: &[Word]) -> u64
     ensures value { result ≡ first_expression d.now }
@@ -184,6 +193,7 @@ fn fault_of_classes(d: &[Word], last: u64) -> Option<u64>
 
 // ---- names that occur twice
 
+// The offset of the name of a definition.
 #[tactic(auto, unfolding(crate::specs::TableFaults::name_place))]
 pub(crate) fn place_of_name(d: &[Word], at: u64) -> u64
     requires { at < 2 ^ 20 }
@@ -205,7 +215,8 @@ pub(crate) fn is_within(d: &[Word], at: u64) -> bool
 
 // ---- all of them
 
-// The first fault of the tables, if the number of definitions is right.
+// The first fault of the table of expressions, the classes and the names that occur twice, if the
+// number of definitions is right.
 #[tactic(auto, unfolding(crate::specs::TableFaults::members_fault))]
 fn fault_of_members(alloc: Global, version: u8, d: &[Word]) -> Result<Option<u64>, NoMemory>
     ensures value { IfOk result (λ place. place ≡ members_fault version d.now) }
@@ -217,6 +228,7 @@ fn fault_of_members(alloc: Global, version: u8, d: &[Word]) -> Result<Option<u64
     Ok(earlier_of(table, earlier_of(classes, repeated)))
 }
 
+// Whether a fault is that of word 0.
 fn is_head(place: Option<u64>) -> bool
     ensures { result ≡ is_at_head place }
 {
