@@ -15,13 +15,16 @@ pub record Assembly : Type 0 where
   pub source : Source
   pub parts : PartsFields
 
+-- the source with the parts that it was assembled into, or the fault of the assembly
 abbrev pub with_parts : Source → Result PartsFields AlmFault → Result Assembly AlmFault
 with_parts source made = and_then made (λ parts. Ok (record { source = source; parts = parts }))
 
--- The text is first parsed, and then assembled; the first refusal is reported.
+-- The assembly of a source, from the result of parsing it, or its first fault. Parsing faults come
+-- before those of assembling.
 abbrev pub assembly_by : Result Source AlmFault → Result Assembly AlmFault
 assembly_by read = and_then read (λ source. with_parts source (assembled source))
 
+-- the parsed lines of a source and the parts of its object, or the first fault of the source
 unfoldable pub assembly_of : List ℕ → Result Assembly AlmFault
 assembly_of bytes = assembly_by (parsed bytes)
 
@@ -29,20 +32,21 @@ assembly_of bytes = assembly_by (parsed bytes)
 unfoldable pub object_bytes : PartsFields → List ℕ
 object_bytes parts = packed (words_of parts)
 
--- the file with an object
+-- the file with an object: it has this name, and the packed words as its content
 abbrev pub object_set : List ℕ → PartsFields → Set
 object_set name parts = record { name = name; content = object_bytes parts }
 
 -- ---- the contract of a call that makes something of a source
 
--- The source assembles, and this is made of it.
+-- The source assembles, and `made` is what `make` makes of its assembly.
 pub record IsMadeOf {A : Type 0} (make : Assembly → A) (made : A)
     (given : Result Assembly AlmFault) : Type 0 where
   pub assembly : Assembly
   pub is : given ≡ Ok assembly
   pub made_is : made ≡ make assembly
 
--- This is made of the source, or the source is refused.
+-- The result is what `make` makes of the assembly of a source, or the refusal of the source, or
+-- NoMemory.
 abbrev pub MakingSays :
     {A : Type 0} → (Assembly → A) → Result A AlmFault → Result Assembly AlmFault → Type 0
 MakingSays make (Ok made) given = IsMadeOf make made given

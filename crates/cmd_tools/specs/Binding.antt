@@ -27,10 +27,11 @@ abbrev pub names_told : List ℕ → Result (List (List ℕ)) BindFault → Earl
 names_told file (Ok names) = Ok names
 names_told file (Err fault) = Err (bind_refused file fault)
 
--- The object is written, and then printed.
+-- the report of a bound object: the file with the object, and the print of it
 abbrev pub bound_told : List ℕ → PartsFields → ToldFields
 bound_told name parts = record { sets = object_set name parts ∷ []; text = print_of name parts }
 
+-- the report of the bound object, or the refusal of the bind file
 abbrev pub bind_told : BindFiles → Result PartsFields BindFault → Early ToldFields
 bind_told files (Ok parts) = Ok (bound_told files.object parts)
 bind_told files (Err fault) = Err (bind_refused files.bindfile fault)

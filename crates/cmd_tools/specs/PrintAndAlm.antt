@@ -16,6 +16,7 @@ use Rattle.cmd_tools.specs.Assemblies.{Assembly, object_set, MakingSays}
 
 -- ---- `print NAME`
 
+-- the report of an object: its print, and no file
 abbrev pub printed : List ℕ → PartsFields → ToldFields
 printed name parts = record { sets = []; text = print_of name parts }
 
@@ -33,17 +34,18 @@ source_refused name (alm.E7 line column) = refused_at name code.E7 line column
 source_refused name (alm.E8 line column) = refused_at name code.E8 line column
 source_refused name alm.NoMemory = NoMemory
 
--- The object is written, and then the listing is printed.
+-- the report of an assembly: the file with the object, and the listing
 abbrev pub assembly_told : List ℕ → Assembly → ToldFields
 assembly_told name a =
     record { sets = object_set name a.parts ∷ []; text = listing_of name a.source a.parts }
 
+-- the report of an assembled source, or the refusal of the source
 abbrev pub told_by : AlmFiles → Result Assembly AlmFault → Early ToldFields
 told_by files (Ok a) = Ok (assembly_told files.object a)
 told_by files (Err fault) = Err (source_refused files.source fault)
 
 -- ---- the contract of the part of `alm` that works without files
 
--- The result is the report of what a source means, or the refusal of the source.
+-- The result is the report of the assembly of a source, or the refusal of the source, or NoMemory.
 abbrev pub MadeSays : List ℕ → Result ToldFields AlmFault → Result Assembly AlmFault → Type 0
 MadeSays name result given = MakingSays (assembly_told name) result given

@@ -17,7 +17,7 @@ use Rattle.cmd_tools.specs.Reporting.{put_text, write_report}
 use Rattle.cmd_tools.specs.ToolPrograms.{print_report, print_program, access_report, access_program}
 use Rattle.cmd_tools.specs.ToolPrograms.{alm_report, alm_program, bind_report, bind_program}
 
--- A command reads a report, and does what `next` says of it.
+-- The laws of a command that makes `report` of files, and then performs `next` of it.
 pub record ToolLaw {may : May} (report : Program may ToldFields)
     (next : ToldFields → Program may (Unit {0})) (program : Program may (Unit {0})) : Type 0 where
   -- The report is made of files that are read, and nothing else is done before.
@@ -37,7 +37,7 @@ pub record ToolLaw {may : May} (report : Program may ToldFields)
   -- Over the same files all calls put prefixes of one text.
   pub one_text : HasOneText program
 
--- each of the four commands
+-- the laws of the four commands
 pub record ToolLaws : Type 0 where
   -- The lines in which a text is put, one after another, are the text.
   pub lines : (text : List ℕ) → joined (lines_in text) ≡ text

@@ -27,6 +27,7 @@ use Rattle.cmd_tools.specs.Reporting.{put_text, write_report}
 unfoldable pub print_report : {may : May} → List ℕ → Program may ToldFields
 print_report name = then_with (file_object name) (λ parts. decides (Ok (printed name parts)))
 
+-- the whole command: reads the object, and puts its print
 unfoldable pub print_program : List ℕ → Program quiet (Unit {0})
 print_program name = then_with (print_report name) (λ report. put_text report.text)
 
@@ -37,20 +38,22 @@ unfoldable pub lists_report : {may : May} → List ℕ → CatalogFields → Pro
 lists_report user catalog =
     then_with (access_lists catalog) (λ lists. decides (Ok (access_told user catalog lists)))
 
--- reads the boot text, and then the access lists
+-- reads the boot text and the access lists, and reports what a user may do with each segment
 unfoldable pub access_report : {may : May} → List ℕ → Program may ToldFields
 access_report user = then_with boot_catalog (λ catalog. lists_report user catalog)
 
+-- the whole command: reads both texts, and puts a line for each segment
 unfoldable pub access_program : List ℕ → Program quiet (Unit {0})
 access_program user = then_with (access_report user) (λ report. put_text report.text)
 
 -- ---- `alm NAME`
 
--- reads and assembles a source
+-- reads and assembles a source, and reports the object
 unfoldable pub alm_report : {may : May} → AlmFiles → Program may ToldFields
 alm_report files =
     then_with (file_bytes files.source) (λ bytes. decides (told_by files (assembly_of bytes)))
 
+-- the whole command: assembles the source, writes the object, and then puts the listing
 unfoldable pub alm_program : AlmFiles → Program writing (Unit {0})
 alm_program files = then_with (alm_report files) (λ report. write_report report)
 
@@ -69,9 +72,10 @@ text_report files text =
     then_with (decides (names_told files.bindfile (names_by (bind_lines text))))
     (λ names. components_report files text names)
 
--- reads the bind file, and then its components
+-- reads the bind file and the objects of its components, and reports the bound object
 unfoldable pub bind_report : {may : May} → BindFiles → Program may ToldFields
 bind_report files = then_with (file_bytes files.bindfile) (λ text. text_report files text)
 
+-- the whole command: binds, writes the bound object, and then puts its print
 unfoldable pub bind_program : BindFiles → Program writing (Unit {0})
 bind_program files = then_with (bind_report files) (λ report. write_report report)

@@ -35,7 +35,7 @@ fn listed(alloc: Global, name: &Name, lines: &Lines36, object: &Object) -> Resul
     Ok(report)
 }
 
-/// Assembles parsed lines, and makes the report: the object under its name, and the listing.
+// Assembles parsed lines, and makes the report: the object under its name, and the listing.
 #[tactic(auto, using(crate::proofs::AlmLaws::made))]
 fn made_with(alloc: Global, name: &Name, lines: &Lines36) -> Result<Report, AlmFault>
     ensures { MadeSays name.now result (with_parts lines.now (assembled lines.now)) }
@@ -51,7 +51,7 @@ fn made_with(alloc: Global, name: &Name, lines: &Lines36) -> Result<Report, AlmF
     }
 }
 
-/// Assembles the bytes of a source, at most 16 MiB, and makes the report.
+// Assembles the bytes of a source, at most 16 MiB, and makes the report.
 fn made_of(alloc: Global, name: &Name, bytes: &[u8]) -> Result<Report, AlmFault>
     requires { length bytes.now ≤ file_limit }
     ensures { MadeSays name.now result (assembly_of bytes.now) }
@@ -62,7 +62,7 @@ fn made_of(alloc: Global, name: &Name, bytes: &[u8]) -> Result<Report, AlmFault>
     }
 }
 
-/// As `made_of`; a fault of the source is a refusal that names the source.
+// As `made_of`; a fault of the source is a refusal that names the source.
 #[tactic(auto, using(crate::proofs::AlmLaws::answering))]
 fn assembled_in(alloc: Global, files: &AlmFiles, bytes: &[u8]) -> Result<Report, Refusal>
     requires { length bytes.now ≤ file_limit }

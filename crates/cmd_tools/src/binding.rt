@@ -44,6 +44,7 @@ impl Model for Objects {
 }
 
 impl Objects {
+    // No objects.
     fn new(alloc: Global) -> Objects
         ensures { result ≡ [] }
     {
@@ -52,6 +53,7 @@ impl Objects {
         }
     }
 
+    // Adds an object at the end.
     fn push(&mut self, x: Object) -> Result<(), NoMemory>
         ensures { OnOk result (self.new ≡ self.old ++ x ∷ []) }
     {
@@ -59,6 +61,7 @@ impl Objects {
         Ok(())
     }
 
+    // The objects in the order in which they were read.
     fn items(&self) -> &[Object]
         ensures { result.now ≡ self.now }
     {
@@ -141,7 +144,7 @@ fn report_of(alloc: Global, name: &Name, object: &Object) -> Result<Report, Refu
     Ok(report)
 }
 
-// Binds the objects as the bind file says, or returns why they cannot be bound.
+// Binds the objects by the bind file. As `bind`, for a text of at most 16 MiB.
 fn bound_by(
     alloc: Global,
     text: &[u8],

@@ -45,12 +45,14 @@ impl Report {
         Ok(Report { files, text })
     }
 
+    /// The files that the command writes, in order. For `print` and `access` there are none.
     pub fn files(&self) -> &[Set]
         ensures { result.now ≡ self.now.sets }
     {
         self.files.as_slice()
     }
 
+    /// The text that is put after the files are written: lines with their line feeds.
     pub fn text(&self) -> &[u8]
         ensures { result.now ≡ self.now.text }
     {

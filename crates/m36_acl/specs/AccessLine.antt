@@ -26,7 +26,7 @@ pub data Line : Type 0 where
 abbrev pub unprivileged : Mode → Option Mode
 unprivileged mode = if mode.privileged then None else Some mode
 
--- the rights that a word spells
+-- the rights that a word spells: a mode without the letter p
 unfoldable pub rights_of : List ℕ → Option Mode
 rights_of word = option_and_then unprivileged (mode_of word)
 
@@ -37,7 +37,7 @@ abbrev pub entry_read : Option (List ℕ) → Option (List ℕ) → Option Entry
 entry_read (Some dir) (Some name) = Some (entry dir name)
 entry_read _ _ = None
 
--- DIR NAME
+-- the directory and the name of a `segment` line, from its words DIR and NAME
 abbrev pub entry_of : List (List ℕ) → Option Entry
 entry_of (dir ∷ name ∷ []) = entry_read (directory_of dir) (name_of name)
 entry_of _ = None
@@ -52,12 +52,12 @@ term_with text mode =
       writable = mode.writable;
     }
 
--- a term with its rights, if both are of their form
+-- a term with its rights, if the text has the form of a term and the mode could be read
 abbrev pub term_read : List ℕ → Option Mode → Option TermFields
 term_read text None = None
 term_read text (Some mode) = if is_term text then Some (term_with text mode) else None
 
--- TERM MODE
+-- the term of a `term` line with its rights, from its words TERM and MODE
 abbrev pub term_of : List (List ℕ) → Option TermFields
 term_of (text ∷ mode ∷ []) = term_read text (rights_of mode)
 term_of _ = None

@@ -64,7 +64,8 @@ has_term terms text = list_any (λ t. is_text text t.text) terms
 abbrev pub with_term : AclSegmentFields → TermFields → AclSegmentFields
 with_term segment term = record segment { terms = segment.terms ++ term ∷ [] }
 
--- the lists after a `term` line, or its fault; `last` is the list of the segment above it
+-- The lists after a `term` line, which adds to the last list, or the fault of the line. `last` is
+-- that list; without one the fault is C1.
 abbrev pub with_term_line : ℕ → Lists → Option AclSegmentFields → TermFields → Read
 with_term_line line above None term = Err (fault.C1 line)
 with_term_line line above (Some last) term =
@@ -96,7 +97,8 @@ lists_of text = lists_from 1 [] (parsed_lines text)
 
 -- ---- results
 
--- The result of a call that parses. It may be NoMemory whatever the text is.
+-- The fault of a call is that of the definition, or it is NoMemory, which is allowed for every
+-- text.
 abbrev pub RefusesWith : AclFault → Read → Type 0
 RefusesWith fault.NoMemory definition = Unit {0}
 RefusesWith told definition = definition ≡ Err told
@@ -106,7 +108,7 @@ abbrev pub AccessListsResult : Read → Read → Type 0
 AccessListsResult (Ok lists) definition = definition ≡ Ok lists
 AccessListsResult (Err told) definition = RefusesWith told definition
 
--- A line changes the lists to `new`, or its code is the result.
+-- A call changes the lists to `new`, as the definition does, or fails with its fault or NoMemory.
 abbrev pub ChangesTo : {A : Type 0} → Lists → Result A AclFault → Read → Type 0
 ChangesTo new (Ok done) definition = definition ≡ Ok new
 ChangesTo new (Err told) definition = RefusesWith told definition

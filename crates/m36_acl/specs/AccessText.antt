@@ -27,7 +27,7 @@ mode_text true false true = codes "rw"
 mode_text false true true = codes "ew"
 mode_text true true true = codes "rew"
 
--- the mode of a decision
+-- the mode of a decision, as it is printed
 abbrev pub mode_of : Decision → List ℕ
 mode_of d = mode_text d.readable d.executable d.writable
 
@@ -45,12 +45,12 @@ ModesComeBack =
 
 -- ---- the term that decides
 
--- a term, or `none`
+-- the text of a term, or `none` if there is no term
 abbrev pub text_of : Option TermFields → List ℕ
 text_of None = codes "none"
 text_of (Some term) = term.text
 
--- the term at an index, or `none`
+-- the text of the term at an index, or `none` if there is no index
 abbrev pub term_at : List TermFields → Option ℕ → List ℕ
 term_at terms None = text_of None
 term_at terms (Some place) = text_of (slice_get terms place)
@@ -97,7 +97,8 @@ access_from lists user directories (s ∷ segments) =
 unfoldable pub access_text : Lists → List ℕ → CatalogFields → List ℕ
 access_text lists user catalog = access_from lists user catalog.directories catalog.segments
 
--- the line for each segment of a catalog, if the user may not use it
+-- for each segment of a catalog, the line that is printed if a run ends because the user lacks a
+-- right to it
 unfoldable pub denied_lines : Lists → List ℕ → CatalogFields → List (List ℕ)
 denied_lines lists user catalog =
     map (denied_line lists user catalog.directories) catalog.segments

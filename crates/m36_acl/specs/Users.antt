@@ -33,7 +33,7 @@ components_of text = three_of (parts_of text)
 
 -- ---- forms
 
--- A-Z a-z 0-9 _
+-- whether a byte can be in a person or a project: A-Z a-z 0-9 _
 abbrev pub is_component_character : ℕ → Bool
 is_component_character c = is_word_character c
 
@@ -45,6 +45,7 @@ component_limit = 32
 abbrev pub is_component : List ℕ → Bool
 is_component text = is_run_of is_component_character component_limit text
 
+-- whether a byte can be a tag: a-z
 abbrev pub is_tag_character : ℕ → Bool
 is_tag_character c = is_small_letter c
 
@@ -56,11 +57,11 @@ is_tag text = is_run_of is_tag_character 1 text
 abbrev pub is_any : List ℕ → Bool
 is_any text = is_text (codes "*") text
 
--- whether components are those of a user
+-- whether components have the form of those of a user
 abbrev pub are_of_user : Components → Bool
 are_of_user u = is_component u.person && is_component u.project && is_tag u.tag
 
--- whether there are components, and they are those of a user
+-- whether a text has three components, and they have the form of those of a user
 abbrev pub have_form_of_user : Option Components → Bool
 have_form_of_user None = false
 have_form_of_user (Some u) = are_of_user u
@@ -81,11 +82,11 @@ may_be_component text = is_any text || is_component text
 abbrev pub may_be_tag : List ℕ → Bool
 may_be_tag text = is_any text || is_tag text
 
--- whether components are those of a term
+-- whether components have the form of those of a term
 abbrev pub are_of_term : Components → Bool
 are_of_term t = may_be_component t.person && may_be_component t.project && may_be_tag t.tag
 
--- whether there are components, and they are those of a term
+-- whether a text has three components, and they have the form of those of a term
 abbrev pub have_form_of_term : Option Components → Bool
 have_form_of_term None = false
 have_form_of_term (Some t) = are_of_term t
@@ -100,7 +101,7 @@ user_of text = if is_user text then Some text else None
 
 -- ---- matching
 
--- a component of a term that is `*` or equal to that of the user
+-- whether a component of a term is `*` or equal to that of the user (`given`)
 abbrev pub admits : List ℕ → List ℕ → Bool
 admits component given = is_any component || is_text component given
 

@@ -41,6 +41,7 @@ impl Hash for Place {
 
     ghost respects_eq = { Prim.search (hashing, rules) };
 
+    // Hashes the name, and then the directory.
     fn hash<H: Hasher>(&self, state: &mut H) {
         self.name.hash(state);
         state.write(self.dir.as_slice());

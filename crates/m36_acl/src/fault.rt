@@ -25,6 +25,7 @@ impl From<NoMemory> for AclFault {
 
     ghost from_gives = { λ _ given. given ≡ fault.NoMemory };
 
+    // Out of memory is a fault of its own, which names no line.
     fn from(_cause: NoMemory) -> AclFault {
         AclFault::NoMemory
     }

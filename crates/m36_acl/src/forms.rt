@@ -11,7 +11,7 @@ use crate::segment::Term;
 use m36_dir::{Mode, is_directory, mode_of, name_of};
 use m36_text::{Name, first_word, only_word};
 
-/// `DIR NAME`
+/// The directory and the name, from the words `DIR NAME` of a `segment` line.
 pub(crate) fn entry_of(given: &[u8]) -> Option<(&[u8], Name)>
     ensures value { MatchOption result (entry_of (words_of given.now) ≡ None)
         (λ e. entry_of (words_of given.now) ≡ Some (entry e.0.now e.1)) }
@@ -35,7 +35,7 @@ fn rights_of(word: &[u8]) -> Option<Mode>
     if mode.privileged { None } else { Some(mode) }
 }
 
-/// `TERM MODE`
+/// The term with its rights, from the words `TERM MODE` of a `term` line.
 pub(crate) fn term_of(given: &[u8]) -> Option<Term>
     ensures { result ≡ term_of (words_of given.now) }
 {

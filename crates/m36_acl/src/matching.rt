@@ -42,18 +42,21 @@ fn components_of(text: &[u8]) -> Option<(&[u8], &[u8], &[u8])>
     }
 }
 
+// Whether a byte can be in a person or a project: a letter, a digit or `_`.
 fn is_component_character(c: u8) -> bool
     ensures { result ≡ is_component_character c }
 {
     is_letter(c) || is_digit(10, c) || c == b'_'
 }
 
+// Whether all bytes can be in a person or a project.
 fn has_component_characters(text: &[u8]) -> bool
     ensures { result ≡ list_all is_component_character text.now }
 {
     text.iter().all(|c| is_component_character(*c))
 }
 
+// Whether a text can be a person or a project: 1 to 32 letters, digits and `_`.
 fn is_component(text: &[u8]) -> bool
     ensures value { result ≡ is_component text.now }
     ensures fits { result ≡ true → length text.now ≤ component_limit }
@@ -64,18 +67,21 @@ fn is_component(text: &[u8]) -> bool
     has_component_characters(text)
 }
 
+// Whether a byte can be a tag: a lower-case letter.
 fn is_tag_character(c: u8) -> bool
     ensures { result ≡ is_tag_character c }
 {
     matches!(c, b'a'..=b'z')
 }
 
+// Whether all bytes are lower-case letters.
 fn has_tag_characters(text: &[u8]) -> bool
     ensures { result ≡ list_all is_tag_character text.now }
 {
     text.iter().all(|c| is_tag_character(*c))
 }
 
+// Whether a text can be a tag: one lower-case letter.
 fn is_tag(text: &[u8]) -> bool
     ensures value { result ≡ is_tag text.now }
     ensures fits { result ≡ true → length text.now ≤ 1 }
@@ -86,6 +92,7 @@ fn is_tag(text: &[u8]) -> bool
     has_tag_characters(text)
 }
 
+// Whether a component of a term is `*`, which matches anything.
 fn is_any(text: &[u8]) -> bool
     ensures value { result ≡ is_any text.now }
     ensures fits { result ≡ true → length text.now ≤ 1 }
@@ -93,7 +100,7 @@ fn is_any(text: &[u8]) -> bool
     text == b"*".as_slice()
 }
 
-// Whether these are components of a user.
+// Whether a person, a project and a tag have the form of those of a user.
 fn have_form_of_user(person: &[u8], project: &[u8], tag: &[u8]) -> bool
     ensures value { result
         ≡ are_of_user (record { person = person.now; project = project.now; tag = tag.now }) }
@@ -121,6 +128,7 @@ pub(crate) fn is_user(text: &[u8]) -> bool
     }
 }
 
+// Whether a text can be the person or the project of a term.
 fn is_any_or_component(text: &[u8]) -> bool
     ensures value { result ≡ may_be_component text.now }
     ensures fits { result ≡ true → length text.now ≤ component_limit }
@@ -131,6 +139,7 @@ fn is_any_or_component(text: &[u8]) -> bool
     is_component(text)
 }
 
+// Whether a text can be the tag of a term.
 fn is_any_or_tag(text: &[u8]) -> bool
     ensures value { result ≡ may_be_tag text.now }
     ensures fits { result ≡ true → length text.now ≤ 1 }
@@ -141,7 +150,7 @@ fn is_any_or_tag(text: &[u8]) -> bool
     is_tag(text)
 }
 
-// Whether these are components of a term.
+// Whether a person, a project and a tag have the form of those of a term, where each may be `*`.
 fn have_form_of_term(person: &[u8], project: &[u8], tag: &[u8]) -> bool
     ensures value { result
         ≡ are_of_term (record { person = person.now; project = project.now; tag = tag.now }) }
@@ -169,6 +178,7 @@ pub(crate) fn is_term(text: &[u8]) -> bool
     }
 }
 
+// Whether a component of a term matches that of a user (`given`).
 fn admits(component: &[u8], given: &[u8]) -> bool
     ensures { result ≡ admits component.now given.now }
 {

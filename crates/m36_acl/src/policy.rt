@@ -46,6 +46,7 @@ pub(crate) fn terms_in<'a>(segments: &'a [AclSegment], dir: &[u8], name: &[u8]) 
     }
 }
 
+// The decision if no term matches: no right and no term.
 fn nothing() -> Decision
     ensures { result ≡ nothing }
 {
@@ -57,6 +58,7 @@ fn nothing() -> Decision
     }
 }
 
+// The decision by a term: its rights, and its index in the list.
 fn rights_by(place: usize, term: &Term) -> Decision
     ensures { result ≡ rights_by place (Some term.now) }
 {

@@ -37,6 +37,7 @@ fn add_segment(
     Ok(())
 }
 
+// Whether a list has a term with this text, whatever its rights are.
 fn has_term(terms: &[Term], text: &[u8]) -> bool
     ensures { result ≡ has_term terms.now text.now }
 {

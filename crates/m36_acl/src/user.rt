@@ -23,7 +23,7 @@ impl Model for User {
     ghost view = { λ u. u.text.items };
 }
 
-// A copy of at most 67 bytes.
+// A copy of a text of at most 67 bytes, which is held in place.
 pub(crate) fn kept(text: &[u8]) -> ArrayVec<u8, 67>
     requires { length text.now ≤ user_limit }
     ensures { result.items ≡ text.now }

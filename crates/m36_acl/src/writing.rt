@@ -72,6 +72,7 @@ fn append_word(line: &mut Text, word: &[u8]) -> Result<(), NoMemory>
     Ok(())
 }
 
+// The line `DIR NAME MODE TERM` of a segment, with its line feed.
 #[tactic(auto, unfolding(crate::specs::AccessText::access_line))]
 fn access_line(
     alloc: Global,
@@ -94,6 +95,7 @@ fn access_line(
     Ok(line)
 }
 
+// The line `denied DIR NAME TERM` of a segment, with its line feed.
 #[tactic(auto, unfolding(crate::specs::AccessText::denied_line))]
 fn denied_line(
     alloc: Global,

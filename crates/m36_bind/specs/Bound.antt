@@ -29,6 +29,7 @@ use Rattle.m36_relocate.specs.declared.layout.Relocation.{Relocation}
 
 -- ---- the shape of the bound object
 
+-- whether a component has version 2
 abbrev pub is_newer_component : PlacedFields → Bool
 is_newer_component p = p.shape.newer
 
@@ -133,7 +134,7 @@ components_fit frame (p ∷ all) = if component_fits frame p then components_fit
 abbrev pub fitting : PartsFields → Result PartsFields BindFault
 fitting parts = if sections_fit parts then Ok parts else Err (fault.B4 0)
 
--- the parts, or B4 if no object has them
+-- the parts, or B4 if they are not well formed or a section is too long
 abbrev pub made : PartsFields → Result PartsFields BindFault
 made parts = if is_well_formed parts then fitting parts else Err (fault.B4 0)
 

@@ -32,7 +32,7 @@ pub record PlacedFields : Type 0 where
   pub bases : BasesFields
   pub entries : List (List ℕ × Export)
 
--- the component with this name, these parts and definitions, which begins there
+-- the component with this name, these parts and definitions, whose words begin at these bases
 abbrev pub component : List ℕ → PartsFields → BasesFields → List (List ℕ × Export) → PlacedFields
 component name p b table =
     record { name = name; parts = p; shape = shape_of p; bases = b; entries = table }
@@ -68,14 +68,14 @@ component_named name all =
 
 -- ---- the lines in order
 
--- the components with the object that line n names, or the refusal of the line
+-- the components, with the object that was found for line n, or the refusal of the line
 abbrev pub picked_one : AllFields → ℕ → List ℕ → Option PartsFields → Result AllFields BindFault
 picked_one all n name None = Err (fault.B2 n)
 picked_one all n name (Some p) =
     if list_any (same name) (names_of all.placed) then Err (fault.B3 n)
     else Ok (with_component all (component name p all.next (own_from [] p.definitions)))
 
--- the components, with that of line n
+-- the components, with that of line n if it is an `object` line, or the refusal of the line
 abbrev pub picked_line : GivenFields → AllFields → ℕ → BindLine → Result AllFields BindFault
 picked_line given all n line.Version = Ok all
 picked_line given all n (line.Object name) = picked_one all n name (object_named given name)
@@ -94,7 +94,7 @@ abbrev pub Changes : {A B : Type 0} → A → Result B BindFault → Result A Bi
 Changes new (Ok done) definition = definition ≡ Ok new
 Changes new (Err told) definition = Refuses told definition
 
--- the components alone
+-- the components, without where the next one would begin
 abbrev pub placed_in : AllFields → List PlacedFields
 placed_in all = all.placed
 
@@ -103,13 +103,14 @@ unfoldable pub picked_of : GivenFields → List BindLine → Result (List Placed
 picked_of given lines =
     and_then (picked_from given no_components 1 lines) (λ all. Ok (placed_in all))
 
--- The result of a call that adds a component, which is where the next one begins.
+-- The result of a call that changes the components to `new` and returns where the next one begins.
 abbrev pub AddsComponent : List PlacedFields → Result BasesFields BindFault → Result AllFields BindFault
     → Type 0
 AddsComponent new (Ok next) definition = definition ≡ Ok (record { placed = new; next = next })
 AddsComponent new (Err told) definition = Refuses told definition
 
--- bounds for where the components of n lines begin
+-- Each base is at most 2^19 times n. This holds before line n of a bind file, since a component has
+-- at most 2^18 words of text, 2^18 static words and 2^18 links.
 pub record AreBounded (b : BasesFields) (n : ℕ) : Type 0 where
   pub text : b.text ≤ 2 ^ 19 * n
   pub statics : b.statics ≤ 2 ^ 19 * n

@@ -30,14 +30,16 @@ with_retained kept n name (Some e) =
     if has_definition name kept || e.twice then Err (fault.B3 n)
     else Ok (kept ++ record { name = name; def = e.def } ∷ [])
 
--- the definitions, with that of line n
+-- the definitions so far, with that of the name that line n retains if it is a `retain` line, or
+-- the refusal of the line
 abbrev pub kept_line : List (List ℕ × Export) → List Named → ℕ → BindLine
     → Result (List Named) BindFault
 kept_line exports kept n line.Version = Ok kept
 kept_line exports kept n (line.Object name) = Ok kept
 kept_line exports kept n (line.Retain name) = with_retained kept n name (export_named name exports)
 
--- the definitions, with those of lines from line n on
+-- the definitions so far, with those that lines from line n on retain, or the first refusal of a
+-- line
 unfoldable pub kept_from : List (List ℕ × Export) → List Named → ℕ → List BindLine
     → Result (List Named) BindFault
 kept_from exports kept n [] = Ok kept

@@ -12,7 +12,8 @@ use Rattle.m36_bind.specs.Components.{PlacedFields, moving, component_named}
 use Rattle.m36_relocate.specs.declared.exports.Export.{Export}
 use Rattle.m36_relocate.specs.declared.layout.BoundPlace.{BoundPlace}
 
--- a link to a place of the bound object itself, with the same modifier
+-- a link to a place of the bound object itself (type 1), with the modifier of the link that it
+-- replaces
 abbrev pub own_link : LinkFields → BoundPlace → LinkFields
 own_link l s =
     record {
@@ -28,24 +29,26 @@ own_link l s =
 abbrev pub offset_by : BoundPlace → ℕ → BoundPlace
 offset_by s n = spot s.section (s.offset + n)
 
--- to a segment: the word 0 of the component's text, plus the number of the link
+-- What a link to a segment becomes: a link to word 0 of the text of the component, plus the number
+-- of the link. It is unchanged if the segment is no component.
 abbrev pub segment_link : LinkFields → Option PlacedFields → LinkFields
 segment_link l None = l
 segment_link l (Some p) = own_link l (text_spot p.bases l.expr)
 
--- to an entry of a segment: the new place of the definition, plus the number of the link
+-- What a link to an entry of a component becomes: a link to the new place of the definition, plus
+-- the number of the link. It is unchanged if the component does not define the entry.
 abbrev pub entry_link : ShapeFields → LinkFields → PlacedFields → Option Export → LinkFields
 entry_link frame l p None = l
 entry_link frame l p (Some e) =
     own_link l (offset_by (relocated_place (moving frame p) e.def.section e.def.value) l.expr)
 
--- what a link to another segment becomes; it is unchanged if that is not a component
+-- what a link to an entry of another segment becomes; it is unchanged if that is no component
 abbrev pub outer_link : ShapeFields → LinkFields → Option PlacedFields → LinkFields
 outer_link frame l None = l
 outer_link frame l (Some p) = entry_link frame l p (export_named l.entry p.entries)
 
--- to an entry of the own object: the value of the definition is an offset in the later of its
--- section and that of the link
+-- What a link to an entry of its own object becomes. The value of the definition is an offset in
+-- the later of its section and that of the link.
 abbrev pub inner_link : ShapeFields → PlacedFields → LinkFields → Option Export → LinkFields
 inner_link frame p l None = l
 inner_link frame p l (Some e) =

@@ -19,13 +19,14 @@ use obj36::Object;
 use obj36_parts::{Defs, Parts};
 use std::alloc::Global;
 
+// Whether a line is the `version 2` line.
 fn is_version(line: &BindLine) -> bool
     ensures { result ≡ is_version line.now }
 {
     matches!(line, BindLine::Version)
 }
 
-// Whether a line asks for version 2.
+// Whether one of the lines is `version 2`.
 #[tactic(auto, unfolding(m36_bindfile::specs::BindFile::asks_newer))]
 fn asks_newer(lines: &[BindLine]) -> bool
     ensures { result ≡ asks_newer lines.now }
@@ -125,7 +126,8 @@ fn bound_of_lines(alloc: Global, lines: &[BindLine], given: &Given<'_>) -> Resul
     bound_of_components(alloc, &frame, &all, lines)
 }
 
-// A law: the parts of each object are well formed.
+// The parts of each object are well formed. A law: the call does nothing at run time but pass over
+// the objects.
 fn are_objects(objects: &[Object])
     ensures { AreObjects objects.now }
 {

@@ -17,12 +17,14 @@ use obj36_parts::sections::{push_all, push_evening, version_of};
 use obj36_parts::{Defs, Links, Parts, Reloc, Relocs};
 use std::alloc::Global;
 
+// Whether a component has version 2.
 fn is_newer_component(p: &Placed<'_>) -> bool
     ensures { result ≡ is_newer_component p.now }
 {
     p.shape.newer
 }
 
+// Whether any component has version 2.
 fn is_some_newer(all: &[Placed<'_>]) -> bool
     ensures { result ≡ list_any is_newer_component all.now }
 {
@@ -87,6 +89,8 @@ pub(crate) fn frame_of(asked: bool, all: &[Placed<'_>]) -> Shape
     }
 }
 
+// Whether the bound object has version 2: if the bind file asks for it (`asked`) or a component has
+// it.
 fn is_newer_frame(asked: bool, all: &[Placed<'_>]) -> bool
     ensures { result ≡ is_newer_bound asked all.now }
 {
@@ -95,6 +99,7 @@ fn is_newer_frame(asked: bool, all: &[Placed<'_>]) -> bool
 
 // ---- words
 
+// The static words or the text of an object, as `statics` says.
 fn words_in<'a>(statics: bool, parts: &'a Parts) -> &'a [Word]
     ensures { result.now ≡ words_in statics parts.now }
 {
@@ -121,6 +126,7 @@ fn moved_words(
     Ok(moved)
 }
 
+// The static words or the text of a component, as `statics` says, relocated.
 fn component_words(
     alloc: Global,
     frame: &Shape,
@@ -172,6 +178,7 @@ fn laid(alloc: Global, frame: &Shape, statics: bool, all: &[Placed<'_>]) -> Resu
 
 // ---- relocations
 
+// The relocation of the same word in the bound object, with the same part and target.
 fn relocation_moved(m: &Relocation, r: &Reloc) -> Reloc
     ensures { result ≡ relocation_moved m.now r.now }
 {
@@ -184,6 +191,8 @@ fn relocation_moved(m: &Relocation, r: &Reloc) -> Reloc
     }
 }
 
+// Adds the relocation for the bound object, if it is of a static word, or of the text, as `statics`
+// says.
 fn add_relocation(
     out: &mut Relocs,
     m: &Relocation,
@@ -198,6 +207,7 @@ fn add_relocation(
     out.push(relocation_moved(m, r))
 }
 
+// Adds those of these relocations of a component that are of static words, or of the text.
 #[tactic(auto, unfolding(crate::specs::Bound::relocations_onto))]
 fn add_relocations(
     out: &mut Relocs,
@@ -215,6 +225,7 @@ fn add_relocations(
     Ok(())
 }
 
+// Adds the relocations of a component that are of static words, or of the text.
 fn add_relocations_of(
     out: &mut Relocs,
     frame: &Shape,
@@ -262,6 +273,7 @@ fn relocations(alloc: Global, frame: &Shape, all: &[Placed<'_>]) -> Result<Reloc
 
 // ---- the parts
 
+// The entry bound of a component: how many words of its text are entries.
 fn entry_bound_of(p: &Placed<'_>) -> u32
     ensures value { result ≡ p.now.parts.entry_bound }
     ensures bound { result < 2 ^ 18 }
@@ -270,6 +282,7 @@ fn entry_bound_of(p: &Placed<'_>) -> u32
     parts.entry_bound
 }
 
+// The entry bound of the bound object, which is that of the first component.
 fn first_bound(all: &[Placed<'_>]) -> u32
     ensures value { result ≡ first_bound all.now }
     ensures bound { result < 2 ^ 18 }

@@ -12,6 +12,7 @@ use obj36::Object;
 use obj36_parts::Section;
 use obj36_parts::sections::SECTION_LIMIT;
 
+// Whether the relocated parts of the text and the static words of a component fit.
 fn component_fits(frame: &Shape, p: &Placed<'_>) -> bool
     ensures { result ≡ component_fits frame.now p.now }
 {
@@ -37,6 +38,7 @@ pub(crate) fn components_fit(frame: &Shape, all: &[Placed<'_>]) -> bool
     true
 }
 
+// Whether a section has at most 2^18 - 4,096 words.
 fn section_fits(words: &[Word]) -> bool
     ensures { result ≡ section_fits words.now }
 {

@@ -31,7 +31,7 @@ impl<'a> Model for Given<'a> {
     ghost invariant = { λ g. ArePlaces g.names.now g.places.entries };
 }
 
-// The index of the object that was given under a name.
+// The index of the first object that was given under this name.
 fn place_in(places: &IndexMap<Name, u64, HashSeed>, name: &Name) -> Option<u64>
     ensures { result ≡ lookup (same name.now) places.now.entries }
 {
@@ -71,6 +71,7 @@ fn places_of(
     Ok(places)
 }
 
+// The object with this index. None if there is no index.
 fn object_at(objects: &[Object], place: Option<u64>) -> Option<&Object>
     ensures { option_map (λ o. o.now) result ≡ option_and_then (slice_get objects.now) place }
 {

@@ -23,7 +23,8 @@ const TO_ENTRY: u8 = 4;
 
 const TO_OWN_ENTRY: u8 = 5;
 
-// A link to a place of the bound object itself. The modifier is kept.
+// A link to a place of the bound object itself (type 1), with the modifier of the link that it
+// replaces.
 fn own_link(l: &Link, s: BoundPlace) -> Link
     requires { s.offset < 2 ^ 18 }
     ensures { result ≡ own_link l.now s }
@@ -38,6 +39,7 @@ fn own_link(l: &Link, s: BoundPlace) -> Link
     }
 }
 
+// The place `n` words farther in the same section, modulo 2^18.
 fn offset_by(s: BoundPlace, n: u32) -> BoundPlace
     requires offset { s.offset < 2 ^ 18 }
     requires more { n < 2 ^ 18 }
@@ -50,6 +52,8 @@ fn offset_by(s: BoundPlace, n: u32) -> BoundPlace
     }
 }
 
+// A link of type 3, to a segment. If `p` is that segment, the link goes to word 0 of its text, plus
+// the number of the link. It is unchanged if the segment is no component.
 fn segment_link(l: &Link, p: Option<&Placed<'_>>) -> Link
     ensures { result ≡ segment_link l.now (option_map (λ p. p.now) p.entry) }
 {
@@ -59,6 +63,8 @@ fn segment_link(l: &Link, p: Option<&Placed<'_>>) -> Link
     }
 }
 
+// A link of type 4 to an entry of component `p`: to the new place of the definition, plus the
+// number of the link. It is unchanged if the component has no such definition.
 fn entry_link(frame: &Shape, l: &Link, p: &Placed<'_>, export: Option<Export>) -> Link
     ensures { result ≡ entry_link frame.now l.now p.now export }
 {
@@ -72,6 +78,7 @@ fn entry_link(frame: &Shape, l: &Link, p: &Placed<'_>, export: Option<Export>) -
     }
 }
 
+// A link of type 4, to an entry of a segment. It is unchanged if the segment is no component.
 fn outer_link(frame: &Shape, l: &Link, p: Option<&Placed<'_>>) -> Link
     ensures { result ≡ outer_link frame.now l.now (option_map (λ p. p.now) p.entry) }
 {
@@ -81,6 +88,8 @@ fn outer_link(frame: &Shape, l: &Link, p: Option<&Placed<'_>>) -> Link
     }
 }
 
+// A link of type 5, to an entry of the component's own object. The value of the definition is an
+// offset in the later of its section and the section of the link.
 fn inner_link(frame: &Shape, p: &Placed<'_>, l: &Link, export: Option<Export>) -> Link
     ensures { result ≡ inner_link frame.now p.now l.now export }
 {

@@ -75,24 +75,28 @@ pub(crate) fn moving(frame: &Shape, p: &Placed<'_>) -> Relocation
     }
 }
 
+// The number of words of the text.
 fn text_length(parts: &Parts) -> u64
     ensures { result ≡ length parts.now.text }
 {
     parts.text.slice().len() as u64
 }
 
+// The number of static words.
 fn statics_length(parts: &Parts) -> u64
     ensures { result ≡ length parts.now.statics }
 {
     parts.statics.slice().len() as u64
 }
 
+// The number of links.
 fn links_length(parts: &Parts) -> u64
     ensures { result ≡ length parts.now.links }
 {
     parts.links.items().len() as u64
 }
 
+// Whether an object has version 2.
 fn is_newer(parts: &Parts) -> bool
     ensures { result ≡ is_newer parts.now }
 {
@@ -121,6 +125,7 @@ fn next_bases(b: &Bases, parts: &Parts, n: u64) -> Bases
     }
 }
 
+// The version of an object, and the numbers of its static words and links.
 fn shape_of(parts: &Parts) -> Shape
     requires { HasShortParts parts.now }
     ensures value { result ≡ shape_of parts.now }
@@ -134,7 +139,7 @@ fn shape_of(parts: &Parts) -> Shape
     }
 }
 
-// The parts of an object, each with at most 2^18 items.
+// The parts of an object. Its text, static words and links are each at most 2^18.
 fn parts_of(object: &Object) -> &Parts
     ensures value { result.now ≡ object.now }
     ensures few { HasShortParts result.now }
@@ -143,7 +148,7 @@ fn parts_of(object: &Object) -> &Parts
     object.parts()
 }
 
-// The seed of several components together.
+// The seed for a hash table with the names of all these components, made of their own seeds.
 pub(crate) fn seed_of(all: &[Placed<'_>]) -> HashSeed {
     let mut seed = HashSeed::of(b"");
     for p in all {
@@ -270,6 +275,7 @@ fn add_component_of_line<'a>(
     }
 }
 
+// Where the words of the first component begin: at 0 everywhere.
 fn first_bases() -> Bases
     ensures value { result ≡ first_bases }
     ensures near { AreBounded result 1 }

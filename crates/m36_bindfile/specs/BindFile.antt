@@ -59,11 +59,13 @@ lines_given text = map line_given (lines_of text)
 
 -- ---- order
 
+-- whether a parsed line is an `object` line
 abbrev pub is_object : BindLine → Bool
 is_object line.Version = false
 is_object (line.Object name) = true
 is_object (line.Retain name) = false
 
+-- whether a parsed line is the `version 2` line
 abbrev pub is_version : BindLine → Bool
 is_version line.Version = true
 is_version (line.Object name) = false
@@ -91,14 +93,15 @@ abbrev pub is_in_order_after : Option BindLine → BindLine → Bool
 is_in_order_after None next = may_begin next
 is_in_order_after (Some above) next = may_follow above next
 
--- a line that has a form and may follow the line above it
+-- the parsed line, if it has a form and may follow the line above it
 abbrev pub in_order : Option BindLine → Option BindLine → Option BindLine
 in_order above None = None
 in_order above (Some next) = if is_in_order_after above next then Some next else None
 
 -- ---- B1
 
--- continues with a line, or gives `otherwise` if the line has no form
+-- continues with a parsed line; the result is `otherwise` if the line has no form or is out of
+-- order
 abbrev pub read_on : Result (List BindLine) BindFault → (BindLine
     → Result (List BindLine) BindFault) → Option BindLine → Result (List BindLine) BindFault
 read_on otherwise next None = otherwise
@@ -112,7 +115,7 @@ lines_from above (given ∷ more) =
     read_on (Err (fault.B1 (length above + 1))) (λ next. lines_from (above ++ next ∷ []) more)
     (in_order (last_of above) given)
 
--- whether the text goes on after its last line feed
+-- whether the text after the last line feed is not empty
 abbrev pub lacks_line_feed : List ℕ → Bool
 lacks_line_feed [] = false
 lacks_line_feed (b ∷ rest) = true
@@ -158,13 +161,14 @@ unfoldable pub retained_names : List BindLine → List (List ℕ)
 retained_names [] = []
 retained_names (next ∷ lines) = retained_in next ++ retained_names lines
 
--- whether a line is the `version 2` line
+-- whether one of the lines is `version 2`, which asks for an object of that version
 unfoldable pub asks_newer : List BindLine → Bool
 asks_newer lines = list_any is_version lines
 
 -- ---- results
 
--- The result of a call that parses. It may be NoMemory whatever the text is.
+-- The fault of a call is that of the definition, or it is NoMemory, which is allowed for every
+-- text.
 abbrev pub Refuses : {A : Type 0} → BindFault → Result A BindFault → Type 0
 Refuses fault.NoMemory definition = Unit {0}
 Refuses told definition = definition ≡ Err told
@@ -174,6 +178,6 @@ abbrev pub BindResult : {A : Type 0} → Result A BindFault → Result A BindFau
 BindResult (Ok value) definition = definition ≡ Ok value
 BindResult (Err told) definition = Refuses told definition
 
--- the names of the components of a bind file, or B1
+-- the names of the components, from the result of parsing the lines of a bind file
 abbrev pub names_by : Result (List BindLine) BindFault → Result (List (List ℕ)) BindFault
 names_by read = and_then read (λ lines. Ok (component_names lines))

@@ -34,6 +34,7 @@ impl From<NoMemory> for BindFault {
 
     ghost from_gives = { λ _ given. given ≡ fault.NoMemory };
 
+    // Out of memory is a fault of its own, which names no line.
     fn from(_cause: NoMemory) -> BindFault {
         BindFault::NoMemory
     }

@@ -8,6 +8,7 @@ ghost use Rattle.m36_bindfile.specs.BindFile.{object_line, retain_line, version_
 use crate::line::{BindLine, BindLines};
 use m36_text::{Name, first_word, is_file_name, only_word};
 
+// The line `object NAME`. None if the word is not the name of a file.
 fn object_line(name: &[u8]) -> Option<BindLine>
     ensures { result ≡ object_line name.now }
 {
@@ -18,6 +19,7 @@ fn object_line(name: &[u8]) -> Option<BindLine>
     }
 }
 
+// The line `retain NAME`. None if the word is not the name of a file.
 fn retain_line(name: &[u8]) -> Option<BindLine>
     ensures { result ≡ retain_line name.now }
 {
@@ -28,6 +30,7 @@ fn retain_line(name: &[u8]) -> Option<BindLine>
     }
 }
 
+// The line `version 2`. None for any other number.
 fn version_line(number: &[u8]) -> Option<BindLine>
     ensures { result ≡ version_line number.now }
 {
@@ -38,6 +41,7 @@ fn version_line(number: &[u8]) -> Option<BindLine>
     }
 }
 
+// The line with this first word and this second word.
 fn two_words(word: &[u8], given: &[u8]) -> Option<BindLine>
     ensures { result ≡ two_words word.now given.now }
 {
@@ -62,6 +66,7 @@ fn read_line(text: &[u8]) -> Option<BindLine>
     two_words(word, only_word(rest?)?)
 }
 
+// Whether a parsed line is an `object` line.
 fn is_object(line: &BindLine) -> bool
     ensures { result ≡ is_object line.now }
 {
@@ -78,12 +83,15 @@ pub(crate) fn is_object_line(text: &[u8]) -> bool
     }
 }
 
+// Whether a line may be the first of a bind file.
 fn may_begin(line: &BindLine) -> bool
     ensures { result ≡ may_begin line.now }
 {
     !matches!(line, BindLine::Retain(_))
 }
 
+// Whether a line may come directly after the line `above`: objects after the version or an object,
+// retained names after an object or a retained name.
 fn may_follow(above: &BindLine, next: &BindLine) -> bool
     ensures { result ≡ may_follow above.now next.now }
 {
@@ -96,6 +104,7 @@ fn may_follow(above: &BindLine, next: &BindLine) -> bool
     }
 }
 
+// Whether a line may follow these lines, or may be the first if there are none.
 fn is_in_order(above: &[BindLine], next: &BindLine) -> bool
     ensures { result ≡ is_in_order_after (last_of above.now) next.now }
 {

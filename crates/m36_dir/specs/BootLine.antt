@@ -33,6 +33,7 @@ is_directory_character c = is_name_character c || (c == 62)
 abbrev pub directory_limit : ℕ
 directory_limit = 64
 
+-- whether a word is the name of a directory: 1 to 64 of these characters
 abbrev pub is_directory : List ℕ → Bool
 is_directory word = is_run_of is_directory_character directory_limit word
 
@@ -52,12 +53,13 @@ kind_of word =
     else if is_text (codes "data") word then Some Plain
     else None
 
--- whether letters begin with a certain one (`stands`), and the letters that are left
+-- whether letters begin with a certain one (`stands`), and the letters after it, or else all of
+-- them
 pub record StrippedLetter : Type 0 where
   pub stands : Bool
   pub rest : List ℕ
 
--- takes a letter from the beginning, if it is there
+-- the letters without this one at the beginning, and whether it was there
 abbrev pub taken : ℕ → List ℕ → StrippedLetter
 taken letter [] = record { stands = false; rest = [] }
 taken letter (c ∷ letters) =
@@ -83,6 +85,7 @@ mode_of_letters letters =
       privileged = p.stands;
     }) p.rest
 
+-- the mode `null`: no right at all
 abbrev pub no_mode : Mode
 no_mode = record { readable = false; executable = false; writable = false; privileged = false }
 
@@ -118,13 +121,14 @@ abbrev pub name_line : List (List ℕ) → Option BootLine
 name_line (name ∷ []) = option_map line.Name (name_of name)
 name_line _ = None
 
--- NAME and ENTRY are before and after the first dollar sign; neither contains another one.
+-- the `start` line, if its ring, its name and its entry could be read
 abbrev pub start_read : Option ℕ → Option (List ℕ) → Option (List ℕ) → Option BootLine
 start_read (Some ring) (Some name) (Some entry) =
     Some (line.Start (record { name = name; entry = entry; ring = ring }))
 start_read _ _ _ = None
 
--- the start from its ring and the word NAME$ENTRY, given the index of the dollar sign
+-- The `start` line from its ring and the word NAME$ENTRY, given the index of the first dollar sign.
+-- Neither NAME nor ENTRY contains another one.
 abbrev pub start_parts : Option ℕ → List ℕ → Option ℕ → Option BootLine
 start_parts ring word (Some dollar) =
     start_read ring (name_of (take dollar word)) (name_of (drop (dollar + 1) word))
@@ -135,7 +139,7 @@ abbrev pub start_line : List (List ℕ) → Option BootLine
 start_line (ring ∷ word ∷ []) = start_parts (octal_in 1 ring) word (position (λ c. c == 36) word)
 start_line _ = None
 
--- three brackets, if each of them could be read
+-- the brackets R1, R2 and R3, if each of them could be read
 abbrev pub brackets_read : Option ℕ → Option ℕ → Option ℕ → Option Brackets
 brackets_read (Some r1) (Some r2) (Some r3) = Some (record { r1 = r1; r2 = r2; r3 = r3 })
 brackets_read _ _ _ = None

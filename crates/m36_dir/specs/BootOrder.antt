@@ -27,27 +27,33 @@ use Rattle.m36_dir.specs.BootLine.{parsed_line}
 
 -- ---- kinds of lines
 
+-- whether it is a `frames` line
 abbrev pub is_frames : BootLine → Bool
 is_frames (line.Frames n) = true
 is_frames _ = false
 
+-- whether it is a `start` line
 abbrev pub is_start : BootLine → Bool
 is_start (line.Start start) = true
 is_start _ = false
 
+-- whether it is a `library` line
 abbrev pub is_library : BootLine → Bool
 is_library (line.Library dir) = true
 is_library _ = false
 
+-- whether it is a `segment` line
 abbrev pub is_segment : BootLine → Bool
 is_segment (line.Segment given) = true
 is_segment _ = false
 
+-- whether it is a `work` or `library` line
 abbrev pub is_work_or_library : BootLine → Bool
 is_work_or_library (line.Work dir) = true
 is_work_or_library (line.Library dir) = true
 is_work_or_library _ = false
 
+-- whether it is a `segment` or `name` line
 abbrev pub is_segment_or_name : BootLine → Bool
 is_segment_or_name (line.Segment given) = true
 is_segment_or_name (line.Name name) = true
@@ -85,7 +91,8 @@ entry dir name = record { dir = dir; name = name }
 abbrev pub is_entry : Entry → Entry → Bool
 is_entry a b = is_text a.dir b.dir && is_text a.name b.name
 
--- A further name belongs to the directory of the last segment line.
+-- the directory of the last segment line, to which a further name belongs: after one more line, if
+-- `dir` was that before it
 abbrev pub directory_after : List ℕ → BootLine → List ℕ
 directory_after dir (line.Segment given) = given.dir
 directory_after dir _ = dir
@@ -159,12 +166,12 @@ has_wrong_brackets _ = false
 
 -- ---- counts: D5
 
--- The number of `name` lines directly above, since the last line of another kind.
+-- the number of `name` lines at the end of lines after one more line, if there were n before it
 abbrev pub names_with : ℕ → BootLine → ℕ
 names_with n (line.Name name) = n + 1
 names_with n _ = 0
 
--- the number of `name` lines at the end of these lines, of which n more are directly above them
+-- the number of `name` lines at the end of these lines, if n `name` lines are directly above them
 unfoldable pub names_at_end : ℕ → List BootLine → ℕ
 names_at_end n [] = n
 names_at_end n (next ∷ lines) = names_at_end (names_with n next) lines
@@ -181,7 +188,8 @@ most_names = 8
 abbrev pub most_libraries : ℕ
 most_libraries = 16
 
--- whether there are already as many lines of this kind as there may be
+-- whether there are already as many lines of this kind above as there may be; further names are
+-- counted for each segment
 abbrev pub is_too_many : List BootLine → BootLine → Bool
 is_too_many above (line.Segment given) = nat_le most_segments (count_by is_segment above)
 is_too_many above (line.Name name) = nat_le (most_names - 1) (names_at_end 0 above)

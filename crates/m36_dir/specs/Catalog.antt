@@ -103,6 +103,7 @@ abbrev pub work_of : Option BootLine → List ℕ
 work_of (Some (line.Work dir)) = dir
 work_of _ = []
 
+-- the start for lines that do not end with a `start` line; such lines give no catalog
 abbrev pub no_start : StartFields
 no_start = record { name = []; entry = []; ring = 0 }
 
@@ -135,7 +136,7 @@ fault_at n D4 = fault.D4 n
 fault_at n D5 = fault.D5 n
 fault_at n D6 = fault.D6 n
 
--- the catalog, or the fault of the first line with a code
+-- the catalog, or the fault of the first line with a code if there is one (`told`)
 abbrev pub catalog_by : Option (ℕ × BootCode) → CatalogFields → Result CatalogFields CatalogFault
 catalog_by told catalog =
     unless (option_map (λ (first : ℕ × BootCode). fault_at first.0 first.1) told) catalog
@@ -144,7 +145,8 @@ catalog_by told catalog =
 unfoldable pub catalog_of : List ℕ → Result CatalogFields CatalogFault
 catalog_of text = catalog_by (first_code text) (catalog_in (all_lines text))
 
--- The result of reading a boot text. It may be NoMemory whatever the text is.
+-- The fault of a call is that of the definition, or it is NoMemory, which is allowed for every
+-- text.
 abbrev pub RefusesWith : CatalogFault → Result CatalogFields CatalogFault → Type 0
 RefusesWith fault.NoMemory definition = Unit {0}
 RefusesWith told definition = definition ≡ Err told
@@ -168,7 +170,7 @@ has_entry_named dir name segment = nat_eq segment.dir dir && has_name name segme
 unfoldable pub found : CatalogFields → ℕ → List ℕ → Option ℕ
 found catalog dir name = position (λ s. has_entry_named dir name s) catalog.segments
 
--- Sets the rights to read, execute and write a segment. Nothing else changes.
+-- a segment with other rights to read, execute and write; nothing else changes
 abbrev pub with_rights : SegmentFields → Bool → Bool → Bool → SegmentFields
 with_rights s readable executable writable =
     record s {

@@ -16,6 +16,7 @@ use std::alloc::Global;
 
 // ---- directories
 
+// Whether a directory is in the list.
 fn has(dirs: &[Directory], dir: &[u8]) -> bool
     ensures { result ≡ list_any (is_text dir.now) dirs.now }
 {
@@ -130,6 +131,7 @@ fn add_segment(
     }
 }
 
+// The lines after line `i`, counted from 0.
 #[tactic(auto, using(crate::proofs::LineLoops::lines_after))]
 fn lines_after(lines: &[BootLine], i: usize) -> &[BootLine]
     requires { i < length lines.now }
@@ -211,6 +213,7 @@ pub(crate) fn work_of(lines: &[BootLine]) -> &[u8]
     }
 }
 
+// The start that is used if there is no `start` line. A text without errors has that line.
 fn no_start() -> Start
     ensures { result ≡ no_start }
 {

@@ -70,6 +70,7 @@ fn catalog_in(alloc: Global, seed: HashSeed, lines: &[BootLine]) -> Result<Catal
     })
 }
 
+// Whether a segment has this name, as its first or a further one.
 fn has_name(name: &[u8], segment: &Segment) -> bool
     ensures { result ≡ has_name name.now segment.now }
 {

@@ -34,6 +34,7 @@ impl Directory {
         }
     }
 
+    // The bytes of the name, at most 64.
     pub(crate) fn bytes(&self) -> &[u8]
         ensures value { result.now ≡ self.now }
         ensures fits { length self.now ≤ directory_limit }

@@ -14,7 +14,7 @@ use m36_text::{decimal_in, first_word, octal_in, only_word, place_of};
 // The maximal number of pageable frames.
 const MOST_FRAMES: u64 = 8192;
 
-// A ring, which is one octal digit.
+// A ring: one octal digit.
 fn ring_of(word: &[u8]) -> Option<u8>
     ensures value { result ≡ octal_in 1 word.now }
     ensures bound { IfSome result (λ ring. ring < 8) }
@@ -23,7 +23,7 @@ fn ring_of(word: &[u8]) -> Option<u8>
     Some(ring as u8)
 }
 
-// `N`
+// The line `frames N`, from the text after its first word.
 fn frames_line(given: &[u8]) -> Option<BootLine>
     ensures { result ≡ frames_line (words_of given.now) }
 {
@@ -31,21 +31,21 @@ fn frames_line(given: &[u8]) -> Option<BootLine>
     Some(BootLine::Frames(frames as u32))
 }
 
-// `DIR`
+// The line `work DIR`, from the text after its first word.
 fn work_line(given: &[u8]) -> Option<BootLine>
     ensures { result ≡ work_line (words_of given.now) }
 {
     Some(BootLine::Work(directory_of(only_word(given)?)?))
 }
 
-// `DIR`
+// The line `library DIR`, from the text after its first word.
 fn library_line(given: &[u8]) -> Option<BootLine>
     ensures { result ≡ library_line (words_of given.now) }
 {
     Some(BootLine::Library(directory_of(only_word(given)?)?))
 }
 
-// `NAME`
+// The line `name NAME`, from the text after its first word.
 fn name_line(given: &[u8]) -> Option<BootLine>
     ensures { result ≡ name_line (words_of given.now) }
 {
@@ -61,7 +61,7 @@ fn behind(text: &[u8], place: usize) -> &[u8]
     &text[place + 1..]
 }
 
-// `RING NAME$ENTRY`
+// The line `start RING NAME$ENTRY`, from the text after its first word.
 fn start_line(given: &[u8]) -> Option<BootLine>
     ensures { result ≡ start_line (words_of given.now) }
 {
@@ -74,7 +74,7 @@ fn start_line(given: &[u8]) -> Option<BootLine>
     Some(BootLine::Start(Start { name, entry, ring }))
 }
 
-// `R1 R2 R3`
+// The ring brackets R1, R2 and R3, one octal digit each.
 fn brackets_of(given: &[u8]) -> Option<Brackets>
     ensures value { result ≡ brackets_of (words_of given.now) }
     ensures r1 { IfSome result (λ ends. ends.r1 < 8) }
@@ -91,7 +91,7 @@ fn brackets_of(given: &[u8]) -> Option<Brackets>
     })
 }
 
-// `DIR NAME FILE KIND MODE R1 R2 R3`
+// The line `segment DIR NAME FILE KIND MODE R1 R2 R3`, from the text after its first word.
 fn segment_line(given: &[u8]) -> Option<BootLine>
     ensures { result ≡ segment_line (words_of given.now) }
 {
@@ -113,6 +113,7 @@ fn segment_line(given: &[u8]) -> Option<BootLine>
     }))
 }
 
+// The line with this first word; `given` is the text after that word and its space.
 fn line_named(word: &[u8], given: &[u8]) -> Option<BootLine>
     ensures { result ≡ line_named word.now (words_of given.now) }
 {

@@ -22,36 +22,43 @@ const MOST_FURTHER_NAMES: usize = 7;
 // The maximal number of libraries.
 const MOST_LIBRARIES: usize = 16;
 
+// Whether it is a `frames` line.
 fn is_frames(line: &BootLine) -> bool
     ensures { result ≡ is_frames line.now }
 {
     matches!(line, BootLine::Frames(_))
 }
 
+// Whether it is a `library` line.
 fn is_library(line: &BootLine) -> bool
     ensures { result ≡ is_library line.now }
 {
     matches!(line, BootLine::Library(_))
 }
 
+// Whether it is a `segment` line.
 fn is_segment(line: &BootLine) -> bool
     ensures { result ≡ is_segment line.now }
 {
     matches!(line, BootLine::Segment(_))
 }
 
+// Whether it is a `work` or `library` line.
 fn is_work_or_library(line: &BootLine) -> bool
     ensures { result ≡ is_work_or_library line.now }
 {
     matches!(line, BootLine::Work(_) | BootLine::Library(_))
 }
 
+// Whether it is a `segment` or `name` line.
 fn is_segment_or_name(line: &BootLine) -> bool
     ensures { result ≡ is_segment_or_name line.now }
 {
     matches!(line, BootLine::Segment(_) | BootLine::Name(_))
 }
 
+// Whether a line may come directly after the line `above`. The order is: frames, work, libraries,
+// segments with their further names, start.
 fn may_follow(above: &BootLine, line: &BootLine) -> bool
     ensures { result ≡ may_follow above.now line.now }
 {
@@ -75,6 +82,7 @@ fn is_in_order(above: &[BootLine], line: &BootLine) -> bool
     }
 }
 
+// The directory of the last segment line after one more line; `dir` is that before it.
 fn directory_after<'a>(dir: &'a [u8], line: &'a BootLine) -> &'a [u8]
     ensures { result.now ≡ directory_after dir.now line.now }
 {
@@ -123,6 +131,7 @@ fn has_entry(lines: &[BootLine], dir: &[u8], name: &[u8]) -> bool
     false
 }
 
+// D2: whether a line puts a name into a directory that has it already.
 fn is_repeated(above: &[BootLine], line: &BootLine) -> bool
     ensures { result ≡ is_repeated above.now line.now }
 {
@@ -133,6 +142,7 @@ fn is_repeated(above: &[BootLine], line: &BootLine) -> bool
     }
 }
 
+// Whether a line puts a segment into this directory.
 fn is_in_directory(dir: &[u8], line: &BootLine) -> bool
     ensures { result ≡ is_in_directory dir.now line.now }
 {
@@ -167,6 +177,7 @@ fn has_directory(text: &[u8], dir: &[u8]) -> bool
     false
 }
 
+// D3: whether a `work` or `library` line names a directory that has no segment in the whole text.
 fn names_no_directory(text: &[u8], line: &BootLine) -> bool
     ensures { result ≡ names_no_directory (all_lines text.now) line.now }
 {
@@ -188,12 +199,14 @@ fn is_no_gate(given: &SegmentLine) -> bool
     }
 }
 
+// Whether R1 <= R2 <= R3.
 fn brackets_in_order(given: &SegmentLine) -> bool
     ensures { result ≡ brackets_in_order given.now }
 {
     given.r1 <= given.r2 && given.r2 <= given.r3
 }
 
+// D4: whether the brackets of a segment line are refused.
 fn has_wrong_brackets(line: &BootLine) -> bool
     ensures { result ≡ has_wrong_brackets line.now }
 {
@@ -203,6 +216,7 @@ fn has_wrong_brackets(line: &BootLine) -> bool
     }
 }
 
+// The number of `name` lines at the end after one more line, if there were `names` before it.
 fn names_with(names: usize, line: &BootLine) -> usize
     requires { names < 2 ^ 63 }
     ensures value { result ≡ names_with names line.now }
@@ -226,18 +240,22 @@ fn names_at_end(lines: &[BootLine]) -> usize
     names
 }
 
+// The number of `segment` lines.
 fn count_segments(lines: &[BootLine]) -> usize
     ensures { result ≡ count_by is_segment lines.now }
 {
     lines.iter().filter(|line| is_segment(line)).count()
 }
 
+// The number of `library` lines.
 fn count_libraries(lines: &[BootLine]) -> usize
     ensures { result ≡ count_by is_library lines.now }
 {
     lines.iter().filter(|line| is_library(line)).count()
 }
 
+// D5: whether there are already as many lines of this kind above as there may be. Further names are
+// counted for each segment.
 fn is_too_many(above: &[BootLine], line: &BootLine) -> bool
     ensures { result ≡ is_too_many above.now line.now }
 {

@@ -43,6 +43,7 @@ fn code_of_rest(above: &[BootLine], rest: &[u8]) -> Option<BootCode>
     }
 }
 
+// Adds a line at the end.
 fn add(lines: &mut Vec<BootLine>, line: BootLine) -> Result<(), NoMemory>
     ensures { OnOk result (lines.new.items ≡ lines.old.items ++ line ∷ []) }
 {

@@ -11,12 +11,14 @@ use m36_text::{Name, is_file_name, is_name_character};
 // The maximal number of characters of the name of a directory.
 const LONGEST_DIRECTORY: usize = 64;
 
+// Whether a byte can be in the name of a directory: a letter, digit, `_`, `.` or `>`.
 fn is_directory_character(c: u8) -> bool
     ensures { result ≡ is_directory_character c }
 {
     is_name_character(c) || c == b'>'
 }
 
+// Whether all bytes of a word can be in the name of a directory.
 fn has_directory_characters(word: &[u8]) -> bool
     ensures { result ≡ list_all is_directory_character word.now }
 {
@@ -72,7 +74,7 @@ pub(crate) fn kind_of(word: &[u8]) -> Option<SegKind>
     None
 }
 
-// Whether the letters begin with this one, and if so the letters after it; otherwise all letters.
+// Whether the letters begin with this one, and the letters after it; if they do not, all of them.
 fn taken(letter: u8, letters: &[u8]) -> (bool, &[u8])
     ensures stands { result.0 ≡ (taken letter letters.now).stands }
     ensures rest { result.1.now ≡ (taken letter letters.now).rest }
@@ -83,6 +85,7 @@ fn taken(letter: u8, letters: &[u8]) -> (bool, &[u8])
     }
 }
 
+// The mode that letters spell: some of r, e, w and p, in this order. None for other letters.
 fn mode_of_letters(letters: &[u8]) -> Option<Mode>
     ensures { result ≡ mode_of_letters letters.now }
 {

@@ -21,9 +21,11 @@ use Rattle.m36_status.specs.Rules.{refused}
 
 -- ---- the boot text: D1 to D6 at its line
 
+-- the refusal of the boot text with a code, at a line or the number of a segment
 abbrev pub boot_refused : Code → ℕ → Refusal
 boot_refused code at = refused boot_name code at
 
+-- the refusal of a boot text that describes no catalog
 abbrev pub catalog_refused : CatalogFault → Refusal
 catalog_refused (catalog.D1 line) = boot_refused code.D1 line
 catalog_refused (catalog.D2 line) = boot_refused code.D2 line
@@ -41,22 +43,27 @@ catalog_by (Err fault) = Err (catalog_refused fault)
 -- ---- the access lists: C1 and C2 at the first line that has one, and then C3 at the first line of
 -- a segment that the boot text does not have
 
+-- the name of the file with the access lists
 abbrev pub acl_name : List ℕ
 acl_name = codes "acl"
 
+-- the refusal of the access lists with a code, at a line
 abbrev pub acl_refused : Code → ℕ → Refusal
 acl_refused code at = refused acl_name code at
 
+-- the refusal of a text that has no access lists: C1 or C2
 abbrev pub lists_refused : AclFault → Refusal
 lists_refused (acl.C1 line) = acl_refused code.C1 line
 lists_refused (acl.C2 line) = acl_refused code.C2 line
 lists_refused acl.NoMemory = NoMemory
 
--- the lists, or C3 at the first line of a segment that the catalog does not have
+-- the lists, or C3 at the first line that names no segment of the catalog, if there is one
 abbrev pub known_by : Lists → Option ℕ → Early (List AclSegmentFields)
 known_by lists None = Ok lists
 known_by lists (Some line) = Err (acl_refused code.C3 line)
 
+-- The access lists for a catalog, from the result of parsing them: C1, C2 or C3 if they are
+-- refused.
 abbrev pub lists_by : CatalogFields → Result (List AclSegmentFields) AclFault
     → Early (List AclSegmentFields)
 lists_by catalog (Ok lists) = known_by lists (first_unknown catalog lists)

@@ -11,7 +11,8 @@ use Rattle.m36_program.specs.Program.{May, Program, done, stops, some, wants}
 abbrev pub never : {may : May} {A : Type 0} → Program may A
 never = some {B = ⊥} (λ b. ⊤) (λ b. absurd b)
 
--- Ends with the value, or with the status of the refusal. A rule does not yield NoMemory.
+-- The program that ends with the value of a rule, or with the status of its refusal. A rule does
+-- not yield NoMemory.
 abbrev pub decided : {may : May} {A : Type 0} → Result A Refusal → Program may A
 decided (Ok a) = done a
 decided (Err (BadFile bad)) = stops (status.BadFile bad) tt
@@ -21,7 +22,7 @@ decided (Err NoMemory) = never
 unfoldable pub decides : {may : May} {A : Type 0} → Result A Refusal → Program may A
 decides given = wants (decided given)
 
--- the result of a call, from that of a rule
+-- the result of a rule with its refusal as a status
 abbrev pub by_refusal : {A : Type 0} → Result A Refusal → Result A Status
 by_refusal (Ok a) = Ok a
 by_refusal (Err refusal) = Err (status_of refusal)

@@ -2,6 +2,6 @@
 use Rattle.std.specs.Prelude.{true, false}
 use Rattle.m36_program.specs.Program.{May}
 
--- write files, and take no input
+-- what a program may do that writes files and takes no input
 abbrev pub writing : May
 writing = record { writes = true; takes = false }

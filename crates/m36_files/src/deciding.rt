@@ -5,7 +5,7 @@ ghost use Rattle.m36_files.specs.Deciding.{by_refusal};
 
 use m36_status::{Refusal, Status};
 
-/// The value of a rule, or the status of its refusal.
+/// The result of a rule with its refusal as the status of the command.
 pub fn decide<T>(given: Result<T, Refusal>) -> Result<T, Status>
     ensures { result ≡ by_refusal given }
 {

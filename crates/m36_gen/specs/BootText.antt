@@ -3,7 +3,7 @@ use Rattle.std.specs.Prelude.{ℕ, List, ◌++◌, codes}
 use Rattle.std.specs.List.{flat_map, range_with_len}
 use Rattle.m36_gen.specs.Lines.{line, program_count, data_name, gate_name, segment_name}
 
--- the line of a segment whose file has the same name, with its kind, mode and brackets
+-- the line of a segment whose file has the same name; `has` is its kind, mode and brackets
 unfoldable pub segment_line : List ℕ → List ℕ → List ℕ
 segment_line name has =
     line (codes "segment >gen " ++ name ++ codes " " ++ name ++ codes " " ++ has)

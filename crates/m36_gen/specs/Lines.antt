@@ -8,7 +8,7 @@ use Rattle.m36_text.specs.Lines.{as_line}
 unfoldable pub line : List ℕ → List ℕ
 line text = as_line text
 
--- a line with a number in it
+-- a line with a number in decimal between two texts
 unfoldable pub numbered : List ℕ → ℕ → List ℕ → List ℕ
 numbered before n behind = line (before ++ decimal_text n ++ behind)
 

@@ -22,6 +22,7 @@ fn put_segment(text: &mut Text, name: &[u8], has: &[u8]) -> Result<(), NoMemory>
     put_line(text, has)
 }
 
+// Adds the line of the segment of program `i`.
 #[tactic(auto, unfolding(crate::specs::BootText::program_line))]
 fn put_program(text: &mut Text, i: u64) -> Result<(), NoMemory>
     ensures { OnOk result (text.new ≡ text.old ++ program_line i) }
@@ -29,6 +30,7 @@ fn put_program(text: &mut Text, i: u64) -> Result<(), NoMemory>
     put_segment(text, segment_name(i).bytes(), b"object re 4 4 4")
 }
 
+// Adds the lines of the segments of the first `count` programs.
 #[tactic(auto, using(crate::proofs::OneMore::of_lines))]
 fn put_programs(text: &mut Text, count: u64) -> Result<(), NoMemory>
     ensures { OnOk result (text.new ≡ text.old ++ program_lines count) }

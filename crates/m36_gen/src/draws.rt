@@ -36,7 +36,7 @@ impl Sequence {
         Sequence { state: seed }
     }
 
-    /// One draw: below 2^31.
+    // The next draw: below 2^31.
     fn draw(&mut self) -> u64
         ensures state { self.new.state ≡ next self.old.state }
         ensures draw_of { result ≡ draw_of self.new.state }

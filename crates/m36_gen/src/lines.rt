@@ -38,7 +38,7 @@ pub fn put_named(text: &mut Text, before: &[u8], name: &[u8], behind: &[u8]) -> 
     put_line(text, behind)
 }
 
-/// The name with these bytes, of which there are at most 32.
+/// The name with these bytes, at most 32.
 pub fn name_of(bytes: &[u8]) -> Name
     requires { length bytes.now ≤ name_limit }
     ensures { result ≡ bytes.now }

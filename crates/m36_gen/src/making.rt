@@ -26,6 +26,7 @@ fn data_words() -> u64
     65_792
 }
 
+// This many zero words.
 #[tactic(auto, unfolding(crate::specs::Folder::zeros))]
 fn zeros(alloc: Global, count: u64) -> Result<Words, NoMemory>
     ensures { IfOk result (λ words. words ≡ zeros count) }
@@ -37,6 +38,7 @@ fn zeros(alloc: Global, count: u64) -> Result<Words, NoMemory>
     Ok(words)
 }
 
+// The content of the data file: its zero words, packed.
 fn packed_data(alloc: Global) -> Result<Text, NoMemory>
     ensures { IfOk result (λ text. text ≡ packed (zeros data_words)) }
 {

@@ -43,6 +43,7 @@ fn put_storing(text: &mut Text) -> Result<(), NoMemory>
     put_line(text, b" tnz loop")
 }
 
+// Adds the loop of a program.
 #[tactic(auto, unfolding(crate::specs::Sources::loop_lines), using(crate::proofs::Parts::together))]
 fn put_loop(text: &mut Text, draws: Draws) -> Result<(), NoMemory>
     ensures { OnOk result (text.new ≡ text.old ++ loop_lines draws) }

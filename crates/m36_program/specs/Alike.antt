@@ -9,7 +9,7 @@ use Rattle.m36_status.specs.declared.status.Status.{Status}
 use Rattle.m36_program.specs.Program.{Found, May, IsOwn, Program}
 use Rattle.m36_program.specs.Program.{done, stops, reads, writes, puts, takes, some, wants}
 
--- The second program ends too, with the same value or status.
+-- The second program ends without another step, with this value or status, whatever it chooses.
 abbrev pub EndsAlike : {may : May} {A : Type 0} → Result A Status → Program may A → Type 0
 EndsAlike value (done a) = value ≡ Ok a
 EndsAlike value (stops status own) = value ≡ Err status
@@ -20,7 +20,8 @@ EndsAlike value (takes allowed go) = ⊥
 EndsAlike {may} {A} value (some {B} Is go) = (b : B) → Is b → EndsAlike value (go b)
 EndsAlike value (wants rest) = EndsAlike value rest
 
--- The second program reads the same file.
+-- The second program first reads the file with this name too; `alike` holds for what follows,
+-- whatever is found.
 abbrev pub ReadsAlike :
     {may : May} {A : Type 0} → List ℕ → (Found → Program may A → Type 0) → Program may A → Type 0
 ReadsAlike name alike (done a) = ⊥
@@ -32,7 +33,7 @@ ReadsAlike name alike (takes allowed go) = ⊥
 ReadsAlike {may} {A} name alike (some {B} Is go) = (b : B) → Is b → ReadsAlike name alike (go b)
 ReadsAlike name alike (wants rest) = ReadsAlike name alike rest
 
--- The second program writes the same file with the same content.
+-- The second program first writes the same file with the same content; `alike` holds for the rest.
 abbrev pub WritesAlike :
     {may : May} {A : Type 0} → List ℕ → List ℕ → (Program may A → Type 0) → Program may A → Type 0
 WritesAlike name content alike (done a) = ⊥
@@ -46,7 +47,7 @@ WritesAlike {may} {A} name content alike (some {B} Is go) =
     (b : B) → Is b → WritesAlike name content alike (go b)
 WritesAlike name content alike (wants rest) = WritesAlike name content alike rest
 
--- The second program puts the same piece.
+-- The second program first puts the same piece; `alike` holds for the rest.
 abbrev pub PutsAlike :
     {may : May} {A : Type 0} → List ℕ → (Program may A → Type 0) → Program may A → Type 0
 PutsAlike piece alike (done a) = ⊥
@@ -58,7 +59,8 @@ PutsAlike piece alike (takes allowed go) = ⊥
 PutsAlike {may} {A} piece alike (some {B} Is go) = (b : B) → Is b → PutsAlike piece alike (go b)
 PutsAlike piece alike (wants rest) = PutsAlike piece alike rest
 
--- The second program takes input too.
+-- The second program first takes input too; `alike` holds for what follows, whatever piece it
+-- takes.
 abbrev pub TakesAlike :
     {may : May} {A : Type 0} → (List ℕ → Program may A → Type 0) → Program may A → Type 0
 TakesAlike alike (done a) = ⊥

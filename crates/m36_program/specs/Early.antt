@@ -4,7 +4,8 @@ use Rattle.m36_status.specs.declared.status.Status.{Status}
 use Rattle.m36_status.specs.declared.status.Status.TheVariants as status
 use Rattle.m36_program.specs.Program.{May, Program, done, stops}
 
--- the result for a status: Done becomes the value
+-- the result of a call for the status of a command: Done becomes the value, any other status an
+-- error
 abbrev pub early : Status → Result (Unit {0}) Status
 early status.Done = Ok tt
 early status.Usage = Err status.Usage
@@ -16,7 +17,7 @@ early (status.MachineStop end) = Err (status.MachineStop end)
 early status.Steps = Err status.Steps
 early status.NoMemory = Err status.NoMemory
 
--- the status for a result
+-- the status of a command for the result of a call: Done if it has the value
 abbrev pub status_by : Result (Unit {0}) Status → Status
 status_by (Ok u) = status.Done
 status_by (Err s) = s

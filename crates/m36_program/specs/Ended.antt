@@ -14,7 +14,7 @@ use Rattle.m36_program.specs.Reader.{ReadBy}
 
 -- ---- ends
 
--- The program has no dead end: it is impossible that no events lead it to an end of its own.
+-- The program can end: it is impossible that no events lead it to an end of its own.
 abbrev pub HasEnd : {may : May} {A : Type 0} → Program may A → Type 0
 HasEnd {may} {A} program =
     ¬ ((events : List Event) (result : Result A Status) → Goes program events result

@@ -59,14 +59,15 @@ pub record NextWrite {A : Type 0} (name content : List ℕ) (goes : List Event �
 
 -- ---- putting
 
--- the piece is written as a whole
+-- The first event is the output of this piece, as a whole.
 pub record NextOutput (piece : List ℕ) (goes : List Event → Type 0) (events : List Event)
     : Type 0 where
   pub more : List Event
   pub first : events ≡ Output piece ∷ more
   pub rest : goes more
 
--- The call that failed had no other pieces, or they are pieces that the program puts next.
+-- What holds for the other pieces of the call that failed: there are none, or the program puts them
+-- next and fails in the same call.
 abbrev pub FailsWith :
     {A : Type 0} → List (List ℕ) → (List Event → Type 0) → Result A Status → Type 0
 FailsWith [] goes result = result ≡ Err WriteFault
@@ -89,7 +90,7 @@ pub record NextInput (goes : List ℕ → List Event → Type 0) (events : List 
   pub first : events ≡ Input piece ∷ more
   pub rest : goes piece more
 
--- the input fails
+-- The only event is that the input failed, and the result is ReadFault.
 pub record FailedInput {A : Type 0} (events : List Event) (result : Result A Status) : Type 0 where
   pub only : events ≡ InputFailed ∷ []
   pub result_is : result ≡ Err ReadFault

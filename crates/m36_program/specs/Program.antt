@@ -10,7 +10,7 @@ pub record May : Type 0 where
   -- take input
   pub takes : Bool
 
--- neither of them
+-- what a program may do that writes no file and takes no input
 abbrev pub quiet : May
 quiet = record { writes = false; takes = false }
 

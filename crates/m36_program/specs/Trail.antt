@@ -50,28 +50,28 @@ pub record NoneFailed (old new : Seen) : Type 0 where
   pub outputs : new.output_faults ≡ old.output_faults
   pub inputs : new.input_faults ≡ old.input_faults
 
--- One count rose, and the others are unchanged. One record for each count.
+-- A read of a file failed: the count of these faults rose, and the other counts are unchanged.
 pub record ReadFailed (old new : Seen) : Type 0 where
   pub reads : Rose old.read_faults new.read_faults
   pub writes : new.write_faults ≡ old.write_faults
   pub outputs : new.output_faults ≡ old.output_faults
   pub inputs : new.input_faults ≡ old.input_faults
 
--- a write of a file failed
+-- A write of a file failed: only the count of these faults rose.
 pub record WriteFailed (old new : Seen) : Type 0 where
   pub reads : new.read_faults ≡ old.read_faults
   pub writes : Rose old.write_faults new.write_faults
   pub outputs : new.output_faults ≡ old.output_faults
   pub inputs : new.input_faults ≡ old.input_faults
 
--- a put failed
+-- A put of output failed: only the count of these faults rose.
 pub record PutFailed (old new : Seen) : Type 0 where
   pub reads : new.read_faults ≡ old.read_faults
   pub writes : new.write_faults ≡ old.write_faults
   pub outputs : Rose old.output_faults new.output_faults
   pub inputs : new.input_faults ≡ old.input_faults
 
--- taking input failed
+-- Taking input failed: only the count of these faults rose.
 pub record TakeFailed (old new : Seen) : Type 0 where
   pub reads : new.read_faults ≡ old.read_faults
   pub writes : new.write_faults ≡ old.write_faults
@@ -108,7 +108,7 @@ pub record InputKept (old new : Seen) : Type 0 where
 
 -- ---- output
 
--- the pieces that were to be put, in order
+-- the pieces of output, in order, with those of a call that failed
 abbrev pub pieces_of : List Event → List (List ℕ)
 pieces_of [] = []
 pieces_of (FileRead name answer ∷ events) = pieces_of events
@@ -118,7 +118,7 @@ pieces_of (OutputFailed pieces ∷ events) = pieces ++ pieces_of events
 pieces_of (Input piece ∷ events) = pieces_of events
 pieces_of (InputFailed ∷ events) = pieces_of events
 
--- whether all of them were put
+-- Failed if a call of the output failed among these events, otherwise Done
 abbrev pub put_of : List Event → Put
 put_of [] = Done
 put_of (FileRead name answer ∷ events) = put_of events
@@ -128,7 +128,7 @@ put_of (OutputFailed pieces ∷ events) = Failed
 put_of (Input piece ∷ events) = put_of events
 put_of (InputFailed ∷ events) = put_of events
 
--- the output as the state of a sink
+-- what is observed of the output of a world, as the state of a sink
 abbrev pub output_of : Seen → SinkState
 output_of seen =
     record { written = seen.written; taken = seen.outputs; faults = seen.output_faults }

@@ -29,6 +29,7 @@ unfoldable pub with_export : List (List ℕ × Export) → List ℕ → DefField
 with_export table name def =
     insert_entry same table name (export_behind def (export_named name table))
 
+-- whether a definition with this section is of class symbol
 abbrev pub is_symbol : Section → Bool
 is_symbol Symbol = true
 is_symbol Text = false

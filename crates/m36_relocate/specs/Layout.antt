@@ -24,8 +24,8 @@ shape_of p = record { newer = is_newer p; statics = length p.statics; links = le
 
 -- ---- the words that places of an object denote
 
--- In version 1 the static words are before the links. In version 2 they have a section of their
--- own, which is placed after the linkage section.
+-- what an offset of the linkage section past its head denotes in version 1, where the static words
+-- are before the links
 abbrev pub meant_older : ℕ → ℕ → Denoted
 meant_older statics v =
     if nat_lt v (first_link_at statics)
@@ -35,8 +35,9 @@ meant_older statics v =
 abbrev pub statics_after_links : ℕ → ℕ
 statics_after_links links = linkage_length 0 links
 
--- what an offset of the linkage section past its head denotes in version 2: a word of a link, or
--- past the links a static word
+-- What an offset of the linkage section past its head denotes in version 2: a word of a link, or
+-- past the links a static word. There the static words have a section of their own, which is placed
+-- after the linkage section.
 abbrev pub meant_newer : ℕ → ℕ → Denoted
 meant_newer links v =
     if nat_lt v (statics_after_links links)
@@ -85,7 +86,8 @@ next_bases b c =
 abbrev pub first_link : ShapeFields → ℕ
 first_link f = first_link_by f.newer f.statics
 
--- the offset of its first static word from the head of the linkage section
+-- the offset of the first static word of an object of this shape, from the head of the linkage
+-- section; in version 2 it is after the links
 abbrev pub first_static : ShapeFields → ℕ
 first_static f = if f.newer then statics_after_links f.links else head_words
 
@@ -120,7 +122,8 @@ static_number f Text w = first_static f + w
 static_number f Linkage w = first_static f + w
 static_number f Symbol w = first_static f + w
 
--- the number, in a relocated part, of a word of a component in the bound object
+-- the number by which a relocated part with this target refers to a word of a component in the
+-- bound object
 abbrev pub image_number : ShapeFields → BasesFields → Section → Denoted → ℕ
 image_number f b target (TextWord v) = b.text + v
 image_number f b target (StaticWord w) = static_number f target (b.statics + w)

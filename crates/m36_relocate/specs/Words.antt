@@ -22,9 +22,10 @@ use Rattle.m36_relocate.specs.declared.layout.Relocation.{Relocation}
 unfoldable pub with_offset : ℕ → ℕ → ℕ
 with_offset w v = joined (left w / 2 ^ 15 * 2 ^ 15 + v % 2 ^ 15) (right w)
 
--- Numbers of bits 3 to 17 are raised by 2^15 here, so that none is negative. A negative number
--- counts back from where the words of the component begin. In the linkage section it counts back
--- from the head, which is not relocated, so it does not change.
+-- The relocated value of a negative number in bits 3 to 17, whose 15 bits are v. Numbers of bits 3
+-- to 17 are raised by 2^15 here, so that none is negative. A negative number counts back from where
+-- the words of the component begin. In the linkage section it counts back from the head, which is
+-- not relocated, so it does not change.
 abbrev pub below_zero : BasesFields → Section → ℕ → ℕ
 below_zero b Text v = b.text + v
 below_zero b Static v = b.statics + v
@@ -56,12 +57,13 @@ part_fits m r w =
 abbrev pub is_in : Bool → RelocFields → Bool
 is_in statics r = if statics then not (is_text_section r.section) else is_text_section r.section
 
--- the offset from which relocations count these words
+-- the offset from which relocations count the static words, or the words of the text, as `statics`
+-- says
 abbrev pub start_of : Bool → ShapeFields → ℕ
 start_of statics s = if statics then (if s.newer then 0 else head_words) else 0
 
--- In the section with the static words of an object, the offset w after that one is the place of
--- static word w.
+-- Static word w of an object is w words after the offset from which relocations count its static
+-- words.
 abbrev pub StaticsBegin : Type 0
 StaticsBegin =
     (s : ShapeFields) (w : ℕ) → w < s.statics
@@ -71,7 +73,8 @@ StaticsBegin =
 abbrev pub words_in : Bool → PartsFields → List ℕ
 words_in statics p = if statics then p.statics else p.text
 
--- the number, among these words, of the word of a relocation
+-- the index of the word of a relocation, among the static words or the words of the text, as
+-- `statics` says
 abbrev pub place_in : ShapeFields → Bool → RelocFields → ℕ
 place_in s statics r = r.offset - start_of statics s
 
@@ -85,7 +88,8 @@ unfoldable pub one_moved : Relocation → Bool → RelocFields → List ℕ → 
 one_moved m statics r words =
     if is_in statics r then moved_at m r (place_in m.shape statics r) words else words
 
--- words relocated by all their relocations
+-- words relocated by these relocations, one after another; relocations of other words change
+-- nothing
 unfoldable pub relocated_words : Relocation → Bool → List RelocFields → List ℕ → List ℕ
 relocated_words m statics [] words = words
 relocated_words m statics (r ∷ rs) words = relocated_words m statics rs (one_moved m statics r words)

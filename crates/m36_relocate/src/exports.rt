@@ -35,6 +35,7 @@ impl Model for Exports {
     ghost view = { λ e. e.entries.entries };
 }
 
+// The entry of a name after one more definition of it. The first definition stays.
 fn export_behind(def: Def, first: Option<Export>) -> Export
     ensures { result ≡ export_behind def first }
 {
@@ -47,6 +48,7 @@ fn export_behind(def: Def, first: Option<Export>) -> Export
     }
 }
 
+// Looks up a name in the hash table.
 #[tactic(auto, unfolding(crate::specs::Exports::export_named))]
 fn found(entries: &IndexMap<Name, Export, HashSeed>, name: &Name) -> Option<Export>
     ensures { result ≡ export_named name.now entries.now.entries }
@@ -98,12 +100,14 @@ impl Exports {
     }
 }
 
+// Whether a definition with this section is of class symbol. Tables leave these out.
 fn is_symbol(section: Section) -> bool
     ensures { result ≡ is_symbol section }
 {
     matches!(section, Section::Symbol)
 }
 
+// Adds a definition of an object at the place that it has there.
 fn add_own(table: &mut Exports, d: &Named) -> Result<(), NoMemory>
     ensures { OnOk result (table.new ≡ with_own table.old d.now) }
 {
@@ -129,6 +133,7 @@ pub fn own_entries(
     Ok(table)
 }
 
+// A definition of a component, with its place in the bound object.
 fn relocated_def(m: &Relocation, def: Def) -> Def
     ensures { result ≡ relocated_def m.now def }
 {
@@ -140,6 +145,7 @@ fn relocated_def(m: &Relocation, def: Def) -> Def
     }
 }
 
+// Adds a definition of a component, at its place in the bound object.
 fn add_one_moved(table: &mut Exports, m: &Relocation, d: &Named) -> Result<(), NoMemory>
     ensures { OnOk result (table.new ≡ with_moved m.now table.old d.now) }
 {

@@ -89,6 +89,8 @@ pub struct BoundPlace {
     pub section: Section,
 }
 
+// What offset `v` of the linkage section, past its head, denotes in an object of version 1: there
+// the static words come first, and then the links.
 fn meant_older(statics: u64, v: u64) -> Denoted
     requires head { head_words ≤ v }
     requires statics { statics < 2 ^ 61 }
@@ -104,6 +106,8 @@ fn meant_older(statics: u64, v: u64) -> Denoted
     }
 }
 
+// What offset `v` past the head denotes in an object of version 2: there the links come first. The
+// static words have a section of their own, whose offsets count on after the links.
 fn meant_newer(links: u64, v: u64) -> Denoted
     requires head { head_words ≤ v }
     requires links { links < 2 ^ 61 }
@@ -119,6 +123,7 @@ fn meant_newer(links: u64, v: u64) -> Denoted
     }
 }
 
+// What an offset of the linkage section past its head denotes, for either version.
 fn meant_past_head(s: &Shape, v: u64) -> Denoted
     requires head { head_words ≤ v }
     requires small { v < 2 ^ 18 }
@@ -132,6 +137,7 @@ fn meant_past_head(s: &Shape, v: u64) -> Denoted
     }
 }
 
+// What an offset of the linkage section denotes.
 fn meant_in_linkage(s: &Shape, v: u64) -> Denoted
     requires small { v < 2 ^ 18 }
     ensures value { result ≡ meant_in_linkage s.now v }
@@ -168,6 +174,7 @@ pub fn evened(n: u64) -> u64
     n + n % 2
 }
 
+// The offset of the first link in the linkage section of an object of this shape.
 fn first_link(f: &Shape) -> u64
     ensures value { result ≡ first_link f.now }
     ensures bound { result < 2 ^ 61 + 8 }
@@ -179,6 +186,8 @@ fn first_link(f: &Shape) -> u64
     }
 }
 
+// The offset of the first static word, counted from the head of the linkage section. In version 2,
+// where static words are in their own section, it is the offset after the links.
 fn first_static(f: &Shape) -> u64
     ensures value { result ≡ first_static f.now }
     ensures bound { result < 2 ^ 62 + 16 }
@@ -201,6 +210,7 @@ pub fn spot_at(section: Section, offset: u64) -> BoundPlace
     }
 }
 
+// The place of static word `w` of an object of this shape, with `w` counted from 0.
 fn static_spot(f: &Shape, w: u64) -> BoundPlace
     requires { w < 2 ^ 62 }
     ensures value { result ≡ static_spot f.now w }
@@ -213,6 +223,7 @@ fn static_spot(f: &Shape, w: u64) -> BoundPlace
     }
 }
 
+// The place in the bound object of a word of a component that begins at `b`.
 fn image_spot(f: &Shape, b: &Bases, m: Denoted) -> BoundPlace
     requires { IsBelow (2 ^ 18) m }
     ensures value { result ≡ image_spot f.now b.now m }
@@ -236,6 +247,8 @@ pub fn relocated_place(m: &Relocation, section: Section, v: u64) -> BoundPlace
     image_spot(&m.frame, &m.bases, meaning(&m.shape, section, v))
 }
 
+// The number by which a relocated part refers to static word `w`. It is counted from the head of
+// the linkage section, except in the static section, where it is `w`.
 fn static_number(f: &Shape, target: Section, w: u64) -> u64
     requires { w < 2 ^ 61 }
     ensures value { result ≡ static_number f.now target w }
@@ -247,6 +260,8 @@ fn static_number(f: &Shape, target: Section, w: u64) -> u64
     }
 }
 
+// The number by which a relocated part with this target refers to a word of a component in the
+// bound object.
 fn image_number(f: &Shape, b: &Bases, target: Section, m: Denoted) -> u64
     requires { IsBelow (2 ^ 18) m }
     ensures value { result ≡ image_number f.now b.now target m }

@@ -30,6 +30,9 @@ fn with_offset(w: Word, v: u64) -> Word
     )
 }
 
+// The relocated value of a negative number in bits 3 to 17, plus 2^15; `v` is its 15 bits. It
+// counts back from where the component begins. In the linkage and symbol sections it does not
+// change.
 fn below_zero(b: &Bases, target: Section, v: u64) -> u64
     requires { v < 2 ^ 15 }
     ensures value { result ≡ below_zero b.now target v }
@@ -94,7 +97,8 @@ pub fn is_in(statics: bool, r: &Reloc) -> bool
     }
 }
 
-// The offset from which relocations count these words.
+// The offset from which relocations count the static words, or the words of the text, as `statics`
+// says.
 fn start_of(statics: bool, s: &Shape) -> usize
     ensures value { result ≡ start_of statics s.now }
 {
@@ -105,6 +109,8 @@ fn start_of(statics: bool, s: &Shape) -> usize
     }
 }
 
+// The index of the word that a relocation is about, among the static words or the words of the
+// text, as `statics` says.
 fn place_in(m: &Relocation, statics: bool, r: &Reloc) -> usize
     ensures { result ≡ place_in m.now.shape statics r.now }
 {
@@ -155,6 +161,7 @@ fn word_at(words: &[Word], i: usize) -> Word
     }
 }
 
+// Whether the part of a relocation fits; true if it is not of these words.
 #[tactic(auto, unfolding(crate::specs::Words::one_fits))]
 fn one_fits(m: &Relocation, statics: bool, words: &[Word], r: &Reloc) -> bool
     ensures { result ≡ one_fits m.now statics words.now r.now }

@@ -11,6 +11,7 @@ use Rattle.m36_status.specs.declared.status.Code.TheVariants.{C2, C3, U1, U2, U3
 use Rattle.m36_status.specs.declared.status.Code.TheVariants.{O4, O5, O6, O7, O8, E1, E2, E3, E4}
 use Rattle.m36_status.specs.declared.status.Code.TheVariants.{E5, E6, E7, E8, B1, B2, B3, B4, B5}
 
+-- the name of a status, as it is printed
 abbrev pub status_name : Status → List ℕ
 status_name Done = codes "Done"
 status_name Usage = codes "Usage"
@@ -22,6 +23,7 @@ status_name (MachineStop end) = codes "MachineStop"
 status_name Steps = codes "Steps"
 status_name NoMemory = codes "NoMemory"
 
+-- the number of a status, with which the program `m36` exits
 abbrev pub status_number : Status → ℕ
 status_number Done = 0
 status_number Usage = 1
@@ -33,6 +35,7 @@ status_number (MachineStop end) = 6
 status_number Steps = 7
 status_number NoMemory = 8
 
+-- the name of a code, as it is printed
 abbrev pub code_name : Code → List ℕ
 code_name F1 = codes "F1"
 code_name F2 = codes "F2"

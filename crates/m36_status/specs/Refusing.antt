@@ -10,17 +10,17 @@ abbrev pub status_of : Refusal → Status
 status_of (BadFile bad) = status.BadFile bad
 status_of NoMemory = status.NoMemory
 
--- the value of a rule, or the refusal of a file
+-- the result of a rule: its value, or the refusal of a file
 abbrev pub Early : Type 0 → Type 0
 Early A = Result A Refusal
 
--- The result of a call is that of the rule, or NoMemory.
+-- The result of a call is that of the rule, or memory ran out.
 abbrev pub Gives : {A : Type 0} → Result A Refusal → Early A → Type 0
 Gives (Ok a) rule = rule ≡ Ok a
 Gives (Err (BadFile bad)) rule = rule ≡ Err (BadFile bad)
 Gives (Err NoMemory) rule = ⊤
 
--- The same for a refusal alone.
+-- The refusal that a call returns is that of the rule, or NoMemory.
 abbrev pub Refuses : Refusal → Refusal → Type 0
 Refuses (BadFile bad) rule = rule ≡ BadFile bad
 Refuses NoMemory rule = ⊤

@@ -17,6 +17,7 @@ abbrev pub refused_at : List ℕ → Code → ℕ → ℕ → Refusal
 refused_at name code at column =
     BadFile (record { name = name; code = code; at = at; column = column })
 
+-- the refusal of a file without columns: the column is 0
 abbrev pub refused : List ℕ → Code → ℕ → Refusal
 refused name code at = refused_at name code at 0
 
@@ -27,6 +28,8 @@ abbrev pub sized : List ℕ → List ℕ → Early (List ℕ)
 sized name words =
     if nat_lt segment_limit (length words) then Err (refused name code.F3 0) else Ok words
 
+-- The words of a file, from the result of unpacking its bytes: T3 or T4 if they are no packed
+-- words, F3 if there are more words than a segment can have.
 abbrev pub words_by : List ℕ → Result (List ℕ) PackFault → Early (List ℕ)
 words_by name (Ok words) = sized name words
 words_by name (Err (pack.T3 count)) = Err (refused name code.T3 count)
@@ -47,6 +50,7 @@ object_refused name (fault.O7 at) = refused name code.O7 at
 object_refused name (fault.O8 at) = refused name code.O8 at
 object_refused name fault.NoMemory = NoMemory
 
+-- The object of a file, from the result of decoding its words: O1 to O8 if they are no object.
 abbrev pub object_by : List ℕ → Result PartsFields ObjectFault → Early PartsFields
 object_by name (Ok parts) = Ok parts
 object_by name (Err fault) = Err (object_refused name fault)

@@ -19,6 +19,7 @@ pub enum Refusal {
 impl From<NoMemory> for Refusal {
     ghost from_gives = { λ _ made. made ≡ refusal.NoMemory };
 
+    // Out of memory is a refusal of its own, which names no file.
     fn from(_cause: NoMemory) -> Refusal {
         Refusal::NoMemory
     }

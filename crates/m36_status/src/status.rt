@@ -1,4 +1,4 @@
-//! How the top call ended.
+//! How a command ended, and why a file is refused.
 
 ghost use Rattle.std.specs.Prelude.{◌≡◌};
 
@@ -29,7 +29,7 @@ pub enum Code {
     /// A text of processes: a line not of its form, out of order or missing, an N or an address
     /// against its rule, or too many events.
     P1,
-    /// A number of no process.
+    /// A text of processes names a process by a number that no process has.
     P2,
     /// A line of a boot text that is not of its form, or out of its order.
     D1,
@@ -126,7 +126,7 @@ pub struct Bad {
     pub column: u32,
 }
 
-/// How the top call ended.
+/// How a command ended.
 #[derive(Drop)]
 pub enum Status {
     /// The files and the output are written whole. The run ended with DIS, or reached the end of
