@@ -15,7 +15,7 @@ use Rattle.cmd_debug.specs.Held.{new_history, past_turning, super_turning}
 unfoldable pub on_image : State (List ℕ) → Talk
 on_image state = wants (session past_turning (new_history state))
 
--- `debug FILE`
+-- `debug FILE`: reads the image of this file, and holds a session over its machine
 unfoldable pub debug_image : List ℕ → Talk
 debug_image name = then_with (image_state name) on_image
 
@@ -24,9 +24,10 @@ debug_image name = then_with (image_state name) on_image
 unfoldable pub on_library : Library → Talk
 on_library lib = some (IsBooted lib) (λ system. wants (session super_turning system))
 
+-- A session over the system that a folder boots to, as `on_library`.
 abbrev pub on_folder : FolderFields → Talk
 on_folder given = on_library given.lib
 
--- `debug`
+-- `debug`: reads and boots the folder, and holds a session over its system
 unfoldable pub debug_folder : Talk
 debug_folder = then_with (folder_given None) on_folder

@@ -16,7 +16,8 @@ use Rattle.m36_debug.specs.Session.{Turning, turning}
 abbrev pub new_history : State (List ℕ) → History MachineFields
 new_history state = record { first = record { state = state; ended = None }; taken = 0 }
 
--- its registers and words, its turns, and how it goes back
+-- what a session uses of the machine of an image: its registers and words, its turns, and how it
+-- goes back
 abbrev pub past_turning : Turning (History MachineFields)
 past_turning =
     turning (λ h. (current_state machine_after h).state.regs)
@@ -26,6 +27,7 @@ past_turning =
 
 -- ---- a booted system, which never goes back
 
+-- what a session uses of a booted system
 abbrev pub super_turning : Turning SuperFields
 super_turning =
     turning (λ s. s.regs) super_content (λ before turn later. SuperTurns before turn later)

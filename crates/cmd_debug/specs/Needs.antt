@@ -3,7 +3,8 @@
 use Rattle.std.specs.Prelude.{ℕ, ◌≡◌, List, Option, Some}
 pub use Rattle.m36_debug.specs.SessionText.{IsTooLong}
 
--- It is over the bytes that are left at the beginning of the session.
+-- The bytes that are left of the input at the beginning of the session are known, and they are not
+-- more than a session takes.
 pub record SessionNeeds (left : Option (List ℕ)) : Type 0 where
   pub bytes : List ℕ
   pub known : left ≡ Some bytes

@@ -50,12 +50,12 @@ abbrev pub IsHeldOver :
     {M : Type 0} → Turning M → M → Result (Unit {0}) Status → Seen → Seen → Type 0
 IsHeldOver o m result old new = IsHeld o m result old new ⊎ IsNotHeld result old new
 
--- over the machine of an image
+-- A session over the machine of an image was held, or memory ran out before it.
 abbrev pub HoldsImage : State (List ℕ) → Result (Unit {0}) Status → Seen → Seen → Type 0
 HoldsImage state result old new = IsHeldOver past_turning (new_history state) result old new
 
--- Over the system that a folder boots to, of which there is at most one. Which page is evicted from
--- a frame is left open.
+-- A session over the system that a folder boots to was held, or memory ran out before it. There is
+-- at most one such system. Which page is evicted from a frame is left open.
 pub record HoldsFolder (given : FolderFields) (result : Result (Unit {0}) Status) (old new : Seen)
     : Type 0 where
   pub system : SuperFields
@@ -86,16 +86,19 @@ pub record IsNotRead {A : Type 0} (reader : Program talking A) (result : Result 
   pub logged : new.reads ≡ old.reads ++ flat_map read_of events
   pub nothing : NothingDone old new
 
--- one of the two
+-- The call of a reader and a session: the reader gave a value and the call continued as `Holds`
+-- says, or the reader ended the call.
 abbrev pub IsDebugCall :
     {A : Type 0} → Program talking A → (A → Result (Unit {0}) Status → Seen → Seen → Type 0)
     → Result (Unit {0}) Status → Seen → Seen → Type 0
 IsDebugCall reader Holds result old new =
     ReadAndHeld reader Holds result old new ⊎ IsNotRead reader result old new
 
+-- a call of `debug FILE`
 abbrev pub IsImageCall : List ℕ → Result (Unit {0}) Status → Seen → Seen → Type 0
 IsImageCall name result old new = IsDebugCall (image_state name) HoldsImage result old new
 
+-- a call of `debug`
 abbrev pub IsFolderCall : Result (Unit {0}) Status → Seen → Seen → Type 0
 IsFolderCall result old new = IsDebugCall (folder_given None) HoldsFolder result old new
 

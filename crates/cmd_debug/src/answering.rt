@@ -38,6 +38,7 @@ fn hold<M: Stepper, W: World>(
 }
 
 // The machine of an image, which can go back. The image's core is moved into it and not copied.
+// Fails only with `NoMemory`.
 fn past_of(alloc: Global, image: Image) -> Result<Past<Machine>, NoMemory>
     ensures { IfOk result (λ past. past ≡ new_history image) }
 {
@@ -76,7 +77,8 @@ fn with_system<W: World>(alloc: Global, mut system: Super, world: &mut W) -> Res
     }
 }
 
-/// Performs `debug FILE` over any world. An error is the status of the command.
+/// Performs `debug FILE` over any world: reads the image, and holds a session over its machine. An
+/// error is the status of the command.
 pub fn debug_image<W: World>(alloc: Global, name: &[u8], world: &mut W) -> Result<(), Status>
     ensures { Performs (debug_image name.now) result (W.seen world.old) (W.seen world.new) }
 {
@@ -86,7 +88,8 @@ pub fn debug_image<W: World>(alloc: Global, name: &[u8], world: &mut W) -> Resul
     }
 }
 
-/// Performs `debug` over any world. An error is the status of the command.
+/// Performs `debug` over any world: boots the folder, and holds a session over its system. An error
+/// is the status of the command.
 pub fn debug_folder<W: World>(alloc: Global, world: &mut W) -> Result<(), Status>
     ensures { Performs debug_folder result (W.seen world.old) (W.seen world.new) }
 {

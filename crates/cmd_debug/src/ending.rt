@@ -9,7 +9,7 @@ use m36_status::{Bad, Code, Status};
 use m36_word::NoMemory;
 use std::alloc::Global;
 
-/// The name of the standard input, `stdin`.
+/// The name of the standard input, `stdin`, under which S1 is reported. Fails only with `NoMemory`.
 pub(crate) fn stdin_name(alloc: Global) -> Result<Text, NoMemory>
     ensures { IfOk result (λ name. name ≡ stdin_name) }
 {
@@ -17,7 +17,8 @@ pub(crate) fn stdin_name(alloc: Global) -> Result<Text, NoMemory>
     Ok(name)
 }
 
-/// The result of the command after a session. `name` is the name of the standard input, for S1.
+/// The result of the command by the result of its session. `name` is the name of the standard
+/// input; a session with too much input is refused with S1 under this name.
 pub(crate) fn ended_by(ended: Result<(), SessionFault>, name: Text) -> Result<(), Status>
     requires { name ≡ stdin_name }
     ensures { result ≡ ended_by ended }

@@ -28,6 +28,8 @@ pub record AreOneRun
   pub end_is : how ≡ how_other
   pub left_is : flat_run_of last ≡ flat_run_of end
 
+-- The laws of booted systems:
+--
 -- - `system`: segments boot at most one system.
 -- - `turns`: take turns that execute no ABSA and no LDBR. Whatever the counts of pageable frames
 --   are, as many other turns in which memory does not run out are the same turns.

@@ -11,9 +11,10 @@ use Rattle.cmd_folder.specs.Folder.{FolderFields}
 abbrev pub IsFresh : SuperFields → Type 0
 IsFresh system = IsBooted system.lib system
 
--- the folder of a system
+-- what a booted folder was booted from: its library, and the lines `denied`
 abbrev pub given_by : BootedFolder → FolderFields
 given_by booted = record { lib = booted.system.lib; denied = booted.denied }
 
+-- a result of booting with what the folder was booted from; a refusal stays as it is
 abbrev pub given_in : Result BootedFolder Refusal → Result FolderFields Refusal
 given_in read = and_then read (λ booted. Ok (given_by booted))

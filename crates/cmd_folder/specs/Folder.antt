@@ -22,14 +22,18 @@ pub record FolderFields : Type 0 where
   -- lines without a user
   pub denied : List (List ℕ)
 
+-- what is booted from a catalog, with the rights of a user if there is one, and from the words of
+-- the files of its segments
 abbrev pub folder_with : Access → List (List ℕ) → FolderFields
 folder_with access files = record {
   lib = record { catalog = access.catalog; files = files };
   denied = access.denied;
 }
 
--- ---- booting: U1 and U3, and U2 and U4 at the number of a segment
+-- ---- booting
 
+-- the refusal of a folder that does not boot, or NoMemory: U1 and U3 with place 0, U2 and U4 with
+-- the number of the segment as their place
 abbrev pub fault_refused : BootFault → Refusal
 fault_refused boot.U1 = boot_refused code.U1 0
 fault_refused (boot.U2 segment) = boot_refused code.U2 segment
@@ -37,10 +41,11 @@ fault_refused boot.U3 = boot_refused code.U3 0
 fault_refused (boot.U4 segment) = boot_refused code.U4 segment
 fault_refused boot.NoMemory = NoMemory
 
+-- the folder if it boots, or the refusal of its fault
 abbrev pub booted_by : FolderFields → Result SnapFields BootFault → Early FolderFields
 booted_by given (Ok start) = Ok given
 booted_by given (Err fault) = Err (fault_refused fault)
 
--- The folder boots, or is refused with a code.
+-- the folder itself if it boots, otherwise its refusal with a code
 unfoldable pub boots : FolderFields → Early FolderFields
 boots given = booted_by given (boot_answer given.lib.catalog given.lib.files)

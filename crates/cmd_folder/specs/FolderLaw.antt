@@ -47,7 +47,7 @@ use Rattle.cmd_folder.specs.RunProgram.{Running, run_from}
 
 -- ---- commands
 
--- the command that runs a folder and puts this of the run
+-- the command that runs a folder with this output: `run` or `trace`
 abbrev pub run_command : RunOutput → FolderRun → FolderCommand
 run_command output.Console run = Run run
 run_command output.Trace run = Trace run
@@ -101,7 +101,7 @@ whole_pieces true output denied findings turns how =
     audit_pieces findings ++ run_pieces denied output turns (Some how)
 whole_pieces false output denied findings turns how = audit_pieces findings
 
--- its status then
+-- the status of a command whose run finishes in this way; the Boolean is whether it runs the system
 abbrev pub whole_status : Bool → List (ℕ × ℕ) → Finish → Status
 whole_status true findings how = finish_status (Some how)
 whole_status false findings how = audit_status (passes findings)
@@ -118,6 +118,7 @@ HasTextOf run output given findings turns how events result =
 
 -- ---- the law
 
+-- The laws of `audit`, `run` and `trace` of a folder.
 pub record FolderLaw : Type 0 where
   -- `audit` has one text over the same files. On a folder that boots, all calls of it that end put
   -- the same pieces and have the same result, and some call ends.

@@ -35,17 +35,19 @@ OneEndsWithDis =
     → Finishes (Over (end.Stop Dis)) lib limit turns last → Each IsPlainTurn turns
     → EndsWithDis lib limit (booted_of system)
 
+-- what `run` and `trace` need: the run is allowed, and each run of the system ends with DIS
 abbrev pub RunNeeds : FolderRun → Library → SuperFields → Type 0
 RunNeeds run lib system =
     MayRun (IsAudited system.core booted_dbr) run.unaudited
     × EndsWithDis lib run.steps (booted_of system)
 
+-- what a command needs of the system that the folder boots to
 abbrev pub SystemNeeds : FolderCommand → Library → SuperFields → Type 0
 SystemNeeds Audit lib system = IsAudited system.core booted_dbr
 SystemNeeds (Run run) lib system = RunNeeds run lib system
 SystemNeeds (Trace run) lib system = RunNeeds run lib system
 
--- of each system that the folder boots
+-- what a command needs of a folder: each system that it boots to has what the command needs
 abbrev pub FolderNeeds : FolderCommand → FolderFields → Type 0
 FolderNeeds command given =
     (system : SuperFields) → IsBooted given.lib system → SystemNeeds command given.lib system

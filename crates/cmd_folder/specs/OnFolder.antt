@@ -37,6 +37,8 @@ unfoldable pub audit_and_run :
 audit_and_run run steps first findings =
     puts_all (audit_pieces findings) (run_from run 0 steps first)
 
+-- puts the audit's text, and runs the system if the Boolean is true; the number is the limit of
+-- steps
 abbrev pub run_by :
     Bool → Running → ℕ → Booted → List (ℕ × ℕ) → Program quiet (Unit {0})
 run_by true run steps first findings = audit_and_run run steps first findings

@@ -1,5 +1,5 @@
--- What a call of the program of a run is: a booted run. Its pieces are those of the turns of the run
--- and of its end, and its status is that of the end.
+-- What a call of the program of a run is: a booted run. Its pieces are those of the turns of the
+-- run and of its end, and its status is that of the end.
 use Rattle.std.specs.Prelude.{ℕ, ◌≡◌, ◌⊎◌, ⊤, List, [], ◌++◌, Option, Some, None, Result, Err}
 use Rattle.m36_world.specs.declared.event.Event.{Event}
 use Rattle.m36_step.specs.declared.turns.Turn.{Turn}
@@ -14,7 +14,7 @@ use Rattle.cmd_folder.specs.RunText.{run_pieces, finish_status}
 use Rattle.cmd_folder.specs.Runs.{Goes, Finishes, AwaitsLink}
 use Rattle.cmd_folder.specs.RunProgram.{Running}
 
--- The run finished so, if it finished.
+-- If the run finished, it finished in this way.
 abbrev pub FinishesAs : Option Finish → Library → ℕ → List Turn → Booted → Type 0
 FinishesAs None lib limit turns last = ⊤
 FinishesAs (Some how) lib limit turns last = Finishes how lib limit turns last

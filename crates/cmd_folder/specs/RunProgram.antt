@@ -16,7 +16,7 @@ use Rattle.cmd_folder.specs.declared.finish.Finish.TheVariants.{Over, Limit}
 use Rattle.cmd_folder.specs.RunText.{pieces_of, end_pieces, finish_status}
 use Rattle.cmd_image.specs.ImageProgram.{may_end}
 
--- what a run is made of
+-- what a run depends on besides the state and the limit of steps
 pub record Running : Type 0 where
   -- the library that the system was booted from
   pub lib : Library
@@ -55,7 +55,8 @@ run_ends run taken how =
 
 -- ---- one turn
 
--- puts what is written of a turn, and then continues; the number is the count of steps before it
+-- puts what is written of a turn, and continues with `on`; the number is the count of steps before
+-- it
 abbrev pub puts_turn :
     Running → ℕ → (Booted → Program quiet (Unit {0})) → Made → Program quiet (Unit {0})
 puts_turn run taken on made = puts_all (pieces_of run.output taken made.turn) (on made.after)
@@ -70,12 +71,13 @@ after_service (Link at) run taken on b = on b
 after_service Print run taken on b = on b
 after_service (coming.Over e) run taken on b = run_ends run taken (Over e)
 
+-- what follows a service in this state, by the next event; the number is the count of steps taken
 abbrev pub then_on :
     Running → ℕ → (Booted → Program quiet (Unit {0})) → Booted → Program quiet (Unit {0})
 then_on run taken on b = after_service b.coming run taken on b
 
--- What follows a step: another one; a link service, for which memory may run out; a console
--- service; or the end of the run.
+-- What follows a step, by the next event: another step; a link service, for which memory may run
+-- out; a console service; or the end of the run.
 abbrev pub serve_by :
     NextEvent → Running → ℕ → (Booted → Program quiet (Unit {0})) → Booted
     → Program quiet (Unit {0})
@@ -86,6 +88,8 @@ serve_by Print run taken on b =
     some (IsMade run.lib b) (puts_turn run taken (then_on run taken on))
 serve_by (coming.Over e) run taken on b = run_ends run taken (Over e)
 
+-- performs the service for which the step that was just taken calls, if any, and continues with
+-- `on` if a step follows, or ends the run; the number is the count of steps taken
 unfoldable pub serve :
     Running → ℕ → (Booted → Program quiet (Unit {0})) → Booted → Program quiet (Unit {0})
 serve run taken on b = serve_by b.coming run taken on b

@@ -24,11 +24,11 @@ abbrev pub IsShown : RunOutput → List (List ℕ) → Type 0
 IsShown output.Console block = block ≡ []
 IsShown output.Trace block = ⊤
 
--- a run of a system of a library
+-- a run of a system that was booted from this library
 abbrev pub run_of : Library → RunOutput → List (List ℕ) → Running
 run_of lib output denied = record { lib = lib; denied = denied; output = output }
 
--- a program that depends on the run and on the count of steps that are left
+-- the rest of a run: a program that depends on the run and on the count of steps that are left
 abbrev pub Rest : Type 1
 Rest = Running → ℕ → Program quiet (Unit {0})
 
@@ -53,7 +53,7 @@ pub record StepFollows (lib : Library) (output : RunOutput) (first : Rest) (take
   pub same : after.lib ≡ lib
   pub shown : IsShown output block
 
--- The run has ended, and its end line is left.
+-- The run has ended in this way, and its end line is left.
 pub record IsOver (e : End) (lib : Library) (output : RunOutput) (first : Rest) (taken : ℕ)
     (block : List (List ℕ)) (old new : Seen) : Type 0 where
   pub leads :
@@ -61,14 +61,15 @@ pub record IsOver (e : End) (lib : Library) (output : RunOutput) (first : Rest) 
       → Leads (puts_all block (run_ends (run_of lib output denied) taken (Over e)))
       (first (run_of lib output denied) left) old new
 
--- The run cannot continue: the output failed, or a link service ran out of memory.
+-- The run cannot continue: the output failed, or a link service ran out of memory. The status is
+-- that of the command.
 pub record Fails (status : Status) (lib : Library) (output : RunOutput) (first : Rest)
     (old new : Seen) : Type 0 where
   pub performs :
       (denied : List (List ℕ)) (left : ℕ)
       → Performs (first (run_of lib output denied) left) (Err status) old new
 
--- what each answer of a turn says of the program that is left
+-- what the result of a turn implies for the program that is left
 abbrev pub TurnSays :
     AfterTurn → Library → RunOutput → Rest → ℕ → SuperFields → List (List ℕ) → Seen → Seen
     → Type 0

@@ -31,6 +31,7 @@ use Rattle.cmd_folder.specs.declared.finish.Finish.TheVariants.{Over, Limit}
 abbrev pub steps_of : Turn → ℕ
 steps_of turn = counted 0 turn
 
+-- the count of steps among these turns
 unfoldable pub steps_in : List Turn → ℕ
 steps_in [] = 0
 steps_in (turn ∷ turns) = steps_of turn + steps_in turns
@@ -40,6 +41,7 @@ abbrev pub characters : List ℕ → List (List ℕ)
 characters [] = []
 characters (c ∷ text) = (c ∷ text) ∷ []
 
+-- the characters of a console service, in at most one piece; nothing of any other turn
 abbrev pub printed : Turn → List (List ℕ)
 printed (Console text) = characters text
 printed (Stepped told) = []
@@ -54,6 +56,7 @@ abbrev pub pieces_of : RunOutput → ℕ → Turn → List (List ℕ)
 pieces_of output.Trace taken turn = turn_pieces taken turn
 pieces_of output.Console taken turn = printed turn
 
+-- the pieces of these turns, before which `taken` steps were taken
 unfoldable pub pieces_from : RunOutput → ℕ → List Turn → List (List ℕ)
 pieces_from output taken [] = []
 pieces_from output taken (turn ∷ turns) =
@@ -61,16 +64,17 @@ pieces_from output taken (turn ∷ turns) =
 
 -- ---- the end
 
+-- the end line of a run of this many steps, without its line feed
 abbrev pub finish_line : Finish → ℕ → List ℕ
 finish_line (Over e) steps = run_end_line_of e steps
 finish_line Limit steps = end_line_of Next steps
 
--- the access violations for a missing right
+-- Is an access violation one for a missing right to execute, read or write?
 abbrev pub is_no_right : ℕ → Bool
 is_no_right acv =
     nat_eq acv no_execute_right || nat_eq acv no_read_right || nat_eq acv no_write_right
 
--- Is a fault with these numbers such an access violation?
+-- Is a fault with this number, and this access violation, one for a missing right?
 abbrev pub is_want_of_right : ℕ → ℕ → Bool
 is_want_of_right number acv = nat_eq number access_violation && is_no_right acv
 
@@ -79,13 +83,14 @@ abbrev pub denied_at : Fault → Option ℕ
 denied_at fault =
     if is_want_of_right fault.number fault.acv then Some fault.at.seg else None
 
--- the same by the end of a run
+-- the segment to which a right was missing, if a run ended for that
 abbrev pub denied_by : End → Option ℕ
 denied_by (end.Fault fault) = denied_at fault
 denied_by (end.Stop stop) = None
 denied_by (end.Link code) = None
 denied_by end.Console = None
 
+-- the segment to which a right was missing, if a run finished for that; None at its limit of steps
 abbrev pub denied_segment : Finish → Option ℕ
 denied_segment (Over e) = denied_by e
 denied_segment Limit = None
@@ -95,6 +100,7 @@ abbrev pub line_for : List (List ℕ) → Option ℕ → Option (List ℕ)
 line_for denied seg =
     option_and_then (slice_get denied) (option_and_then place_of seg)
 
+-- the line `denied` that follows the end line of a run, if there is one
 unfoldable pub denied_pieces : List (List ℕ) → Finish → List (List ℕ)
 denied_pieces denied how = option_to_list (line_for denied (denied_segment how))
 
@@ -103,6 +109,8 @@ abbrev pub ended_with : Option Finish → ℕ → (Finish → List (List ℕ)) �
 ended_with None steps rest = []
 ended_with (Some how) steps rest = as_line (finish_line how steps) ∷ rest how
 
+-- the end line of a run of this many steps, and the line `denied` if there is one; nothing if the
+-- run did not finish
 abbrev pub end_pieces : List (List ℕ) → Option Finish → ℕ → List (List ℕ)
 end_pieces denied how steps = ended_with how steps (denied_pieces denied)
 

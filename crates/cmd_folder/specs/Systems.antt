@@ -1,10 +1,12 @@
--- The result of reading and booting a folder, as the program of the same has it.
+-- The value of the program that reads and boots a folder (`folder_given`), from the result of the
+-- code.
 use Rattle.std.specs.Prelude.{Result, Ok, Err}
 use Rattle.m36_status.specs.declared.status.Status.{Status}
 use Rattle.cmd_folder.specs.declared.booting.BootedFolder.{BootedFolder}
 use Rattle.cmd_folder.specs.Folder.{FolderFields}
 use Rattle.cmd_folder.specs.BootedSystems.{given_by}
 
+-- a result of the command with what the folder was booted from; a status stays as it is
 abbrev pub given_in : Result BootedFolder Status → Result FolderFields Status
 given_in (Ok booted) = Ok (given_by booted)
 given_in (Err status) = Err status

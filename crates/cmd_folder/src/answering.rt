@@ -44,7 +44,7 @@ fn run_audited<W: World>(
     }
 }
 
-// A system is run if the audit found nothing, or with `--unaudited`.
+// Whether the system is run: if the audit found nothing, or `--unaudited` is given.
 #[tactic(auto, using(cmd_image::proofs::AuditAnswers::passing))]
 fn is_run(findings: &[Finding], run: FolderRun) -> bool
     ensures { result ≡ is_run (pairs findings.now) run.unaudited }

@@ -36,7 +36,8 @@ pub fn with_file(mut files: SegmentFiles, words: Words) -> Result<SegmentFiles, 
     Ok(files)
 }
 
-// U1 to U4, for a catalog and files that do not boot; U2 and U4 at the number of the segment.
+// The refusal of a catalog and files that do not boot: U1 to U4, of which U2 and U4 have the number
+// of the segment as their place.
 fn refuse_fault(alloc: Global, fault: BootFault) -> Refusal
     ensures { Refuses result (fault_refused fault) }
 {
@@ -49,7 +50,8 @@ fn refuse_fault(alloc: Global, fault: BootFault) -> Refusal
     }
 }
 
-/// Boots a catalog with its files: U1 to U4 if they do not boot.
+/// Boots a catalog with the words of the files of its segments. Refuses them with U1 to U4 if they
+/// do not boot.
 #[tactic(auto, using(crate::proofs::FolderBoots::booting))]
 pub fn boot_files(
     alloc: Global,

@@ -25,6 +25,6 @@ pub enum FolderCommand {
     Audit,
     /// `run`: audits it, and runs the system with its console.
     Run(FolderRun),
-    /// `trace`: the same, with a trace.
+    /// `trace`: audits it, and runs the system with a trace.
     Trace(FolderRun),
 }

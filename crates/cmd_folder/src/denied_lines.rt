@@ -46,7 +46,7 @@ fn denied_by(end: End) -> Option<u16>
     }
 }
 
-// The same for a run that finished, perhaps at its limit.
+// The segment to which a right was missing, if a run ended for that; None at the limit of steps.
 fn denied_segment(how: Finish) -> Option<u16>
     ensures { result ≡ denied_segment how }
 {

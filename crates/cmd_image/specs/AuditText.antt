@@ -5,7 +5,8 @@ use Rattle.m36_outside.specs.Passing.{joined}
 use Rattle.m36_text.specs.Digits.{octal_text, decimal_text, segment_digits, core_word_digits}
 use Rattle.m36_text.specs.Lines.{as_line}
 
--- A segment breaks the first, the fifth and the sixth condition; a core word breaks the others.
+-- Is the place of a finding of this condition a segment? It is for the first, the fifth and the
+-- sixth condition; for the others it is a core word.
 abbrev pub is_of_segment : ℕ → Bool
 is_of_segment condition = condition == 1 || (condition == 5 || condition == 6)
 
@@ -23,14 +24,16 @@ place_text condition digits place =
 abbrev pub found_text : ℕ → ℕ → List ℕ
 found_text condition place = place_text condition (place_digits condition) place
 
--- as in `audit no A3 00000100`
+-- the line of a finding, without its line feed, as `audit no A3 00000100`
 unfoldable pub finding_line : ℕ × ℕ → List ℕ
 finding_line f = codes "audit no A" ++ found_text f.0 f.1
 
+-- a line for each finding, in the order of the findings
 unfoldable pub finding_pieces : List (ℕ × ℕ) → List (List ℕ)
 finding_pieces [] = []
 finding_pieces (f ∷ findings) = as_line (finding_line f) ∷ finding_pieces findings
 
+-- the line of an audit without findings, with its line feed
 abbrev pub yes_line : List ℕ
 yes_line = as_line (codes "audit yes")
 
@@ -39,8 +42,10 @@ abbrev pub yes_or : {A : Type 0} → (List A → List (List ℕ)) → List A →
 yes_or lines [] = yes_line ∷ []
 yes_or lines (f ∷ findings) = lines (f ∷ findings)
 
+-- the lines of an audit with these findings, each the number of its condition and its place
 abbrev pub audit_pieces : List (ℕ × ℕ) → List (List ℕ)
 audit_pieces findings = yes_or finding_pieces findings
 
+-- the text of an audit: its lines, one after another
 abbrev pub audit_text : List (ℕ × ℕ) → List ℕ
 audit_text findings = joined (audit_pieces findings)

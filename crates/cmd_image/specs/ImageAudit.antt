@@ -15,7 +15,7 @@ use Rattle.m36_status.specs.declared.status.Status.TheVariants.{Done, AuditNo}
 
 -- ---- reading
 
--- the code of a refused image, as one of all codes
+-- the code of a refused image, as a code of the status BadFile
 abbrev pub code_of : ImageCode → Code
 code_of image.I1 = code.I1
 code_of image.I2 = code.I2
@@ -32,17 +32,18 @@ passes (f ∷ findings) = false
 abbrev pub is_run : {A : Type 0} → List A → Bool → Bool
 is_run findings unaudited = passes findings || unaudited
 
+-- the status of a command that only audits, by whether the audit passes
 abbrev pub audit_status : Bool → Status
 audit_status true = Done
 audit_status false = AuditNo
 
 -- ---- what `audit yes` promises
 
--- The tables of a core isolate each ring from 1.
+-- The descriptors and page tables of a core isolate each ring from 1 to 7.
 pub record IsIsolated (core : List ℕ) (dbr : DbrFields) : Type 0 where
   pub isolates : Isolated core_store (core_tables core dbr)
 
--- All six conditions of the audit hold, and the tables isolate each ring.
+-- All six conditions of the audit hold, and the tables isolate each ring from 1 to 7.
 pub record PassesAudit (state : State (List ℕ)) : Type 0 where
   pub conditions : IsAudited state.store state.regs.dbr
   pub isolates : IsIsolated state.store state.regs.dbr

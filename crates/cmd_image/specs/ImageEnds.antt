@@ -56,7 +56,8 @@ EndsByFindings command state findings events result =
     EndsWith (image_pieces command state findings) (image_status command state findings)
     events result
 
--- The same with some findings, at least one.
+-- The audit has at least one finding. The call put what the findings require, and has their
+-- status.
 pub record EndsByFinding (command : ImageCommand) (state : State (List ℕ)) (events : List Event)
     (result : Result (Unit {0}) Status) : Type 0 where
   pub first : ℕ × ℕ

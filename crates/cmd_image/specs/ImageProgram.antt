@@ -28,7 +28,7 @@ use Rattle.cmd_image.specs.ImageAudit.{code_of, passes, is_run, audit_status, Is
 
 -- ---- reading
 
--- the machine of an image, or the refusal of its text
+-- yields the machine of an image that was decoded, or refuses the file of this name (I1 to I3)
 abbrev pub decoded :
     {may : May} → List ℕ → Result (State (List ℕ)) refusal.Refusal → Program may (State (List ℕ))
 decoded name (Ok state) = done state
@@ -76,8 +76,8 @@ after_step taken Next rest = rest
 after_step taken (Faulted fault) rest = run_ends taken (Faulted fault)
 after_step taken (Stopped stop) rest = run_ends taken (Stopped stop)
 
--- Takes at most as many steps as the second number says, after `taken` steps. It puts a line for
--- each step, and the end line.
+-- Runs the machine for at most `left` more steps, after `taken` steps. It puts a line for each
+-- step, and the end line. The second number is `left`.
 unfoldable pub run_from : ℕ → ℕ → State (List ℕ) → Program quiet (Unit {0})
 run_from taken zero state = run_ends taken Next
 run_from taken (suc left) state =

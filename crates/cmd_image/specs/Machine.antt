@@ -5,10 +5,10 @@ use Rattle.m36_model.specs.Core.{core_store}
 use Rattle.m36_model.specs.Step.{record_of, state_after}
 use Rattle.m36_model.specs.declared.record.StepRecord.{StepRecord}
 
--- the record of the step from this state
+-- the record of the step that is taken in this state
 abbrev pub told : State (List ℕ) → StepRecord
 told state = record_of core_store state
 
--- the state that the step leaves
+-- the state after the step that is taken in this state
 abbrev pub after : State (List ℕ) → State (List ℕ)
 after state = state_after core_store state

@@ -8,11 +8,12 @@ use Rattle.cmd_image.specs.declared.command.ImageCommand.{ImageCommand}
 use Rattle.cmd_image.specs.declared.command.ImageCommand.TheVariants as image
 use Rattle.cmd_image.specs.Run.{run, last_outcome}
 
--- The audit passes, or `--unaudited` is given.
+-- The audit passes (`Passes`), or `--unaudited` is given.
 abbrev pub MayRun : Type 0 → Bool → Type 0
 MayRun Passes unaudited = Passes ⊎ (unaudited ≡ true)
 
--- The run is allowed, and it ends with DIS within its steps; or the audit passes.
+-- `bare FILE` needs that the run is allowed and ends with DIS within its limit of steps.
+-- `audit FILE` needs that the audit passes.
 abbrev pub ImageNeeds : ImageCommand → State (List ℕ) → Type 0
 ImageNeeds (image.Bare bare) state =
     MayRun (IsAudited state.store state.regs.dbr) bare.unaudited

@@ -5,6 +5,7 @@ use Rattle.m36_program.specs.OneText.{HasOneText}
 use Rattle.cmd_image.specs.declared.command.ImageCommand.{ImageCommand}
 use Rattle.cmd_image.specs.ImageProgram.{image_program}
 
+-- Both commands have one text, for each name of a file and all options.
 abbrev pub ImageTextLaw : Type 0
 ImageTextLaw =
     (command : ImageCommand) (name : List ℕ) → HasOneText (image_program command name)

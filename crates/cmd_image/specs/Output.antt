@@ -38,7 +38,7 @@ end_status (end.Stop Tag) = MachineStop (end.Stop Tag)
 end_status (end.Link code) = MachineStop (end.Link code)
 end_status end.Console = MachineStop end.Console
 
--- the status of a run by its end; None if it did not end, and then it used up its limit of steps
+-- the status of a run by its end; Steps for None: the run used up its limit of steps
 abbrev pub status_by : Option End → Status
 status_by None = Steps
 status_by (Some e) = end_status e

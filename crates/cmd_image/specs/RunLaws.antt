@@ -20,12 +20,12 @@ LimitIsMet =
     (steps : ℕ) (state : State (List ℕ))
     → last_outcome (run steps state) ≡ Next → length (run steps state) ≡ steps
 
--- the record of a turn if it is a step
+-- the record of a turn, as a list of one; no record if the turn is not a step
 abbrev pub step_in : Turn → List StepRecord
 step_in (Stepped told) = told ∷ []
 step_in _ = []
 
--- the records of the steps among a number of turns of a machine
+-- the records of the steps among the first n turns of a machine
 unfoldable pub steps_made : ℕ → MachineFields → List StepRecord
 steps_made zero m = []
 steps_made (suc n) m = step_in (machine_turn m) ++ steps_made n (machine_after m)
@@ -39,11 +39,11 @@ RunsAreTurns =
 
 -- ---- findings
 
--- The place of a finding has no more octal digits than are printed.
+-- The place of a finding has no more octal digits than its line prints.
 abbrev pub IsWrittenWhole : ℕ × ℕ → Type 0
 IsWrittenWhole f = f.1 < 8 ^ place_digits f.0
 
--- The place of each finding of an audit is printed whole.
+-- For each finding of an audit, its line prints all digits of the place.
 abbrev pub PlacesAreWhole : Type 0
 PlacesAreWhole =
     (core : List ℕ) (dbr : DbrFields) (findings : List (ℕ × ℕ))

@@ -16,7 +16,8 @@ use m36_status::Status;
 use m36_world::World;
 use std::alloc::Global;
 
-/// Puts the text of an audit line by line. Fails with AuditNo if there are findings.
+/// Performs a command that only audits: puts the text of the audit, line by line. Fails with
+/// AuditNo if there are findings.
 #[tactic(auto, using(crate::proofs::ImageSteps::auditing))]
 pub fn answer_audit<W: World>(findings: &[Finding], world: &mut W) -> Result<(), Status>
     ensures { Performs (audit_only (pairs findings.now)) result

@@ -9,7 +9,8 @@ use arrayvec::ArrayString;
 use m36_audit::Finding;
 use m36_text::{decimal, octal};
 
-// Whether a segment breaks this condition (the first, the fifth and the sixth), or a core word.
+// Whether the place of a finding of this condition is a segment (for the first, the fifth and the
+// sixth condition) or a core word (for the others).
 fn is_of_segment(condition: u8) -> bool
     ensures { result ≡ is_of_segment condition }
 {

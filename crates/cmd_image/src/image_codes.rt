@@ -6,7 +6,7 @@ ghost use Rattle.cmd_image.specs.ImageAudit.{code_of};
 use m36_image::ImageCode;
 use m36_status::Code;
 
-/// The code with which an image is refused, as one of all codes.
+/// The code of a refused image, as a code of the status BadFile.
 pub fn code_of(code: ImageCode) -> Code
     ensures { result ≡ code_of code }
 {

@@ -17,7 +17,7 @@ use m36_step::Machine;
 use m36_word::NoMemory;
 use std::alloc::Global;
 
-/// The status of a run that ended so: Done after DIS, otherwise MachineStop with the end.
+/// The status of a run by its end: Done after DIS, otherwise MachineStop with the end.
 pub fn end_status(end: End) -> Status
     ensures { result ≡ end_status end }
 {
@@ -58,7 +58,8 @@ pub fn is_run(findings: &[Finding], bare: BareRun) -> bool
     findings.is_empty() || bare.unaudited
 }
 
-// Audits a core. If nothing is found, the tables isolate each ring from 1.
+// Audits a core. If nothing is found, its tables isolate each ring from 1. Fails only with
+// `NoMemory`.
 fn audited(alloc: Global, core: &Core, dbr: Dbr) -> Result<Verdict, NoMemory>
     ensures found { IfOk result (λ v. AreFindings core.now dbr (pairs v.findings.items)) }
     ensures isolated { IfOk result (λ v. pairs v.findings.items ≡ [] → IsIsolated core.now dbr) }

@@ -32,7 +32,8 @@ pub enum AfterStep {
     WriteFailed,
 }
 
-/// Adds a line with its line feed to a block, as one piece.
+// Adds a line to a block as one piece, with a line feed at its end. A full block is handed to the
+// output first.
 fn add_text<W: World>(block: &mut Block, mut line: ArrayString<160>, world: &mut W) -> Put
     requires { length line.bytes < 160 }
     ensures adds { Adds result block.old block.new (as_line line.bytes ∷ [])
@@ -42,8 +43,8 @@ fn add_text<W: World>(block: &mut Block, mut line: ArrayString<160>, world: &mut
     add_piece(block, line.as_str().as_bytes(), world)
 }
 
-// Adds the line of step n if `push_shown` did not: the block has no room for it, or the parts kept
-// of earlier lines cannot be used.
+// Adds the line of step n, formatted as a whole. Used if `push_shown` did not add it: the block has
+// no room for it, or no parts of an earlier line can be used again.
 #[inline(never)]
 fn add_whole<W: World>(n: u64, shown: &Shown, after: &Regs, block: &mut Block, world: &mut W) -> Put
     ensures adds { Adds result block.old block.new
@@ -52,7 +53,9 @@ fn add_whole<W: World>(n: u64, shown: &Shown, after: &Regs, block: &mut Block, w
     add_text(block, shown_line(n, shown, after), world)
 }
 
-// Adds the line of step n with its line feed to a block, as one piece.
+// Adds the line of step n with its line feed to a block, as one piece. `text` keeps an earlier
+// line, and only the parts that differ are formatted again. `after` has the registers after the
+// step.
 #[inline(always)]
 #[tactic(auto, using(m36_program::proofs::Gathered::gathering))]
 fn add_shown<W: World>(
@@ -72,7 +75,8 @@ fn add_shown<W: World>(
     add_whole(n, shown, after, block, world)
 }
 
-/// Takes step n of a run, counted from 1, and adds its line to the block.
+/// Takes step n of a run, counted from 1, and adds its line to the block. `shown` is overwritten
+/// with what the line shows of the step.
 #[inline]
 pub fn take_turn<W: World>(
     machine: &mut Machine,

@@ -5,6 +5,7 @@ use Rattle.m36_program.specs.Found.{found_in}
 use Rattle.m36_program.specs.Program.{May, Program}
 use Rattle.m36_program.specs.Program.{done, stops, reads, writes, puts, takes, some, wants}
 
+-- a program with each read answered by these files, without an event
 unfoldable pub in_memory : {may : May} {A : Type 0} → Files → Program may A → Program may A
 in_memory files (done a) = done a
 in_memory files (stops status own) = stops status own

@@ -33,11 +33,13 @@ PassesBy (Some (Err status)) = ⊥
 abbrev pub PassesMade : List Set → Type 0
 PassesMade sets = PassesBy (boots_from sets)
 
--- the first line, with the count of segments; none if the folder is refused
+-- the first line, with the count of segments, by what the files boot to; empty if the folder is
+-- refused
 abbrev pub head_by : Option (Result FolderFields Status) → List ℕ
 head_by None = []
 head_by (Some (Ok given)) = head_line (segment_count given.lib)
 head_by (Some (Err status)) = []
 
+-- the first line that `make` puts of these files
 abbrev pub head_of : List Set → List ℕ
 head_of sets = head_by (boots_from sets)

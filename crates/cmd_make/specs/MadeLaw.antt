@@ -92,6 +92,7 @@ pub record BootsTo (sets : List Set) (given : FolderFields) (system : SuperField
 
 -- ---- the law
 
+-- The laws of `make`. In them `sets` are the files of a seed.
 pub record MadeLaw : Type 0 where
   -- If a source is refused, nothing happens, and the status is that of the refusal.
   pub unmade :

@@ -25,17 +25,17 @@ use Rattle.cmd_make.specs.Within.{within}
 
 -- ---- the lines of a system
 
--- the lines after a run, and its status
+-- puts the lines after a run, and ends with its status
 unfoldable pub summed_up : Ran → Program quiet (Unit {0})
 summed_up ran =
     puts_all (end_pieces (Some ran.how) ran.steps ran.regs)
     (ends (finish_status (Some ran.how)) (finish_may_end ran.how))
 
--- a run of at most `steps` steps, and the lines after it
+-- runs the system for at most `steps` steps, and puts the lines after the run
 unfoldable pub run_summed : Library → ℕ → Booted → Program quiet (Unit {0})
 run_summed lib steps first = then_with (run_from lib 0 steps first) summed_up
 
--- runs the system, or ends with AuditNo
+-- runs the system if the Boolean is true (the audit passes), otherwise ends with AuditNo
 abbrev pub runs_or_ends : Bool → Library → Booted → Program quiet (Unit {0})
 runs_or_ends true lib first = run_summed lib run_limit first
 runs_or_ends false lib first = ends (audit_status false) (audit_may_end false)

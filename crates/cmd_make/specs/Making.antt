@@ -26,6 +26,7 @@ set_of file = record { name = file.name; content = file.content }
 unfoldable pub object_name : List ℕ → List ℕ
 object_name source = object_of_source source
 
+-- the file of the object that the source of this name assembles to, or the refusal of the source
 abbrev pub object_by : List ℕ → Result Assembly AlmFault → Early Set
 object_by source (Ok a) = Ok (object_set (object_name source) a.parts)
 object_by source (Err fault) = Err (source_refused source fault)
@@ -50,6 +51,7 @@ with_objects sets (source ∷ sources) =
 
 -- ---- all files
 
+-- these files, and after them the data and the boot text
 abbrev pub and_others : List Set → Early (List Set)
 and_others sets = Ok (sets ++ map set_of other_files)
 
@@ -60,6 +62,7 @@ sets_of seed =
 
 -- ---- the folder that these files are
 
+-- a folder without files
 abbrev pub no_files : Files
 no_files name = None
 
@@ -68,7 +71,7 @@ unfoldable pub with_files : List Set → Files → Files
 with_files [] files = files
 with_files (set ∷ sets) files = with_files sets (with_file set.name (Some set.content) files)
 
--- the files of a folder that has these and no others
+-- the files of a folder into which only these are written
 unfoldable pub files_in : List Set → Files
 files_in sets = with_files sets no_files
 
@@ -78,5 +81,6 @@ files_in sets = with_files sets no_files
 abbrev pub assembly_bytes : Assembly → List ℕ
 assembly_bytes a = object_bytes a.parts
 
+-- The result of the code has the packed words of this object, or is the fault of its assembly.
 abbrev pub ObjectSays : Result (List ℕ) AlmFault → Result Assembly AlmFault → Type 0
 ObjectSays result given = MakingSays assembly_bytes result given

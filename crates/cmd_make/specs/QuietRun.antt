@@ -18,7 +18,7 @@ pub record Ran : Type 0 where
   pub steps : ℕ
   pub regs : RegsFields
 
--- a run that ended in this state
+-- the value of a run that ended in this state, after this many steps
 abbrev pub ran : Finish → ℕ → Booted → Ran
 ran how steps b = record { how = how; steps = steps; regs = b.state.regs }
 
@@ -31,11 +31,12 @@ after_service (Link at) taken on b = on b
 after_service Print taken on b = on b
 after_service (coming.Over e) taken on b = done (ran (Over e) taken b)
 
+-- what follows a service, by the next event after it; the number is the count of steps taken
 abbrev pub then_on : ℕ → (Booted → Program quiet Ran) → Made → Program quiet Ran
 then_on taken on made = after_service made.after.coming taken on made.after
 
--- What follows a step: another one; a link service, for which memory may run out; a console
--- service; or the end of the run.
+-- What follows a step, by the next event: another step; a link service, for which memory may run
+-- out; a console service; or the end of the run.
 abbrev pub serve_by :
     NextEvent → Library → ℕ → (Booted → Program quiet Ran) → Booted → Program quiet Ran
 serve_by Step lib taken on b = on b
@@ -43,6 +44,8 @@ serve_by (Link at) lib taken on b = wants (some (FindsMemory lib b) (then_on tak
 serve_by Print lib taken on b = some (IsMade lib b) (then_on taken on)
 serve_by (coming.Over e) lib taken on b = done (ran (Over e) taken b)
 
+-- performs the service for which the step that was just taken calls, if any, and continues with
+-- `on` if a step follows, or ends the run; the number is the count of steps taken
 unfoldable pub serve :
     Library → ℕ → (Booted → Program quiet Ran) → Booted → Program quiet Ran
 serve lib taken on b = serve_by b.coming lib taken on b

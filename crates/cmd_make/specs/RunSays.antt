@@ -18,11 +18,12 @@ use Rattle.cmd_make.specs.declared.running.AfterTurn.TheVariants as turn
 use Rattle.cmd_make.specs.declared.running.RunEnd.{RunEnd}
 use Rattle.cmd_make.specs.QuietRun.{Ran, ran, serve, run_from}
 
--- Each result that the program `now` reaches without an event, `first` reaches without an event.
+-- `now` is a rest of `first`: each result that `now` reaches without an event, `first` reaches
+-- without an event.
 abbrev pub IsLeft : Program quiet Ran → Program quiet Ran → Type 0
 IsLeft now first = (result : Result Ran Status) → Goes now [] result → Goes first [] result
 
--- a program that depends on the count of steps taken and on the count of steps left
+-- the rest of a run: a program that depends on the count of steps taken and of those left
 abbrev pub Rest : Type 1
 Rest = ℕ → ℕ → Program quiet Ran
 
@@ -42,7 +43,7 @@ pub record GoesOn (lib : Library) (first : Rest) (after : SuperFields) : Type 0 
   pub next : after.coming ≡ Step
   pub same : after.lib ≡ lib
 
--- The run has ended.
+-- The run has ended in this way.
 pub record IsOver (e : End) (first : Rest) (after : SuperFields) : Type 0 where
   pub goes :
       (taken left : ℕ) → Goes (first taken left) [] (Ok (ran (Over e) taken (booted_of after)))
@@ -51,7 +52,7 @@ pub record IsOver (e : End) (first : Rest) (after : SuperFields) : Type 0 where
 pub record HasNoMemory (first : Rest) : Type 0 where
   pub goes : (taken left : ℕ) → Goes (first taken left) [] (Err status.NoMemory)
 
--- what each answer of a turn says of the program that is left
+-- what the result of a turn implies for the program that is left
 abbrev pub TurnSays : AfterTurn → Library → Rest → SuperFields → Type 0
 TurnSays turn.Next lib first after = GoesOn lib first after
 TurnSays (turn.Ended e) lib first after = IsOver e first after

@@ -15,15 +15,15 @@ run_limit = 100000
 
 -- ---- lines
 
--- as in `segments 66`
+-- the line with the count of segments, without its line feed, as `segments 66`
 unfoldable pub segments_line : ℕ → List ℕ
 segments_line count = codes "segments " ++ decimal_text count
 
--- the first line
+-- the line with the count of segments and its line feed: the first line that `make` puts
 abbrev pub head_line : ℕ → List ℕ
 head_line count = as_line (segments_line count)
 
--- as in `x1 130532`
+-- the line with index register 1, in six octal digits and without its line feed, as `x1 130532`
 unfoldable pub sum_line : RegsFields → List ℕ
 sum_line regs = codes "x1 " ++ half_text (slice_index regs.x 1)
 

@@ -5,10 +5,12 @@ use Rattle.std.proofs.Common.{subst}
 use Rattle.m36_program.specs.Program.{May, quiet, Program}
 use Rattle.m36_program.specs.Program.{done, stops, reads, writes, puts, takes, some, wants}
 
+-- The Boolean is false. With this, a proof that a quiet program may write or take input is absurd.
 abbrev IsFalse : Bool → Type 0
 IsFalse true = ⊥
 IsFalse false = Unit {0}
 
+-- a quiet program with a type that may also write files or take input; it has the same steps
 unfoldable pub within : {may : May} {A : Type 0} → Program quiet A → Program may A
 within (done a) = done a
 within (stops status own) = stops status own

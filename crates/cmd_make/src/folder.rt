@@ -17,7 +17,7 @@ use m36_word::NoMemory;
 use m36_world::Outside;
 use std::alloc::Global;
 
-// A folder in memory with these files and no others.
+// A folder in memory with these files and no others. Fails only with `NoMemory`.
 #[tactic(auto, using(crate::proofs::Files::folder_in_turn))]
 fn folder_of(alloc: Global, sets: &[Set]) -> Result<SureFolder, NoMemory>
     ensures { IfOk result (λ folder. file_named folder.files ≡ files_in sets.now) }

@@ -12,7 +12,7 @@ use m36_status::Refusal;
 use m36_word::NoMemory;
 use std::alloc::Global;
 
-// Appends the data and the boot text to the sources and their objects.
+// Appends the data and the boot text to the sources and their objects. Fails only with `NoMemory`.
 fn with_others(alloc: Global, sets: Sets) -> Result<Sets, NoMemory>
     ensures { IfOk result (λ more. more ≡ sets ++ map set_of other_files) }
 {

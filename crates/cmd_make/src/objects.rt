@@ -19,7 +19,7 @@ use m36_status::{Code, Refusal, Set, refuse};
 use m36_text::Name;
 use std::alloc::Global;
 
-// The name of the object of a source.
+// The name of the object of a source: that of the source without its last four characters, `.alm`.
 #[tactic(auto, unfolding(crate::specs::Making::object_name))]
 fn object_name(source: &[u8]) -> Name
     requires { length source.now ≤ name_limit }
@@ -54,7 +54,8 @@ fn content_of(alloc: Global, source: &[u8]) -> Result<Text, AlmFault>
     }
 }
 
-// The object of a source of at most 16 MiB.
+// The file of the object of a source, or the refusal of the source. `name` is that of the source,
+// which has at most 16 MiB.
 #[tactic(auto, using(crate::proofs::ObjectLaws::giving))]
 fn object_of_bytes(alloc: Global, name: &[u8], source: &[u8]) -> Result<Set, Refusal>
     requires name { length name.now ≤ name_limit }

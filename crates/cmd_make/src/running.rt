@@ -15,7 +15,7 @@ use m36_step::{Stepper, Turn};
 use m36_super::{NextEvent, Super};
 use m36_word::NoMemory;
 
-/// How a run ended, and after how many steps.
+/// How a run ended, and after how many steps; the last step is counted.
 #[derive(Clone, Copy)]
 pub struct RunEnd {
     pub how: Finish,

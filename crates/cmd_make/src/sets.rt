@@ -52,7 +52,7 @@ impl Sets {
     }
 }
 
-// Copies a file of the generator.
+// Copies a file of the generator. Fails only with `NoMemory`.
 fn copied(alloc: Global, file: &File) -> Result<Set, NoMemory>
     ensures { IfOk result (λ set. set ≡ set_of file.now) }
 {
@@ -62,7 +62,7 @@ fn copied(alloc: Global, file: &File) -> Result<Set, NoMemory>
     })
 }
 
-/// Appends copies of the generator's files to the files.
+/// Appends copies of the generator's files to `sets`, in order. Fails only with `NoMemory`.
 #[tactic(auto, using(crate::proofs::Files::files_in_turn))]
 pub fn with_copies(alloc: Global, mut sets: Sets, files: &[File]) -> Result<Sets, NoMemory>
     ensures { IfOk result (λ more. more ≡ sets ++ map set_of files.now) }

@@ -18,20 +18,24 @@ process_line process condition place =
 unfoldable pub between_line : ℕ → ℕ → List ℕ
 between_line condition place = codes "audit no J" ++ place_text condition core_word_digits place
 
--- by the process of a finding, if it is of one
+-- the line of a finding: with the number of its process, or between processes if it has none
 abbrev pub line_by : Option ℕ → ℕ → ℕ → List ℕ
 line_by (Some process) condition place = process_line process condition place
 line_by None condition place = between_line condition place
 
+-- the line of a finding of a joint audit, without its line feed
 abbrev pub found_line : JointFound → List ℕ
 found_line f = line_by f.process f.condition f.place
 
+-- a line for each finding, in the order of the findings
 unfoldable pub found_pieces : List JointFound → List (List ℕ)
 found_pieces [] = []
 found_pieces (f ∷ findings) = as_line (found_line f) ∷ found_pieces findings
 
+-- the lines of a joint audit with these findings
 abbrev pub joint_pieces : List JointFound → List (List ℕ)
 joint_pieces findings = yes_or found_pieces findings
 
+-- the text of a joint audit: its lines, one after another
 abbrev pub joint_text : List JointFound → List ℕ
 joint_text findings = joined (joint_pieces findings)

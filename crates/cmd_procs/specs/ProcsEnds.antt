@@ -18,12 +18,13 @@ use Rattle.cmd_procs.specs.ProcsProgram.{AreScheduleFindings, on_procs}
 
 -- ---- by the findings
 
--- The pieces: those of the audit and, if the schedule is run, those of the whole schedule.
+-- The pieces: those of the audit and, if the schedule is run, those of the whole schedule. The
+-- Boolean is whether it is run.
 abbrev pub procs_pieces : Bool → ProcsFields → List JointFound → List (List ℕ)
 procs_pieces true p findings = joint_pieces findings ++ schedule_pieces p.schedule p.state
 procs_pieces false p findings = joint_pieces findings
 
--- the status by whether the schedule is run
+-- the status: Done if the schedule is run, otherwise AuditNo
 abbrev pub procs_status : Bool → Status
 procs_status true = Done
 procs_status false = audit_status false
@@ -35,7 +36,8 @@ EndsByFound unaudited p findings events result =
     EndsWith (procs_pieces (is_run findings unaudited) p findings)
     (procs_status (is_run findings unaudited)) events result
 
--- The same with some findings, at least one.
+-- The joint audit has at least one finding. The call put what the findings require, and has their
+-- status.
 pub record EndsBySomeFound (unaudited : Bool) (p : ProcsFields) (events : List Event)
     (result : Result (Unit {0}) Status) : Type 0 where
   pub first : JointFound

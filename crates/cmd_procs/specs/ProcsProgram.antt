@@ -17,7 +17,7 @@ use Rattle.cmd_procs.specs.Scheduled.{code_of, dbrs_of, SchedulesAreIsolated}
 
 -- ---- reading
 
--- the processes of a text, or its refusal: P1 or P2
+-- yields the processes that were decoded, or refuses the file of this name (P1 or P2)
 abbrev pub decoded :
     {may : May} → List ℕ → Result ProcsFields (ℕ × ProcsCode) → Program may ProcsFields
 decoded name (Ok p) = done p
@@ -50,18 +50,19 @@ run_all p = puts_all (schedule_pieces p.schedule p.state) (ends Done tt)
 unfoldable pub audit_and_run : ProcsFields → List JointFound → Program quiet (Unit {0})
 audit_and_run p findings = puts_all (joint_pieces findings) (run_all p)
 
--- by whether the schedule is run
+-- puts the audit's text, and runs the schedule if the Boolean is true; otherwise ends with AuditNo
 abbrev pub run_by : Bool → ProcsFields → List JointFound → Program quiet (Unit {0})
 run_by true p findings = audit_and_run p findings
 run_by false p findings = audit_only findings
 
--- what is done with these findings of the joint audit
+-- what the command does after a joint audit with these findings; the Boolean is `--unaudited`
 abbrev pub by_found : Bool → ProcsFields → List JointFound → Program quiet (Unit {0})
 by_found unaudited p findings = run_by (is_run findings unaudited) p findings
 
 -- ---- the command
 
--- Audits processes and continues. Memory may run out before anything is put, and not after that.
+-- Audits processes, and performs the command for the findings. Memory may run out before anything
+-- is put, and not after that. The Boolean is `--unaudited`.
 unfoldable pub on_procs : Bool → ProcsFields → Program quiet (Unit {0})
 on_procs unaudited p = wants (some (AreScheduleFindings p.state) (by_found unaudited p))
 

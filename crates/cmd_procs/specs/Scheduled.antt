@@ -13,7 +13,7 @@ use Rattle.m36_status.specs.declared.status.Code.TheVariants as code
 
 -- ---- reading
 
--- P1 and P2
+-- the code of a refused file (P1 or P2), as a code of the status BadFile
 abbrev pub code_of : ProcsCode → Code
 code_of procs.P1 = code.P1
 code_of procs.P2 = code.P2

@@ -48,7 +48,7 @@ fn refuse_run<W: World>(findings: &[JointFinding], world: &mut W) -> Result<(), 
     }
 }
 
-// The schedule is run if the audit found nothing, or with `--unaudited`.
+// Whether the schedule is run: if the audit found nothing, or `--unaudited` is given.
 #[tactic(auto, using(crate::proofs::ProcsSteps::passing))]
 fn is_run(findings: &[JointFinding], unaudited: bool) -> bool
     ensures { result ≡ is_run (all_found findings.now) unaudited }
@@ -56,7 +56,8 @@ fn is_run(findings: &[JointFinding], unaudited: bool) -> bool
     findings.is_empty() || unaudited
 }
 
-/// Performs the command, given the findings of the joint audit.
+// Performs the command, given the findings of the joint audit: runs the schedule if that is
+// allowed, and otherwise ends with AuditNo.
 fn answer_found<W: World>(
     findings: &[JointFinding],
     procs: &mut Procs,
@@ -73,14 +74,14 @@ fn answer_found<W: World>(
     }
 }
 
-// The descriptor segment base register.
+// The descriptor segment base register of a process.
 fn dbr_of(regs: &Regs) -> Dbr
     ensures { result ≡ regs.now.dbr }
 {
     regs.dbr
 }
 
-/// The descriptor segment base register of each process.
+// The descriptor segment base register of each process, in order. Fails only with `NoMemory`.
 fn dbrs_of(alloc: Global, procs: &Procs) -> Result<Vec<Dbr>, NoMemory>
     ensures value { IfOk result (λ dbrs. dbrs.items ≡ dbrs_of procs.now.state) }
     ensures some { IfOk result (λ dbrs. 1 ≤ length dbrs.items) }
@@ -94,7 +95,8 @@ fn dbrs_of(alloc: Global, procs: &Procs) -> Result<Vec<Dbr>, NoMemory>
     Ok(dbrs)
 }
 
-/// Audits processes jointly. If there are no findings, every schedule is isolated.
+// Audits processes jointly. If there are no findings, every schedule of them is isolated. Fails
+// only with `NoMemory`.
 fn audited(alloc: Global, procs: &Procs) -> Result<Joint, NoMemory>
     ensures found { IfOk result (λ j. AreJointFindings procs.now.state.store
         (dbrs_of procs.now.state) (all_found j.findings.items)) }

@@ -20,7 +20,8 @@ pub fn read_words(env: &impl Env, alloc: Global) -> Result<Vec<Text>, NoMemory> 
     Ok(words)
 }
 
-/// Reads the word with this number. None: there is no such word, or no buffer could hold it.
+/// Reads the word with this number; 0 is the program's name. None if there is no such word, or no
+/// buffer could hold it. The buffer is doubled until the word fits.
 fn read_word(env: &impl Env, alloc: Global, number: usize) -> Result<Option<Text>, NoMemory> {
     let mut buffer = vec![in alloc; 0u8; FIRST_LENGTH]?;
     for _turn in 0..usize::BITS {

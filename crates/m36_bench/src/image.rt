@@ -25,10 +25,11 @@ const DBR: Dbr = Dbr {
     unpaged: true,
 };
 
-/// The descriptor of segment 1, unpaged and paged: one page of 1,024 words, which ring 0 may read,
-/// write and execute.
+/// The two words of the descriptor of segment 1, unpaged, each with its place in core. The segment
+/// has 1,024 words, which ring 0 may read, write and execute.
 const UNPAGED: [(u32, u64); 2] = [(2, 0o000020000004), (3, 0o000777300000)];
 
+/// The two words of the descriptor of segment 1 if it is paged, each with its place in core.
 const PAGED: [(u32, u64); 2] = [(2, 0o000001000004), (3, 0o000777100000)];
 
 /// The page table, of one page; and of that page the simple loop, the word that it loads, and the
@@ -77,7 +78,9 @@ const MIXED: [(u32, u64); 23] = [
 /// The loop that is run.
 #[derive(Clone, Copy)]
 pub enum Loop {
+    /// The loop of six instructions.
     Simple,
+    /// The loop of fourteen instructions.
     Mixed,
 }
 
@@ -91,7 +94,7 @@ fn begin(chosen: Loop) -> u32
     }
 }
 
-/// The place in core of the word that a loop increments.
+/// The core address of the word that a loop increments once in each pass.
 fn counted_place(chosen: Loop) -> u32 {
     match chosen {
         Loop::Simple => 0o2103,
@@ -99,6 +102,7 @@ fn counted_place(chosen: Loop) -> u32 {
     }
 }
 
+/// Stores words into core, each at its place; a place out of core is skipped.
 fn put(core: &mut Core, words: &[(u32, u64)]) {
     for (place, word) in words {
         if *place < core.len() {
@@ -107,6 +111,7 @@ fn put(core: &mut Core, words: &[(u32, u64)]) {
     }
 }
 
+/// Core with the descriptor, the page table and both loops. Fails only with `NoMemory`.
 fn core(alloc: Global, paged: bool) -> Result<Core, NoMemory> {
     let mut core = Core::new(alloc, 2)?;
     put(&mut core, if paged { &PAGED } else { &UNPAGED });
@@ -144,7 +149,8 @@ fn regs(dbr: Dbr, ic: u32) -> Regs
     }
 }
 
-/// The machine before its first step.
+/// The machine before the first step of a loop, in a paged or an unpaged segment. Fails only with
+/// `NoMemory`.
 pub fn machine(alloc: Global, paged: bool, chosen: Loop) -> Result<Machine, NoMemory> {
     Ok(Machine::start(core(alloc, paged)?, regs(DBR, begin(chosen))))
 }

@@ -4,7 +4,7 @@ use m36_model::{Regs, Shown};
 use m36_outside::{Block, SureSink};
 use m36_trace::{TraceText, add_shown};
 
-/// A block with more bytes may have no room for one more line.
+/// A block with more bytes than this may have no room for one more line, so it is emptied first.
 const ALMOST_FULL: usize = 32_000;
 
 /// Trace lines, and the number of their bytes.
@@ -25,7 +25,7 @@ impl TraceLines {
         }
     }
 
-    /// Makes the line of a step.
+    /// Makes the line of the step with this number. `after` has the registers after the step.
     pub fn add(&mut self, number: u64, shown: &Shown, after: &Regs) {
         if self.block.bytes().len() > ALMOST_FULL {
             self.bytes = self.bytes();

@@ -57,6 +57,7 @@ fn with_word(asked: Asked, word: &str) -> Asked {
     }
 }
 
+/// Reads what the words after the program's name ask for.
 fn read_words(rt: &(impl Env + AllocGlobal)) -> io::Result<Asked> {
     let mut asked = Asked {
         steps: None,
@@ -69,7 +70,7 @@ fn read_words(rt: &(impl Env + AllocGlobal)) -> io::Result<Asked> {
     Ok(asked)
 }
 
-/// What is made of each step: a record, its trace line, or nothing.
+/// What is made of each step: a record, its trace line, or nothing (quiet steps).
 #[derive(Clone, Copy)]
 enum Output {
     Record,
@@ -87,7 +88,8 @@ struct Run {
     made: Output,
 }
 
-/// The result of a run.
+/// The result of a run: the steps that were taken and the bytes of their lines, how often the loop
+/// has run, and the time.
 #[derive(Clone, Copy)]
 struct RunResult {
     taken: StepCount,
@@ -95,6 +97,7 @@ struct RunResult {
     nanoseconds: u128,
 }
 
+/// Takes the steps of a run, 1,000 if no number is asked for, in the way that it asks for.
 fn take_steps(machine: &mut Machine, run: Run) -> StepCount {
     let steps = run.asked.unwrap_or(1000);
     match run.made {
@@ -144,7 +147,7 @@ fn print_lines(rt: &(impl Print + AllocGlobal), run: Run, went: RunResult) -> io
     }
 }
 
-/// The steps per second.
+/// The steps per second, rounded down. A time of 0 counts as one nanosecond.
 fn rate(steps: u64, nanoseconds: u128) -> u64 {
     let whole = steps as u128 * 1_000_000_000 / nanoseconds.max(1);
     u64::try_from(whole).unwrap_or(u64::MAX)
@@ -180,7 +183,8 @@ fn report<R: Print + Clock + AllocGlobal>(rt: &R, run: Run) -> io::Result<()> {
     }
 }
 
-/// Takes steps of a loop in both kinds of segments, with and without trace lines.
+/// Takes steps of a loop in both kinds of segments, with and without trace lines, and prints a line
+/// for each run.
 fn recorded_reports<R: Print + Clock + AllocGlobal>(
     rt: &R,
     asked: Option<u64>,
@@ -203,7 +207,7 @@ fn recorded_reports<R: Print + Clock + AllocGlobal>(
     Ok(())
 }
 
-/// Takes quiet steps of a loop in both kinds of segments.
+/// Takes quiet steps of a loop in both kinds of segments, and prints a line for each run.
 fn quiet_reports<R: Print + Clock + AllocGlobal>(
     rt: &R,
     asked: Option<u64>,
@@ -221,7 +225,7 @@ fn quiet_reports<R: Print + Clock + AllocGlobal>(
     Ok(())
 }
 
-/// Takes the steps of a loop that are asked for.
+/// Takes the steps of a loop in each way that is asked for, and prints a line for each run.
 fn reports<R: Print + Clock + AllocGlobal>(rt: &R, asked: Asked, chosen: Loop) -> io::Result<()> {
     if !asked.quiet {
         recorded_reports(rt, asked.steps, chosen)?;
@@ -232,6 +236,7 @@ fn reports<R: Print + Clock + AllocGlobal>(rt: &R, asked: Asked, chosen: Loop) -
     Ok(())
 }
 
+// Runs the simple loop, the mixed loop, or both, as the words ask.
 fn main(rt: HostRuntime) -> io::Result<()> {
     let asked = read_words(&rt)?;
     if !asked.mixed {

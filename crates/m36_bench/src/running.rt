@@ -4,7 +4,8 @@ use crate::lines::TraceLines;
 use m36_model::{Outcome, StepRecord};
 use m36_step::Machine;
 
-/// The number of steps that were taken, and of the bytes of their lines.
+/// The number of steps after which the run went on, and of the bytes of the trace lines. A step
+/// that ends the run is not counted.
 #[derive(Clone, Copy)]
 pub struct StepCount {
     pub steps: u64,
@@ -17,6 +18,7 @@ fn step_and_continue(machine: &mut Machine, told: &mut StepRecord) -> bool {
     another_follows(told.outcome)
 }
 
+/// Whether another step may follow one with this outcome.
 fn another_follows(outcome: Outcome) -> bool {
     match outcome {
         Outcome::Next => true,
@@ -24,7 +26,7 @@ fn another_follows(outcome: Outcome) -> bool {
     }
 }
 
-/// Takes `steps` steps, or fewer if one ends the run.
+/// Takes `steps` steps, or fewer if one ends the run, with a record of each and no lines.
 pub fn without_lines(machine: &mut Machine, steps: u64) -> StepCount {
     let mut told = machine.untold();
     for n in 0..steps {

@@ -74,7 +74,7 @@ Examples:
   m36 trace --steps 50 --user=Smith.Demo.a
 ";
 
-// The options.
+// Adds the options `--steps`, `--unaudited` and `--user` to the description.
 fn with_options(alloc: Global, program: Command<'static>) -> Result<Command<'static>, AllocError> {
     let steps = Arg::new(alloc, "steps").long("steps").value_name("N").help(
         "bare, run, trace: at most N steps, up to 10000000 [default: 100000]",
@@ -90,7 +90,7 @@ fn with_options(alloc: Global, program: Command<'static>) -> Result<Command<'sta
     program.arg(steps)?.arg(unaudited)?.arg(user)
 }
 
-// The description of the command line.
+// The description of the command line, from which `clap` renders the help.
 fn described(alloc: Global) -> Result<Command<'static>, AllocError> {
     let mut program = Command::new(alloc, "m36")
         .about("Simulate the Honeywell 6180 of Multics, in the current folder")

@@ -29,6 +29,7 @@ pub record IsRefused (status : Status) (events : List Event) (result : Result (U
   pub none_put : pieces_of events ≡ []
   pub refuses : IsEnd result → result ≡ Err status
 
+-- The laws of all commands.
 pub record CommandLaws : Type 0 where
   -- `FILE` is refused, or a file of the folder.
   pub refused :

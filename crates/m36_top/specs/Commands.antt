@@ -32,7 +32,7 @@ use Rattle.m36_top.specs.declared.command.Command.TheVariants.{Bare, Audit, Boot
 use Rattle.m36_top.specs.declared.command.Command.TheVariants.{Access, Print, Alm, Bind}
 use Rattle.m36_top.specs.declared.command.Command.TheVariants.{DebugFolder, DebugImage, Make}
 
--- Only `alm`, `bind` and `make` write files. Only sessions take input.
+-- what a command may do: only `alm`, `bind` and `make` write files, and only sessions take input
 abbrev pub may_of : Command → May
 may_of (Bare file run) = quiet
 may_of (Audit file) = quiet
@@ -92,7 +92,7 @@ Needs (Make seed) left sets = MadeNeeds sets
 
 -- ---- what `audit yes` promises
 
--- what it promises of the subject; nothing if the command audits nothing
+-- what `audit yes` promises of the subject; nothing if the command audits nothing
 abbrev pub Promised : (command : Command) → Subject command → Type 0
 Promised (Bare file run) state = PassesAudit state
 Promised (Audit file) state = PassesAudit state
@@ -106,12 +106,14 @@ Promised DebugFolder given = ⊤
 Promised (DebugImage file) state = ⊤
 Promised (Make seed) sets = PassesMade sets
 
--- The line `audit yes` of `make` follows the count of segments.
+-- the beginning of the output of `make` up to the line `audit yes`, which follows the line with the
+-- count of segments
 abbrev pub yes_by : Result (List Set) Refusal → List ℕ
 yes_by (Ok sets) = head_of sets ++ yes_line
 yes_by (Err refusal) = yes_line
 
--- the beginning of the output with which that is promised
+-- The beginning of the output, up to the line `audit yes`. Only output that begins so promises
+-- `Promised`.
 abbrev pub yes_of : Command → List ℕ
 yes_of (Bare file run) = yes_line
 yes_of (Audit file) = yes_line

@@ -18,6 +18,7 @@ use Rattle.m36_top.specs.declared.command.Command.TheVariants.{Access, Print, Al
 use Rattle.m36_top.specs.declared.command.Command.TheVariants.{DebugFolder, DebugImage, Make}
 use Rattle.m36_top.specs.Commands.{may_of}
 
+-- what a command does, as a program; each crate of a command defines its own
 abbrev pub program : (command : Command) → Program (may_of command) (Unit {0})
 program (Bare file run) = image_program (image.Bare run) file
 program (Audit file) = image_program image.Audit file
@@ -37,6 +38,8 @@ abbrev pub CommandPerforms : Command → Status → Seen → Seen → Type 0
 CommandPerforms command result old new =
     PerformsOver (program command) (early result) old new
 
+-- The call performs the program of the command that its words ask for. If they ask for none,
+-- nothing is required.
 abbrev pub TopPerforms : Option Command → Status → Seen → Seen → Type 0
 TopPerforms None result old new = ⊤
 TopPerforms (Some command) result old new = CommandPerforms command result old new

@@ -16,6 +16,7 @@ bad_place bad =
     ++ decimal_text bad.at) ++ codes " ")
     ++ decimal_text bad.column
 
+-- what follows the name of a status in its line: the refusal after BadFile, otherwise nothing
 abbrev pub details : Status → List ℕ
 details (BadFile bad) = bad_place bad
 details Done = []

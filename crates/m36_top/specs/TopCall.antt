@@ -46,6 +46,8 @@ YesPasses (Some command) old new =
     SaysYes (yes_of command) old.written new.written
     → Audited (reader_of command) (Promised command) old new
 
+-- What the top call promises, in six parts. `command` is what the words ask for, `result` the
+-- status of the call, `old` and `new` what was recorded before the call and after it.
 pub record TopCall (command : Option Command) (result : Status) (old new : Seen) : Type 0 where
   -- The command does what its program says: what the folder, the input and the output each record
   -- of the call are, in some common order, events by which the program goes to this status.
@@ -72,5 +74,6 @@ pub record NeverFail {F L S : Type 0} (reads writes : F → ℕ) (lines : L → 
   pub input_faults : (l : L) → lines l ≡ 0
   pub put_faults : (s : S) → puts s ≡ 0
 
+-- The status is neither ReadFault nor WriteFault.
 abbrev pub IsNoFault : Status → Type 0
 IsNoFault result = (result ≢ ReadFault) × (result ≢ WriteFault)

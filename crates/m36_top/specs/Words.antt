@@ -44,23 +44,25 @@ use Rattle.m36_top.specs.declared.command.Command.TheVariants.{Bare, Audit, Boot
 use Rattle.m36_top.specs.declared.command.Command.TheVariants.{Access, Print, Alm, Bind}
 use Rattle.m36_top.specs.declared.command.Command.TheVariants.{DebugFolder, DebugImage, Make}
 
--- An operand is a file, or for `access` a user. Some texts are both, and a seed has the form of a
--- file.
+-- the operand that a word can be: the name of a file, a user, or both; None if it is neither. A
+-- seed has the form of a name of a file.
 abbrev pub operand_by : Option (List ℕ) → Option (List ℕ) → Option Operand
 operand_by file user =
     if is_none file && is_none user then None else Some (record { file = file; user = user })
 
+-- a word as an operand; None if it is neither the name of a file nor a user
 abbrev pub operand_of : List ℕ → Option Operand
 operand_of word = operand_by (name_of word) (user_of word)
 
--- the greatest value of `--steps`, and the limit of steps without it
+-- the greatest value of `--steps`
 abbrev pub steps_limit : ℕ
 steps_limit = 10000000
 
+-- the limit of steps without `--steps`
 abbrev pub default_steps : ℕ
 default_steps = 100000
 
--- N: one to eight digits
+-- the value of `--steps`: one to eight decimal digits, at most `steps_limit`; None for others
 abbrev pub steps_of : List ℕ → Option ℕ
 steps_of text = short_decimal_in 8 0 steps_limit text
 
@@ -69,8 +71,9 @@ abbrev pub given_once : {A : Type 0} → Option A → Option A → Option A
 given_once None new = new
 given_once (Some old) new = None
 
--- Each of these adds one more word to the operand and options so far. None means that with this
--- word the list is no command.
+-- `with_operand`, `with_steps`, `with_user` and `with_unaudited` add an operand or an option to
+-- what was read so far. None means that it was given before, or that the word does not have its
+-- form; then the list of words is no command.
 abbrev pub with_operand : Given → List ℕ → Option Given
 with_operand g word =
     option_map (λ o. record g { operand = Some o }) (given_once g.operand (operand_of word))
@@ -86,13 +89,15 @@ with_user g text =
 abbrev pub with_unaudited : Given → Option Given
 with_unaudited g = if g.unaudited then None else Some (record g { unaudited = true })
 
+-- the operand and options so far, with what the next word is read as
 abbrev pub expecting : Given → Expects → Given
 expecting g e = record g { expects = e }
 
--- the beginning of a word with an option and its value
+-- the beginning of a word with the option `--steps` and its value
 abbrev pub steps_before : List ℕ
 steps_before = codes "--steps="
 
+-- the beginning of a word with the option `--user` and its value
 abbrev pub user_before : List ℕ
 user_before = codes "--user="
 
@@ -100,15 +105,15 @@ user_before = codes "--user="
 abbrev pub begins_with : List ℕ → List ℕ → Bool
 begins_with text word = nat_le (length text) (length word) && is_text text (take (length text) word)
 
--- `--steps=` and a value
+-- Is a word `--steps=` and a value?
 abbrev pub is_steps_with_value : List ℕ → Bool
 is_steps_with_value word = begins_with steps_before word
 
--- `--user=` and a value
+-- Is a word `--user=` and a value?
 abbrev pub is_user_with_value : List ℕ → Bool
 is_user_with_value word = begins_with user_before word
 
--- one word where an option or the operand may follow
+-- adds one word where an option or the operand may follow
 abbrev pub with_any : Given → List ℕ → Option Given
 with_any g word =
     if is_text (codes "--") word then Some (expecting g expects.Operand)
@@ -119,26 +124,30 @@ with_any g word =
     else if is_user_with_value word then with_user g (drop (length user_before) word)
     else with_operand g word
 
+-- adds one word, which is read as what is expected
 abbrev pub word_by : Expects → Given → List ℕ → Option Given
 word_by expects.Any g word = with_any g word
 word_by expects.Steps g word = with_steps (expecting g expects.Any) word
 word_by expects.User g word = with_user (expecting g expects.Any) word
 word_by expects.Operand g word = with_operand g word
 
+-- adds one word to the operand and options so far; None if with this word the list is no command
 unfoldable pub with_word : Given → List ℕ → Option Given
 with_word g word = word_by g.expects g word
 
--- At the end no value may be missing.
+-- the operand and options at the end of the words; None if the value of an option is missing
 abbrev pub ended_by : Expects → Given → Option Given
 ended_by expects.Any g = Some g
 ended_by expects.Steps g = None
 ended_by expects.User g = None
 ended_by expects.Operand g = Some g
 
+-- the operand and options after all these words; None if the list is no command
 unfoldable pub with_words : Given → List (List ℕ) → Option Given
 with_words g [] = ended_by g.expects g
 with_words g (word ∷ words) = option_and_then (λ h. with_words h words) (with_word g word)
 
+-- before the first word: no operand and no option
 abbrev pub nothing : Given
 nothing =
     record {
@@ -149,18 +158,24 @@ nothing =
       unaudited = false;
     }
 
+-- the operand as the name of a file; None if there is no operand or it is no such name
 abbrev pub file_given : Given → Option (List ℕ)
 file_given g = option_and_then (λ (o : Operand). o.file) g.operand
 
+-- the operand as a user; None if there is no operand or it is no user
 abbrev pub user_given : Given → Option (List ℕ)
 user_given g = option_and_then (λ (o : Operand). o.user) g.operand
 
+-- the limit of steps: the value of `--steps`, or the default
 abbrev pub steps_given : Given → ℕ
 steps_given g = unwrap_or g.steps default_steps
 
--- The commands by their words, each with what it makes of its operands and options. All options go
--- with `run` and `trace`, all but `--user` with `bare`, `--user` with `audit` of the folder,
--- `--unaudited` with `procs`, and none with the others.
+-- Each command word has a definition of its name: the command that it makes of its operand and
+-- options, or None if it does not take them. All options go with `run` and `trace`, all but
+-- `--user` with `bare`, `--user` with `audit` of the folder, `--unaudited` with `procs`, and none
+-- with the others.
+
+-- `bare FILE`
 abbrev pub bare : Given → Option Command
 bare g =
     if is_none g.user
@@ -168,38 +183,47 @@ bare g =
     (λ file. Bare file (record { steps = steps_given g; unaudited = g.unaudited }))
     (file_given g) else None
 
+-- Is neither `--steps` nor `--unaudited` given?
 abbrev pub runs_nothing : Given → Bool
 runs_nothing g = is_none g.steps && not g.unaudited
 
+-- Is no option given?
 abbrev pub has_no_option : Given → Bool
 has_no_option g = runs_nothing g && is_none g.user
 
--- `audit` of a file, or of the folder
+-- `audit` of a file, which takes no user, or of the folder; by its operand and user
 abbrev pub audit_of : Option Operand → Option (List ℕ) → Option Command
 audit_of None user = Some (Booted folder.Audit user)
 audit_of (Some o) None = option_map Audit o.file
 audit_of (Some o) (Some user) = None
 
+-- `audit` and `audit FILE`
 abbrev pub audit : Given → Option Command
 audit g = if runs_nothing g then audit_of g.operand g.user else None
 
+-- the limit of steps, and whether the audit may fail, of `run` and `trace`
 abbrev pub folder_run : Given → FolderRun
 folder_run g = record { steps = steps_given g; unaudited = g.unaudited }
 
+-- `run`
 abbrev pub run : Given → Option Command
 run g = if is_none g.operand then Some (Booted (folder.Run (folder_run g)) g.user) else None
 
+-- `trace`
 abbrev pub trace : Given → Option Command
 trace g = if is_none g.operand then Some (Booted (folder.Trace (folder_run g)) g.user) else None
 
+-- `procs FILE`
 abbrev pub procs : Given → Option Command
 procs g =
     if is_none g.steps && is_none g.user
     then option_map (λ file. Procs file g.unaudited) (file_given g) else None
 
+-- `access USER`
 abbrev pub access : Given → Option Command
 access g = if has_no_option g then option_map Access (user_given g) else None
 
+-- `print NAME`
 abbrev pub print : Given → Option Command
 print g = if has_no_option g then option_map (λ name. Print name) (file_given g) else None
 
@@ -212,33 +236,40 @@ made_name_limit = name_limit - length bindfile_suffix
 abbrev pub may_be_longer : List ℕ → Bool
 may_be_longer name = nat_le (length name) made_name_limit
 
+-- the command `alm` for an object of this name; None if the name is too long for a suffix
 abbrev pub alm_of : List ℕ → Option Command
 alm_of name =
     if may_be_longer name
     then Some (Alm (record { source = source_of_object name; object = name })) else None
 
+-- `alm NAME`
 abbrev pub alm : Given → Option Command
 alm g = if has_no_option g then option_and_then alm_of (file_given g) else None
 
+-- the command `bind` for an object of this name; None if the name is too long for `.bind`
 abbrev pub bind_of : List ℕ → Option Command
 bind_of name =
     if may_be_longer name
     then Some (Bind (record { bindfile = bindfile_of_object name; object = name })) else None
 
+-- `bind NAME`
 abbrev pub bind : Given → Option Command
 bind g = if has_no_option g then option_and_then bind_of (file_given g) else None
 
--- `debug` of a file, or of the folder
+-- `debug` of a file, or of the folder, by its operand
 abbrev pub debug_of : Option Operand → Option Command
 debug_of None = Some DebugFolder
 debug_of (Some o) = option_map DebugImage o.file
 
+-- `debug` and `debug FILE`
 abbrev pub debug : Given → Option Command
 debug g = if has_no_option g then debug_of g.operand else None
 
+-- a seed: one to 18 decimal digits; None for other texts
 abbrev pub seed_of : List ℕ → Option ℕ
 seed_of text = short_decimal_in 18 0 999999999999999999 text
 
+-- `make SEED`
 abbrev pub make : Given → Option Command
 make g =
     if has_no_option g then option_map Make (option_and_then seed_of (file_given g)) else None
@@ -247,6 +278,7 @@ make g =
 abbrev pub Entry : Type 0
 Entry = List ℕ × (Given → Option Command)
 
+-- the command words, each once
 abbrev pub commands : List Entry
 commands =
     (codes "bare", bare) ∷ (codes "audit", audit) ∷ (codes "run", run) ∷ (codes "trace", trace)

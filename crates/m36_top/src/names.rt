@@ -17,6 +17,7 @@ pub struct Operand {
     pub user: Option<User>,
 }
 
+// An operand that is the name of a file, a user, or both; None if it is neither.
 fn operand_by(file: Option<Name>, user: Option<User>) -> Option<Operand>
     ensures { result ≡ operand_by file user }
 {
@@ -33,7 +34,7 @@ pub fn operand_of(word: &[u8]) -> Option<Operand>
     operand_by(name_of(word), User::read(word))
 }
 
-/// The name of the source of an object: NAME.alm.
+/// The name of the source of an object: NAME.alm. The name of the object has at most 27 characters.
 pub fn source_of(object: &[u8]) -> Option<Name>
     requires { length object.now ≤ made_name_limit }
     ensures { result ≡ Some (source_of_object object.now) }
@@ -44,7 +45,8 @@ pub fn source_of(object: &[u8]) -> Option<Name>
     Name::new(name.as_slice())
 }
 
-/// The name of the bind file of an object: NAME.bind.
+/// The name of the bind file of an object: NAME.bind. The name of the object has at most 27
+/// characters.
 pub fn bindfile_of(object: &[u8]) -> Option<Name>
     requires { length object.now ≤ made_name_limit }
     ensures { result ≡ Some (bindfile_of_object object.now) }

@@ -24,12 +24,14 @@ const MOST_SEED_DIGITS: usize = 18;
 /// The greatest seed.
 const MOST_SEED: u64 = 999_999_999_999_999_999;
 
+// The operand as the name of a file; None if there is no operand or it is no such name.
 fn file_given(given: Given) -> Option<Name>
     ensures { result ≡ file_given given }
 {
     given.operand?.file
 }
 
+// The operand as a user; None if there is no operand or it is no user.
 fn user_given(given: Given) -> Option<User>
     ensures { result ≡ user_given given }
 {
@@ -50,12 +52,14 @@ fn bare(given: Given) -> Option<Command>
     Some(Command::Bare(file_given(given)?, run))
 }
 
+// Whether neither `--steps` nor `--unaudited` is given.
 fn runs_nothing(given: &Given) -> bool
     ensures { result ≡ runs_nothing given.now }
 {
     given.steps.is_none() && !given.unaudited
 }
 
+// Whether no option is given.
 fn has_no_option(given: &Given) -> bool
     ensures { result ≡ has_no_option given.now }
 {
@@ -88,6 +92,7 @@ fn audit(given: Given) -> Option<Command>
     }
 }
 
+// The limit of steps, and whether the audit may fail, of `run` and `trace`.
 fn folder_run(given: &Given) -> FolderRun
     ensures { result ≡ folder_run given.now }
 {
@@ -155,6 +160,7 @@ fn print(given: Given) -> Option<Command>
     }
 }
 
+// The command `alm` for an object of this name; None if the name is too long for a suffix.
 fn alm_of(object: Name) -> Option<Command>
     ensures { result ≡ alm_of object }
 {
@@ -176,6 +182,7 @@ fn alm(given: Given) -> Option<Command>
     }
 }
 
+// The command `bind` for an object of this name; None if the name is too long for `.bind`.
 fn bind_of(object: Name) -> Option<Command>
     ensures { result ≡ bind_of object }
 {

@@ -21,7 +21,7 @@ use m36_status::Status;
 use m36_world::{Borrowed, World};
 use std::alloc::Global;
 
-/// Performs a command.
+/// Performs a command over any world. An error is the status of the command; Ok is Done.
 pub fn perform<W: World>(alloc: Global, command: &Command, world: &mut W) -> Result<(), Status>
     ensures { Performs (program command.now) result (W.seen world.old) (W.seen world.new) }
 {

@@ -38,6 +38,7 @@ pub struct Given {
     pub user: Option<User>,
     /// The value of `--steps`.
     pub steps: Option<u32>,
+    /// What the next word is read as.
     pub expects: Expects,
     /// Whether `--unaudited` is given.
     pub unaudited: bool,
@@ -53,6 +54,7 @@ pub fn steps_of(text: &[u8]) -> Option<u32>
     Some(steps as u32)
 }
 
+// Before the first word: no operand and no option.
 fn nothing() -> Given
     ensures { result ≡ nothing }
 {
@@ -65,8 +67,10 @@ fn nothing() -> Given
     }
 }
 
-// The `with_` functions add one word. None means that with this word the list is no command.
+// The `with_` functions add an operand or an option to what was read so far. None means that it was
+// given before, or that the word does not have its form; then the words are no command.
 
+// Adds the operand.
 fn with_operand(mut given: Given, word: &[u8]) -> Option<Given>
     ensures { result ≡ with_operand given word.now }
 {
@@ -79,6 +83,7 @@ fn with_operand(mut given: Given, word: &[u8]) -> Option<Given>
     }
 }
 
+// Adds `--steps` with the value `text`.
 fn with_steps(mut given: Given, text: &[u8]) -> Option<Given>
     ensures { result ≡ with_steps given text.now }
 {
@@ -91,6 +96,7 @@ fn with_steps(mut given: Given, text: &[u8]) -> Option<Given>
     }
 }
 
+// Adds `--user` with the value `text`.
 fn with_user(mut given: Given, text: &[u8]) -> Option<Given>
     ensures { result ≡ with_user given text.now }
 {
@@ -103,6 +109,7 @@ fn with_user(mut given: Given, text: &[u8]) -> Option<Given>
     }
 }
 
+// Adds `--unaudited`.
 fn with_unaudited(mut given: Given) -> Option<Given>
     ensures { result ≡ with_unaudited given }
 {
@@ -113,6 +120,7 @@ fn with_unaudited(mut given: Given) -> Option<Given>
     Some(given)
 }
 
+// The operand and options so far, with what the next word is read as.
 fn expecting(mut given: Given, expects: Expects) -> Given
     ensures { result ≡ expecting given expects }
 {
@@ -120,6 +128,7 @@ fn expecting(mut given: Given, expects: Expects) -> Given
     given
 }
 
+// Whether a word is `--steps=` and a value.
 fn is_steps_with_value(word: &[u8]) -> bool
     ensures value { result ≡ is_steps_with_value word.now }
     ensures long { result ≡ true → length steps_before ≤ length word.now }
@@ -136,6 +145,7 @@ fn value_of_steps(word: &[u8]) -> &[u8]
     &word[8..]
 }
 
+// Whether a word is `--user=` and a value.
 fn is_user_with_value(word: &[u8]) -> bool
     ensures value { result ≡ is_user_with_value word.now }
     ensures long { result ≡ true → length user_before ≤ length word.now }
@@ -152,7 +162,7 @@ fn value_of_user(word: &[u8]) -> &[u8]
     &word[7..]
 }
 
-// An option by its word, or an operand.
+// Adds a word where an option or the operand may follow.
 fn with_any(given: Given, word: &[u8]) -> Option<Given>
     ensures { result ≡ with_any given word.now }
 {
@@ -177,6 +187,7 @@ fn with_any(given: Given, word: &[u8]) -> Option<Given>
     with_operand(given, word)
 }
 
+// Adds a word, which is read as what is expected.
 #[tactic(auto, unfolding(crate::specs::Words::with_word))]
 fn with_word(given: Given, word: &[u8]) -> Option<Given>
     ensures { result ≡ with_word given word.now }
@@ -189,6 +200,7 @@ fn with_word(given: Given, word: &[u8]) -> Option<Given>
     }
 }
 
+// The operand and options at the end of the words; None if the value of an option is missing.
 fn ended(given: Given) -> Option<Given>
     ensures { result ≡ ended_by given.expects given }
 {
@@ -198,7 +210,8 @@ fn ended(given: Given) -> Option<Given>
     }
 }
 
-// The operand and the options of all words after the command word.
+// Reads the operand and the options from all words after the command word; None if they are no
+// command.
 #[tactic(auto, using(crate::proofs::WordLaws::words_in_turn))]
 fn read_given(words: &[Text]) -> Option<Given>
     ensures { result ≡ with_words nothing words.now }
