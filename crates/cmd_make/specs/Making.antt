@@ -81,6 +81,7 @@ files_in sets = with_files sets no_files
 abbrev pub assembly_bytes : Assembly → List ℕ
 assembly_bytes a = object_bytes a.parts
 
--- The result of the code has the packed words of this object, or is the fault of its assembly.
+-- The result of the code: the packed words of the object that the source assembles to, the fault of
+-- a refused source, or NoMemory for any source.
 abbrev pub ObjectSays : Result (List ℕ) AlmFault → Result Assembly AlmFault → Type 0
 ObjectSays result given = MakingSays assembly_bytes result given
