@@ -227,7 +227,7 @@ def body_of(text, name):
     """The body of the definition `NAME g`, with the tests that it names put in their places."""
     match = re.search(rf"^{name} g =((?:.*\n)(?: .*\n)*)", text, re.M)
     body = match[1] if match else ""
-    return re.sub(r"\b(has_no_option|runs_nothing) g\b", lambda m: body_of(text, m[1]), body)
+    return re.sub(r"\b(has_no_option|has_no_run_option) g\b", lambda m: body_of(text, m[1]), body)
 
 
 REFUSALS = {

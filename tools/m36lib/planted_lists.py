@@ -53,7 +53,7 @@ PLANTED = (
     (COMPLETION, "--steps | --user) choices=", "--steps) choices="),
     (WORDS, "--     audit [--user USER]\n", "--     audit\n"),
     (WORDS, "if is_none g.steps && is_none g.user", "if is_none g.steps"),
-    (WORDS, "audit_of (Some o) (Some user) = None\n", ""),
+    (WORDS, "audit_command (Some o) (Some user) = None\n", ""),
     # Defaults and ranges
     (HELP, "[default: 100000]", "[default: 10000]"),
     (HELP, "up to 10000000 ", "up to 1000000 "),

@@ -4,7 +4,7 @@ use Rattle.std.specs.Prelude.{IfOk}
 use Rattle.alm_parse.specs.SourceFields.{Source}
 use Rattle.alm_parse.specs.declared.line.Line36.{Line36}
 use Rattle.alm_parse.specs.declared.fault.AlmFault.{AlmFault}
-use Rattle.alm_parse.specs.Sources.{ParseSays}
+use Rattle.alm_parse.specs.Sources.{IsResultOf}
 use Rattle.obj36_parts.specs.declared.section.Section.TheVariants.{Text}
 use Rattle.obj36_parts.specs.PartsFields.{PartsFields}
 use Rattle.obj36_parts.specs.ObjectSegment.{is_newer_version, version_of, evened, head_words, is_well_formed}
@@ -13,8 +13,8 @@ use Rattle.obj36_parts.proofs.LengthLaws.{length-words_of, least_size}
 use Rattle.alm_lines.specs.Spots.{start, count_in, end_of}
 use Rattle.alm_asm.specs.Words.{words_from}
 use Rattle.alm_lines.specs.Layout.{symbols_from}
-use Rattle.alm_asm.specs.Assembly.{first_link, tables_of, static_section, parts_with, parts_of, refusal_of, last_line, made, assembled_by, assembled}
-use Rattle.alm_asm.specs.Assembles.{evened_count, Assembles}
+use Rattle.alm_asm.specs.Assembly.{first_link, tables_of, static_section, parts_with, parts_of, refusal_of, last_line, parts_if_well_formed, assembled_unless_refused, assembled}
+use Rattle.alm_asm.specs.Assembles.{padded_static_count, Assembles}
 use Rattle.alm_lines.specs.SpotFields.{LocationCounter}
 use Rattle.alm_asm.specs.declared.tables.Tables.{Tables}
 use Rattle.alm_lines.specs.declared.refusal.AlmRefusal.{AlmRefusal}
@@ -42,13 +42,13 @@ bound_in_text text tables lines above line others split small =
     let spot = end_of text start above in
     let whole : (end_of text start lines).text ≡ length (words_from text tables Text [] start lines) = places_count text tables Text lines refl in
     let parted : (end_of text start lines).text ≡ (end_of text spot (line ∷ others)).text = ap (λ (l : List Line36). (end_of text start l).text) split ∙ ap (λ (s : LocationCounter). s.text) (end_follows text start above (line ∷ others)) in
-    let grown : spot.text ≤ (end_of text spot (line ∷ others)).text = grows_to_end Text text tables spot (line ∷ others) refl in
+    let plus_words : spot.text ≤ (end_of text spot (line ∷ others)).text = grows_to_end Text text tables spot (line ∷ others) refl in
     let least : spot.text < 2 ^ 18 = omega arith in
     omega arith
 
 -- the offset of the links in operands is that in the object
 links_at_by : (newer : Bool) (ending : LocationCounter) (statics : List ℕ) → ending.uses_outer ≡ newer
-    → length statics ≡ evened_count newer (count_in (static_section newer) ending)
+    → length statics ≡ padded_static_count newer (count_in (static_section newer) ending)
     → first_link ending ≡ head_words + length (cond (is_newer_version (version_of newer)) [] statics)
 links_at_by true ending statics e n = ap (λ b. cond b head_words (head_words + evened ending.inner)) e
 links_at_by false ending statics e n = ap (λ b. cond b head_words (head_words + evened ending.inner)) e ∙ ap (λ k. head_words + k) (sym n)
@@ -69,7 +69,7 @@ parts_assemble source none formed =
       text = λ above line others split here. stands text tables Text lines above line others refl split here;
       statics = λ above line others split here. evened_stands newer (count_in section (end_of text start above)) _ (words_from text tables section [] start lines) (stands text tables section lines above line others (static_holds newer) split here);
       text_length = sym (places_count text tables Text lines refl);
-      statics_length = evened_length newer (words_from text tables section [] start lines) ∙ ap (λ n. evened_count newer n) (sym (places_count text tables section lines (static_holds newer)));
+      statics_length = evened_length newer (words_from text tables section [] start lines) ∙ ap (λ n. padded_static_count newer n) (sym (places_count text tables section lines (static_holds newer)));
       evening = evened_behind newer (words_from text tables section [] start lines) (count_in section (end_of text start lines)) (sym (places_count text tables section lines (static_holds newer)));
       labels = λ above line others split. labels_mean text lines above line others split free;
       own = λ above line others split. own_mean text lines above line others split free;
@@ -77,7 +77,7 @@ parts_assemble source none formed =
       links_in_order = refl;
       links_apart = links_apart text (symbols_from text [] start lines) start lines;
       links_at = links_at_by newer (end_of text start lines) _ refl
-          (evened_length newer (words_from text tables section [] start lines) ∙ ap (λ n. evened_count newer n) (sym (places_count text tables section lines (static_holds newer))));
+          (evened_length newer (words_from text tables section [] start lines) ∙ ap (λ n. padded_static_count newer n) (sym (places_count text tables section lines (static_holds newer))));
       definitions = refl;
       distinct = well.distinct;
       relocations = refl;
@@ -94,12 +94,12 @@ record IsMade (source : Source) (parts : PartsFields) : Type 0 where
   parts_are : parts_of source ≡ parts
 
 made_by : (source : Source) (parts : PartsFields) (refusal : Option AlmRefusal) (b : Bool) → refusal_of source ≡ refusal → is_well_formed (parts_of source) ≡ b
-    → assembled_by source refusal ≡ Ok parts → made (parts_of source) (last_line 1 source.lines) b ≡ Ok parts → IsMade source parts
+    → assembled_unless_refused source refusal ≡ Ok parts → parts_if_well_formed (parts_of source) (last_line 1 source.lines) b ≡ Ok parts → IsMade source parts
 made_by source parts (Some refusal) b r f e g = absurd cc
 made_by source parts None true r f e g = record { none = r; formed = f; parts_are = cc }
 made_by source parts None false r f e g = absurd cc
 
-shown : (source : Source) (parts : PartsFields) (refusal : Option AlmRefusal) → refusal_of source ≡ refusal → assembled_by source refusal ≡ Ok parts → IsMade source parts
+shown : (source : Source) (parts : PartsFields) (refusal : Option AlmRefusal) → refusal_of source ≡ refusal → assembled_unless_refused source refusal ≡ Ok parts → IsMade source parts
 shown source parts (Some refusal) r e = absurd cc
 shown source parts None r e = made_by source parts None (is_well_formed (parts_of source)) r refl e e
 
@@ -109,6 +109,6 @@ assembles source parts e =
     let is = shown source parts (refusal_of source) refl e in
     subst (Assembles source) is.parts_are (parts_assemble source is.none is.formed)
 
-pub says_assembles : (source : Source) (answer : Result PartsFields AlmFault) → ParseSays answer (assembled source) → IfOk answer (λ parts. Assembles source parts)
+pub says_assembles : (source : Source) (answer : Result PartsFields AlmFault) → IsResultOf answer (assembled source) → IfOk answer (λ parts. Assembles source parts)
 says_assembles source (Ok parts) e = assembles source parts e
 says_assembles source (Err fault) e = tt

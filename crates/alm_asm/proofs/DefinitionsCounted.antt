@@ -11,26 +11,26 @@ use Rattle.alm_parse.specs.declared.args.Arg.TheVariants as arg
 use Rattle.alm_parse.specs.declared.line.Line36.{Line36}
 use Rattle.obj36_parts.specs.Fields.{LinkFields}
 use Rattle.obj36_parts.specs.declared.definition.Named.{Named}
-use Rattle.obj36_parts.specs.Names.{same, names_in, name_length}
+use Rattle.obj36_parts.specs.Names.{same, names_in, name_size}
 use Rattle.obj36_parts.specs.Names.{with_names as uses_of}
 use Rattle.obj36_parts.specs.Indexes.{same_link}
-use Rattle.obj36_parts.specs.ObjectSegment.{definition_names, link_names, all_link_names, are_distinct, definition_head}
-use Rattle.obj36_parts.specs.Sizes.{names_length}
+use Rattle.obj36_parts.specs.ObjectSegment.{definition_names, link_names, all_link_names, are_distinct, definition_head_words}
+use Rattle.obj36_parts.specs.Sizes.{distinct_names_size}
 use Rattle.obj36_parts.proofs.SizeLaws.{same_is, same_self, any_among, definition_names-append, all_link_names-append}
 use Rattle.obj36_parts.proofs.IndexLaws.{names_in_last, looked}
-use Rattle.alm_lines.specs.Sums.{no_sum}
+use Rattle.alm_lines.specs.Sums.{zero_sum}
 use Rattle.alm_lines.specs.Symbols.{sum_named, with_symbol}
 use Rattle.alm_lines.specs.Arguments.{name_at, first_arg}
-use Rattle.alm_lines.specs.Spots.{below}
+use Rattle.alm_lines.specs.Spots.{next_line_spot}
 use Rattle.alm_lines.specs.SpotFields.{LocationCounter}
-use Rattle.alm_lines.specs.Refusals.{sooner}
+use Rattle.alm_lines.specs.Refusals.{earlier_refusal}
 use Rattle.alm_lines.specs.declared.sum.Sum.{Sum}
 use Rattle.alm_lines.specs.declared.refusal.AlmRefusal.{AlmRefusal}
 use Rattle.alm_asm.specs.Links.{operand_args, link_in, links_from}
-use Rattle.alm_asm.specs.Definitions.{named, named_by, gives_entries, definitions_by, definitions_after, definitions_from, is_taken, sum_refusal, taken_refusal, name_refusal, arg_refusal, names_refused, definitions_refused}
+use Rattle.alm_asm.specs.Definitions.{definition_of_name, definition_of_arg, defines_entries, definitions_if_any, definitions_after, definitions_from, is_defined_name, sum_refusal, redefined_refusal, name_refusal, arg_refusal, names_refusal, definitions_refusal}
 use Rattle.alm_asm.specs.Definitions.{with_names as definitions_with}
 use Rattle.alm_asm.specs.LineRefusals.{lines_refusal}
-use Rattle.alm_asm.specs.Growth.{at_first, with_name, with_names, with_definition, with_unrefused, with_arg, with_args, with_definitions, with_new_link, with_link_once, with_link_given, marks_count, with_marks, grown_by}
+use Rattle.alm_asm.specs.Growth.{first_growth, with_name, with_names, with_definition, with_definition_unless_refused, with_arg, with_args, with_definitions, with_new_link, with_link_once, with_link_if_any, line_relocation_count, with_relocations, growth_after_line}
 use Rattle.alm_asm.specs.declared.growth.Growth.{Growth}
 use Rattle.alm_asm.specs.declared.tables.Tables.{Tables}
 use Rattle.alm_asm.proofs.Unrefused.{sooner_none, names_first, line_parts, head_line, other_lines}
@@ -45,14 +45,14 @@ one name = 1
 
 -- A name that is found is in the list, and one that is not is added at the end.
 last_by : (symbols : List (List ℕ × Sum)) (name : List ℕ) (b : Bool) → is_some (sum_named name symbols) ≡ b
-    → names_in (with_symbol symbols name no_sum) ≡ cond b (names_in symbols) (names_in symbols ++ name ∷ [])
+    → names_in (with_symbol symbols name zero_sum) ≡ cond b (names_in symbols) (names_in symbols ++ name ∷ [])
 unfolding with_symbol
-last_by symbols name true e = ap (λ c. names_in (cond c symbols (symbols ++ (name, no_sum) ∷ []))) e
-last_by symbols name false e = ap (λ c. names_in (cond c symbols (symbols ++ (name, no_sum) ∷ []))) e ∙ names_in_last symbols name no_sum
+last_by symbols name true e = ap (λ c. names_in (cond c symbols (symbols ++ (name, zero_sum) ∷ []))) e
+last_by symbols name false e = ap (λ c. names_in (cond c symbols (symbols ++ (name, zero_sum) ∷ []))) e ∙ names_in_last symbols name zero_sum
 
-found_in : (symbols : List (List ℕ × Sum)) (name : List ℕ) → is_some (sum_named name symbols) ≡ true → IsIn name (names_in symbols)
+tables_and_values : (symbols : List (List ℕ × Sum)) (name : List ℕ) → is_some (sum_named name symbols) ≡ true → IsIn name (names_in symbols)
 unfolding sum_named
-found_in symbols name e = sym (looked name symbols) ∙ e
+tables_and_values symbols name e = sym (looked name symbols) ∙ e
 
 in_front : (other : List ℕ) (names more : List (List ℕ)) → IsIn other names → IsIn other (names ++ more)
 in_front other names more h = list_any-append (same other) names more ∙ or_left (list_any (same other) names) (list_any (same other) more) h
@@ -63,23 +63,23 @@ in_back other names more h = list_any-append (same other) names more ∙ or_righ
 at_end : (names : List (List ℕ)) (name : List ℕ) → IsIn name (names ++ name ∷ [])
 at_end names name = in_back name names (name ∷ []) (or_left (same name name) false (same_self name))
 
-still_by : (symbols : List (List ℕ × Sum)) (name : List ℕ) (b : Bool) → is_some (sum_named name symbols) ≡ b → AreIn (names_in symbols) (names_in (with_symbol symbols name no_sum))
+still_by : (symbols : List (List ℕ × Sum)) (name : List ℕ) (b : Bool) → is_some (sum_named name symbols) ≡ b → AreIn (names_in symbols) (names_in (with_symbol symbols name zero_sum))
 still_by symbols name true e other h = ap (λ (names : List (List ℕ)). list_any (same other) names) (last_by symbols name true e) ∙ h
 still_by symbols name false e other h =
     ap (λ (names : List (List ℕ)). list_any (same other) names) (last_by symbols name false e) ∙ in_front other (names_in symbols) (name ∷ []) h
 
-there_by : (symbols : List (List ℕ × Sum)) (name : List ℕ) (b : Bool) → is_some (sum_named name symbols) ≡ b → IsIn name (names_in (with_symbol symbols name no_sum))
-there_by symbols name true e = ap (λ (names : List (List ℕ)). list_any (same name) names) (last_by symbols name true e) ∙ found_in symbols name e
+there_by : (symbols : List (List ℕ × Sum)) (name : List ℕ) (b : Bool) → is_some (sum_named name symbols) ≡ b → IsIn name (names_in (with_symbol symbols name zero_sum))
+there_by symbols name true e = ap (λ (names : List (List ℕ)). list_any (same name) names) (last_by symbols name true e) ∙ tables_and_values symbols name e
 there_by symbols name false e = ap (λ (names : List (List ℕ)). list_any (same name) names) (last_by symbols name false e) ∙ at_end (names_in symbols) name
 
 more_by : (f : List ℕ → ℕ) (symbols : List (List ℕ × Sum)) (name : List ℕ) → is_some (sum_named name symbols) ≡ false
-    → total f (names_in (with_symbol symbols name no_sum)) ≡ total f (names_in symbols) + f name
+    → total f (names_in (with_symbol symbols name zero_sum)) ≡ total f (names_in symbols) + f name
 more_by f symbols name e = ap (λ (names : List (List ℕ)). total f names) (last_by symbols name false e) ∙ total_last f (names_in symbols) name
 
 -- ---- the size of the section
 
 words_of : Growth → ℕ
-words_of g = definition_head + 2 * total one (names_in g.defined) + 2 * length g.links + total name_length (names_in g.names)
+words_of g = definition_head_words + 2 * total one (names_in g.defined) + 2 * length g.links + total name_size (names_in g.names)
 
 -- The number of words goes on as before, and names are not removed.
 record Extends (g h : Growth) : Type 0 where
@@ -105,12 +105,12 @@ record Names (name : List ℕ) (g h : Growth) : Type 0 where
   there : IsIn name (names_in h.names)
 
 name_by : (g : Growth) (name : List ℕ) (b : Bool) → is_some (sum_named name g.names) ≡ b
-    → Names name g (cond b g (record g { names = with_symbol g.names name no_sum; definition = g.definition + name_length name }))
+    → Names name g (cond b g (record g { names = with_symbol g.names name zero_sum; definition = g.definition + name_size name }))
 unfolding words_of
-name_by g name true e = record { extends = stays g; there = found_in g.names name e }
+name_by g name true e = record { extends = stays g; there = tables_and_values g.names name e }
 name_by g name false e = record {
   extends = record {
-    words = λ was. (let more = more_by name_length g.names name e in omega arith);
+    words = λ was. (let more = more_by name_size g.names name e in omega arith);
     defined = λ other h. h;
     names = still_by g.names name false e;
     both = λ within other h. still_by g.names name false e other (within other h);
@@ -169,14 +169,14 @@ kept_by false g h e = e
 name_keeps : (g : Growth) (name : List ℕ) → (with_name g name).defined ≡ g.defined
 unfolding with_name
 name_keeps g name =
-    kept_by (is_some (sum_named name g.names)) g (record g { names = with_symbol g.names name no_sum; definition = g.definition + name_length name }) refl
+    kept_by (is_some (sum_named name g.names)) g (record g { names = with_symbol g.names name zero_sum; definition = g.definition + name_size name }) refl
 
 definition_by : (g : Growth) (name : List ℕ) (b : Bool) → is_some (sum_named name g.defined) ≡ b
-    → Definition name g (cond b g (with_name (record g { defined = with_symbol g.defined name no_sum; definition = g.definition + 2 }) name))
+    → Definition name g (cond b g (with_name (record g { defined = with_symbol g.defined name zero_sum; definition = g.definition + 2 }) name))
 unfolding words_of
-definition_by g name true e = record { extends = stays g; there = found_in g.defined name e }
+definition_by g name true e = record { extends = stays g; there = tables_and_values g.defined name e }
 definition_by g name false e =
-    let defined = record g { defined = with_symbol g.defined name no_sum; definition = g.definition + 2 } in
+    let defined = record g { defined = with_symbol g.defined name zero_sum; definition = g.definition + 2 } in
     let after = with_name defined name in
     let step = name_names defined name in
     let kept = name_keeps defined name in
@@ -223,22 +223,22 @@ hold_definition ds d g h step links at = record {
 hold_nothing : (ds : List Named) (g : Growth) → Holds ds g → Holds (ds ++ []) g
 hold_nothing ds g at = subst (λ (l : List Named). Holds l g) (sym (append-nil ds)) at
 
-sum_none : (line : Line36) (at : ℕ) (is_entry : Bool) (sum : Option Sum) (taken : Bool) → taken_refusal line at is_entry sum taken ≡ None → sum_refusal line at is_entry sum ≡ None
+sum_none : (line : Line36) (at : ℕ) (is_entry : Bool) (sum : Option Sum) (taken : Bool) → redefined_refusal line at is_entry sum taken ≡ None → sum_refusal line at is_entry sum ≡ None
 sum_none line at is_entry sum true e = absurd (true≢false (ap is_some e))
 sum_none line at is_entry sum false e = e
 
 hold_name : (text : List ℕ) (symbols : List (List ℕ × Sum)) (line : Line36) (is_entry : Bool) (ds : List Named) (g : Growth) (span : Span)
     → name_refusal text symbols line is_entry ds span ≡ None → Holds ds g
-    → Holds (ds ++ named text symbols is_entry span ∷ []) (with_arg text symbols line is_entry g (arg.Symbol span))
-unfolding name_refusal named
+    → Holds (ds ++ definition_of_name text symbols is_entry span ∷ []) (with_arg text symbols line is_entry g (arg.Symbol span))
+unfolding name_refusal definition_of_name
 hold_name text symbols line is_entry ds g span e at =
     let name = name_at text span in
-    let free = sum_none line span.from is_entry (sum_named (name_at text span) symbols) (is_taken ds (name_at text span)) e in
-    subst (λ (r : Option AlmRefusal). Holds (ds ++ named text symbols is_entry span ∷ []) (with_unrefused r g (name_at text span))) (sym free)
-    (hold_definition ds (named text symbols is_entry span) g (with_definition g name) (a_definition g name) (definition_follows g name).links at)
+    let free = sum_none line span.from is_entry (sum_named (name_at text span) symbols) (is_defined_name ds (name_at text span)) e in
+    subst (λ (r : Option AlmRefusal). Holds (ds ++ definition_of_name text symbols is_entry span ∷ []) (with_definition_unless_refused r g (name_at text span))) (sym free)
+    (hold_definition ds (definition_of_name text symbols is_entry span) g (with_definition g name) (a_definition g name) (definition_follows g name).links at)
 
 hold_arg : (text : List ℕ) (symbols : List (List ℕ × Sum)) (line : Line36) (is_entry : Bool) (ds : List Named) (g : Growth) (given : Arg)
-    → arg_refusal text symbols line is_entry ds given ≡ None → Holds ds g → Holds (ds ++ named_by text symbols is_entry given) (with_arg text symbols line is_entry g given)
+    → arg_refusal text symbols line is_entry ds given ≡ None → Holds ds g → Holds (ds ++ definition_of_arg text symbols is_entry given) (with_arg text symbols line is_entry g given)
 hold_arg text symbols line is_entry ds g (arg.Symbol span) e at = hold_name text symbols line is_entry ds g span e at
 hold_arg text symbols line is_entry ds g (arg.Number word) e at = hold_nothing ds g at
 hold_arg text symbols line is_entry ds g (arg.Chars words) e at = hold_nothing ds g at
@@ -246,19 +246,19 @@ hold_arg text symbols line is_entry ds g (arg.Plain terms) e at = hold_nothing d
 hold_arg text symbols line is_entry ds g (arg.Operand pr segment entry terms tag) e at = hold_nothing ds g at
 
 hold_args : (text : List ℕ) (symbols : List (List ℕ × Sum)) (line : Line36) (is_entry : Bool) (ds : List Named) (g : Growth) (first : Option AlmRefusal) (arguments : List Arg)
-    → names_refused text symbols line is_entry ds first arguments ≡ None → Holds ds g
+    → names_refusal text symbols line is_entry ds first arguments ≡ None → Holds ds g
     → Holds (definitions_with text symbols is_entry ds arguments) (with_args text symbols line is_entry g arguments)
-unfolding names_refused definitions_with with_args
+unfolding names_refusal definitions_with with_args
 hold_args text symbols line is_entry ds g first [] e at = at
 hold_args text symbols line is_entry ds g first (given ∷ arguments) e at =
-    let more = ds ++ named_by text symbols is_entry given in
+    let more = ds ++ definition_of_arg text symbols is_entry given in
     let refused = arg_refusal text symbols line is_entry ds given in
-    let own = (sooner_none first refused (names_first text symbols line is_entry more (sooner first refused) arguments e)).1 in
-    hold_args text symbols line is_entry more (with_arg text symbols line is_entry g given) (sooner first refused) arguments e (hold_arg text symbols line is_entry ds g given own at)
+    let own = (sooner_none first refused (names_first text symbols line is_entry more (earlier_refusal first refused) arguments e)).1 in
+    hold_args text symbols line is_entry more (with_arg text symbols line is_entry g given) (earlier_refusal first refused) arguments e (hold_arg text symbols line is_entry ds g given own at)
 
 hold_definitions : (text : List ℕ) (symbols : List (List ℕ × Sum)) (line : Line36) (ds : List Named) (g : Growth) (gives : Option Bool)
-    → definitions_refused text symbols line ds None line.args gives ≡ None → Holds ds g
-    → Holds (definitions_by text symbols ds line.args gives) (with_definitions text symbols line g gives)
+    → definitions_refusal text symbols line ds None line.args gives ≡ None → Holds ds g
+    → Holds (definitions_if_any text symbols ds line.args gives) (with_definitions text symbols line g gives)
 hold_definitions text symbols line ds g None e at = at
 hold_definitions text symbols line ds g (Some is_entry) e at = hold_args text symbols line is_entry ds g None line.args e at
 
@@ -283,7 +283,7 @@ once_holds ds g link false at =
           ∙ ap (λ (l : List LinkFields). list_any (same other) (all_link_names l)) (sym links) ∙ e);
     }
 
-link_holds : (ds : List Named) (g : Growth) (given : Option LinkFields) → Holds ds g → Holds ds (with_link_given g given)
+link_holds : (ds : List Named) (g : Growth) (given : Option LinkFields) → Holds ds g → Holds ds (with_link_if_any g given)
 unfolding with_link_once
 link_holds ds g None at = at
 link_holds ds g (Some link) at = once_holds ds g link (list_any (same_link link) g.links) at
@@ -295,16 +295,16 @@ unfolding words_of
 marked_holds ds g symbol at = record { words = at.words; defined = at.defined; both = at.both; linked = at.linked }
 
 line_holds : (text : List ℕ) (symbols : List (List ℕ × Sum)) (spot : LocationCounter) (line : Line36) (ds : List Named) (g : Growth)
-    → definitions_refused text symbols line ds None line.args (gives_entries line.deed) ≡ None → Holds ds g
-    → Holds (definitions_after text symbols ds line) (grown_by text symbols spot g line)
-unfolding definitions_after grown_by with_marks
+    → definitions_refusal text symbols line ds None line.args (defines_entries line.deed) ≡ None → Holds ds g
+    → Holds (definitions_after text symbols ds line) (growth_after_line text symbols spot g line)
+unfolding definitions_after growth_after_line with_relocations
 line_holds text symbols spot line ds g e at =
-    let after = definitions_by text symbols ds line.args (gives_entries line.deed) in
-    let named = with_definitions text symbols line g (gives_entries line.deed) in
+    let after = definitions_if_any text symbols ds line.args (defines_entries line.deed) in
+    let definition_of_name = with_definitions text symbols line g (defines_entries line.deed) in
     let given = link_in text symbols spot (first_arg (operand_args line.deed line.args)) in
-    let linked = with_link_given named given in
-    marked_holds after linked (linked.symbol + marks_count text symbols spot line.args line.deed)
-    (link_holds after named given (hold_definitions text symbols line ds g (gives_entries line.deed) e at))
+    let linked = with_link_if_any definition_of_name given in
+    marked_holds after linked (linked.symbol + line_relocation_count text symbols spot line.args line.deed)
+    (link_holds after definition_of_name given (hold_definitions text symbols line ds g (defines_entries line.deed) e at))
 
 lines_hold : (text : List ℕ) (tables : Tables) (ds : List Named) (g : Growth) (spot : LocationCounter) (lines : List Line36) → lines_refusal text tables ds spot lines ≡ None → Holds ds g
     → Holds (definitions_from text tables.symbols ds lines) (growth_from text tables.symbols g spot lines)
@@ -312,10 +312,10 @@ unfolding definitions_from growth_from
 lines_hold text tables ds g spot [] e at = at
 lines_hold text tables ds g spot (line ∷ lines) e at =
     let own = (line_parts text tables ds spot line (head_line text tables ds spot line lines e)).0 in
-    lines_hold text tables (definitions_after text tables.symbols ds line) (grown_by text tables.symbols spot g line) (below text spot line) lines
+    lines_hold text tables (definitions_after text tables.symbols ds line) (growth_after_line text tables.symbols spot g line) (next_line_spot text spot line) lines
     (other_lines text tables ds spot line lines e) (line_holds text tables.symbols spot line ds g own at)
 
-first_holds : Holds [] at_first
+first_holds : Holds [] first_growth
 unfolding words_of total definition_names all_link_names
 first_holds = record { words = refl; defined = none_in []; both = none_in []; linked = none_in [] }
 
@@ -326,18 +326,18 @@ unfolding total definition_names
 total_definitions [] = refl
 total_definitions (d ∷ ds) = omega (arith, total_definitions ds)
 
-names_fit : (uses names : List (List ℕ)) → AreIn uses names → names_length uses ≤ total name_length names
-unfolding names_length
+names_fit : (uses names : List (List ℕ)) → AreIn uses names → distinct_names_size uses ≤ total name_size names
+unfolding distinct_names_size
 names_fit uses names within =
     let once = uses_of [] uses in
     let words = total_words once in
-    let fits = total_within name_length once names (uses_distinct uses) (λ name h. within name (sym (any_among name [] uses) ∙ h)) in
+    let fits = total_within name_size once names (uses_distinct uses) (λ name h. within name (sym (any_among name [] uses) ∙ h)) in
     omega arith
 
-holds_words : (ds : List Named) (g : Growth) → Holds ds g → are_distinct (definition_names ds) ≡ true
-    → 2 + 2 * length ds + 2 * length g.links + names_length (definition_names ds ++ all_link_names g.links) ≤ g.definition
+can_have_words : (ds : List Named) (g : Growth) → Holds ds g → are_distinct (definition_names ds) ≡ true
+    → 2 + 2 * length ds + 2 * length g.links + distinct_names_size (definition_names ds ++ all_link_names g.links) ≤ g.definition
 unfolding words_of
-holds_words ds g at distinct =
+can_have_words ds g at distinct =
     let words = at.words in
     let count = total_definitions ds in
     let defined = total_within one (definition_names ds) (names_in g.defined) distinct at.defined in
@@ -349,11 +349,11 @@ holds_words ds g at distinct =
 pub definitions_counted : (text : List ℕ) (tables : Tables) (spot : LocationCounter) (lines : List Line36) → lines_refusal text tables [] spot lines ≡ None
     → are_distinct (definition_names (definitions_from text tables.symbols [] lines)) ≡ true
     → 2 + 2 * length (definitions_from text tables.symbols [] lines) + 2 * length (links_from text tables.symbols [] spot lines)
-    + names_length (definition_names (definitions_from text tables.symbols [] lines) ++ all_link_names (links_from text tables.symbols [] spot lines))
-    ≤ (growth_from text tables.symbols at_first spot lines).definition
+    + distinct_names_size (definition_names (definitions_from text tables.symbols [] lines) ++ all_link_names (links_from text tables.symbols [] spot lines))
+    ≤ (growth_from text tables.symbols first_growth spot lines).definition
 definitions_counted text tables spot lines none distinct =
     let ds = definitions_from text tables.symbols [] lines in
-    let g = growth_from text tables.symbols at_first spot lines in
-    let counted = holds_words ds g (lines_hold text tables [] at_first spot lines none first_holds) distinct in
-    subst (λ (l : List LinkFields). 2 + 2 * length ds + 2 * length l + names_length (definition_names ds ++ all_link_names l) ≤ g.definition)
-    (links_grown text tables.symbols at_first spot lines) counted
+    let g = growth_from text tables.symbols first_growth spot lines in
+    let counted = can_have_words ds g (lines_hold text tables [] first_growth spot lines none first_holds) distinct in
+    subst (λ (l : List LinkFields). 2 + 2 * length ds + 2 * length l + distinct_names_size (definition_names ds ++ all_link_names l) ≤ g.definition)
+    (links_grown text tables.symbols first_growth spot lines) counted

@@ -4,7 +4,7 @@ use Rattle.std.specs.Map.{lookup}
 use Rattle.alm_tokens.specs.declared.span.Span.{Span}
 use Rattle.alm_lines.specs.Symbols.{same_name, sum_named, with_symbol}
 use Rattle.alm_lines.specs.Arguments.{name_at}
-use Rattle.alm_lines.specs.Layout.{with_labels, with_own}
+use Rattle.alm_lines.specs.Layout.{with_labels, with_defined_symbol}
 use Rattle.alm_lines.specs.declared.sum.Sum.{Sum}
 
 -- the sum of each symbol has the property P
@@ -48,6 +48,6 @@ each_with_labels P text its symbols [] all has = all
 each_with_labels P text its symbols (span ∷ spans) all has =
     each_with_labels P text its (with_symbol symbols (name_at text span) its) spans (each_with P symbols (name_at text span) its all has) has
 
-pub each_with_own : (P : Sum → Type 0) (text : List ℕ) (its : Sum) (symbols : List (List ℕ × Sum)) (own : Option Span) → Each P symbols → P its → Each P (with_own text symbols own its)
+pub each_with_own : (P : Sum → Type 0) (text : List ℕ) (its : Sum) (symbols : List (List ℕ × Sum)) (own : Option Span) → Each P symbols → P its → Each P (with_defined_symbol text symbols own its)
 each_with_own P text its symbols None all has = all
 each_with_own P text its symbols (Some span) all has = each_with P symbols (name_at text span) its all has

@@ -15,12 +15,12 @@ use Rattle.obj36_parts.specs.Indexes.{same_link}
 use Rattle.obj36_parts.specs.Sections.{is_text_section}
 use Rattle.alm_lines.specs.Arguments.{first_arg}
 use Rattle.alm_lines.specs.Spots.{start, end_of}
-use Rattle.alm_lines.specs.Refusals.{sooner, refusal_at}
+use Rattle.alm_lines.specs.Refusals.{earlier_refusal, refusal_at}
 use Rattle.alm_lines.specs.SpotFields.{LocationCounter}
 use Rattle.alm_lines.specs.declared.refusal.AlmCode.TheVariants.{E7}
 use Rattle.alm_lines.specs.declared.refusal.ValueField.TheVariants.{Half}
 use Rattle.alm_asm.specs.Links.{link_of, operand_args, link_in, links_from}
-use Rattle.alm_asm.specs.LineRefusals.{unless, op_place, external_place, may_name, link_expression, reaches, external_refusal, operand_refusal, refusal_of_deed, lines_refusal}
+use Rattle.alm_asm.specs.LineRefusals.{refusal_unless, op_place, external_place, may_name, link_expression, link_is_in_reach, external_refusal, operand_refusal, refusal_of_effect, lines_refusal}
 use Rattle.alm_asm.specs.Assembles.{is_external}
 use Rattle.alm_asm.specs.declared.tables.Tables.{Tables}
 use Rattle.alm_asm.proofs.LinksStanding.{link_stands}
@@ -33,9 +33,9 @@ pub expression_none : (text : List ℕ) (tables : Tables) (spot : LocationCounte
 expression_none text tables spot line segment entry terms tag none =
     let at = refusal_at line segment.from E7 in
     let said = link_expression text tables.symbols spot line segment entry terms in
-    let reached = unless (reaches text tables spot segment entry terms tag) at in
-    let named = unless (may_name tables (own_section (slice_of text segment))) at in
-    (sooner_none said reached (sooner_none (sooner said reached) named none).0).0
+    let reached = refusal_unless (link_is_in_reach text tables spot segment entry terms tag) at in
+    let definition_of_name = refusal_unless (may_name tables (own_section (slice_of text segment))) at in
+    (sooner_none said reached (sooner_none (earlier_refusal said reached) definition_of_name none).0).0
 
 -- the link of an external operand that is not refused
 given_link : (text : List ℕ) (tables : Tables) (spot : LocationCounter) (line : Line36) (given : Option Arg) → AreKnown tables.symbols → operand_refusal text tables spot line given ≡ None
@@ -53,11 +53,11 @@ given_link text tables spot line (Some (arg.Operand pr (Some segment) entry term
 given_link text tables spot line None known none e = absurd (true≢false (sym e))
 
 -- if a line is not refused, its operand is not
-operand_none : (text : List ℕ) (tables : Tables) (spot : LocationCounter) (line : Line36) (d : LineEffect) → refusal_of_deed text tables spot line d ≡ None
+operand_none : (text : List ℕ) (tables : Tables) (spot : LocationCounter) (line : Line36) (d : LineEffect) → refusal_of_effect text tables spot line d ≡ None
     → operand_refusal text tables spot line (first_arg (operand_args d line.args)) ≡ None
 operand_none text tables spot line deed.Nothing e = refl
 operand_none text tables spot line (deed.Instruction code bit27) e =
-    (sooner_none (unless (is_text_section spot.section) (refusal_at line (op_place line.op) E7)) (operand_refusal text tables spot line (first_arg line.args)) e).1
+    (sooner_none (refusal_unless (is_text_section spot.section) (refusal_at line (op_place line.op) E7)) (operand_refusal text tables spot line (first_arg line.args)) e).1
 operand_none text tables spot line deed.Entry e = refl
 operand_none text tables spot line deed.Segdef e = refl
 operand_none text tables spot line deed.Equ e = refl

@@ -11,14 +11,14 @@ use Rattle.alm_parse.specs.declared.line.Line36.{Line36}
 use Rattle.obj36_parts.specs.declared.section.Section.{Section}
 use Rattle.obj36_parts.specs.declared.section.Section.TheVariants.{Text, Linkage, Symbol, Static}
 use Rattle.obj36_parts.specs.Fields.{RelocFields}
-use Rattle.obj36_parts.specs.Sections.{place_number, same_section}
-use Rattle.obj36_parts.specs.ObjectSegment.{version_of, last_place, is_place, is_relocation, order_of, are_rising}
+use Rattle.obj36_parts.specs.Sections.{section_number, same_section}
+use Rattle.obj36_parts.specs.ObjectSegment.{version_of, last_section_number, is_relocatable, is_valid_relocation, order_of, are_rising}
 use Rattle.alm_lines.specs.Sums.{kind_of}
 use Rattle.alm_lines.specs.Arguments.{first_arg, second_arg, terms_in}
-use Rattle.alm_lines.specs.Spots.{count_in, place_in, place, grown_in, moved_by, below, end_of}
+use Rattle.alm_lines.specs.Spots.{count_in, offset_in_section, place, plus_words_in, next_spot, next_line_spot, end_of}
 use Rattle.alm_lines.specs.Expressions.{sum_of}
-use Rattle.alm_asm.specs.Relocations.{mark, operand_part, operand_kind, operand_mark, marks_by, marks_after, marks_from}
-use Rattle.alm_asm.specs.Laws.{holds_words}
+use Rattle.alm_asm.specs.Relocations.{relocation_of_part, operand_part, operand_kind, operand_relocation, with_line_relocations, relocations_after, relocations_from}
+use Rattle.alm_asm.specs.Laws.{can_have_words}
 use Rattle.alm_lines.specs.declared.sum.Sum.{Sum}
 use Rattle.alm_lines.specs.declared.sum.Kind.{Kind}
 use Rattle.alm_lines.specs.declared.sum.Kind.TheVariants.{Absolute, Moved, Inexpressible}
@@ -125,8 +125,8 @@ limit_in Symbol text inner outer = 0
 limit_in Static text inner outer = outer
 
 place_good : (text inner outer : ℕ) (section : Section) (spot : LocationCounter) → count_in section spot < limit_in section text inner outer → limit_in section text inner outer + 8 < 2 ^ 18
-    → is_place text inner outer section (place_in section spot % 2 ^ 18) ≡ true
-unfolding is_place
+    → is_relocatable text inner outer section (offset_in_section section spot % 2 ^ 18) ≡ true
+unfolding is_relocatable
 place_good text inner outer Text spot h l = lt-ltb (spot.text % 2 ^ 18) text (omega arith)
 place_good text inner outer Linkage spot h l =
     and_from (leb 8 ((spot.inner + 8) % 2 ^ 18)) (ltb ((spot.inner + 8) % 2 ^ 18) (8 + inner)) (le-leb 8 ((spot.inner + 8) % 2 ^ 18) (omega arith)) (lt-ltb ((spot.inner + 8) % 2 ^ 18) (8 + inner) (omega arith))
@@ -134,13 +134,13 @@ place_good text inner outer Symbol spot h l = absurd (omega arith)
 place_good text inner outer Static spot h l = lt-ltb (spot.outer % 2 ^ 18) outer (omega arith)
 
 place_small : (text inner outer : ℕ) (section : Section) (spot : LocationCounter) → count_in section spot < limit_in section text inner outer → limit_in section text inner outer + 8 < 2 ^ 18
-    → place_in section spot % 2 ^ 18 ≡ place_in section spot
+    → offset_in_section section spot % 2 ^ 18 ≡ offset_in_section section spot
 place_small text inner outer Text spot h l = omega arith
 place_small text inner outer Linkage spot h l = omega arith
 place_small text inner outer Symbol spot h l = absurd (omega arith)
 place_small text inner outer Static spot h l = omega arith
 
-target_good : (outer : Bool) (target : Section) → good_kind outer (Moved target) ≡ true → leb (place_number target) (last_place (version_of outer)) ≡ true
+target_good : (outer : Bool) (target : Section) → good_kind outer (Moved target) ≡ true → leb (section_number target) (last_section_number (version_of outer)) ≡ true
 target_good true Text e = refl
 target_good true Linkage e = refl
 target_good true Symbol e = absurd (true≢false (sym e))
@@ -158,14 +158,14 @@ pub record Room : Type 0 where
   pub newer : Bool
 
 abbrev pub is_good : Room → RelocFields → Bool
-is_good room r = is_relocation room.text room.inner room.outer (version_of room.newer) r
+is_good room r = is_valid_relocation room.text room.inner room.outer (version_of room.newer) r
 
 abbrev pub limit : Section → Room → ℕ
 limit section room = limit_in section room.text room.inner room.outer
 
 -- the number of the word at a place, among all places of an object
 abbrev pub word_number : Section → LocationCounter → ℕ
-word_number section spot = place_number section * 2 ^ 18 + place_in section spot
+word_number section spot = section_number section * 2 ^ 18 + offset_in_section section spot
 
 -- the relocations so far are good, and each is of a word before this place
 pub record Good (room : Room) (k : ℕ) (marks : List RelocFields) : Type 0 where
@@ -184,26 +184,26 @@ reloc spot part target = record { section = spot.section; offset = place spot % 
 
 reloc_good : (room : Room) (spot : LocationCounter) (part : ℕ) (target : Section) → count_in spot.section spot < limit spot.section room → limit spot.section room + 8 < 2 ^ 18 → part ≤ 2
     → good_kind room.newer (Moved target) ≡ true → is_good room (reloc spot part target) ≡ true
-unfolding is_relocation
+unfolding is_valid_relocation
 reloc_good room spot part target h l p g =
-    let at = place_in spot.section spot % 2 ^ 18 in
+    let at = offset_in_section spot.section spot % 2 ^ 18 in
     let here = place_good room.text room.inner room.outer spot.section spot h l in
-    let small = lt-ltb (place_in spot.section spot % 2 ^ 18) (2 ^ 18) (omega arith) in
+    let small = lt-ltb (offset_in_section spot.section spot % 2 ^ 18) (2 ^ 18) (omega arith) in
     let well = le-leb part 2 p in
     let fits = target_good room.newer target g in
-    and_from ((is_place room.text room.inner room.outer spot.section (place_in spot.section spot % 2 ^ 18) && ltb (place_in spot.section spot % 2 ^ 18) (2 ^ 18)) && leb part 2) (leb (place_number target) (last_place (version_of room.newer)))
-    (and_from (is_place room.text room.inner room.outer spot.section (place_in spot.section spot % 2 ^ 18) && ltb (place_in spot.section spot % 2 ^ 18) (2 ^ 18)) (leb part 2)
-    (and_from (is_place room.text room.inner room.outer spot.section (place_in spot.section spot % 2 ^ 18)) (ltb (place_in spot.section spot % 2 ^ 18) (2 ^ 18)) here small) well) fits
+    and_from ((is_relocatable room.text room.inner room.outer spot.section (offset_in_section spot.section spot % 2 ^ 18) && ltb (offset_in_section spot.section spot % 2 ^ 18) (2 ^ 18)) && leb part 2) (leb (section_number target) (last_section_number (version_of room.newer)))
+    (and_from (is_relocatable room.text room.inner room.outer spot.section (offset_in_section spot.section spot % 2 ^ 18) && ltb (offset_in_section spot.section spot % 2 ^ 18) (2 ^ 18)) (leb part 2)
+    (and_from (is_relocatable room.text room.inner room.outer spot.section (offset_in_section spot.section spot % 2 ^ 18)) (ltb (offset_in_section spot.section spot % 2 ^ 18) (2 ^ 18)) here small) well) fits
 
 reloc_order : (room : Room) (spot : LocationCounter) (part : ℕ) (target : Section) → count_in spot.section spot < limit spot.section room → limit spot.section room + 8 < 2 ^ 18
     → order_of (reloc spot part target) ≡ word_number spot.section spot * 4 + part
 unfolding order_of
 reloc_order room spot part target h l =
-    ap (λ n. (place_number spot.section * 2 ^ 18 + n) * 4 + part) (place_small room.text room.inner room.outer spot.section spot h l)
+    ap (λ n. (section_number spot.section * 2 ^ 18 + n) * 4 + part) (place_small room.text room.inner room.outer spot.section spot h l)
 
 -- a part of the word at this place
 pub mark_good : (room : Room) (spot : LocationCounter) (part : ℕ) (kind : Kind) (marks : List RelocFields) → count_in spot.section spot < limit spot.section room → limit spot.section room + 8 < 2 ^ 18
-    → part ≤ 2 → good_kind room.newer kind ≡ true → Good room (word_number spot.section spot) marks → Good room (word_number spot.section spot + 1) (marks ++ mark spot part kind)
+    → part ≤ 2 → good_kind room.newer kind ≡ true → Good room (word_number spot.section spot) marks → Good room (word_number spot.section spot + 1) (marks ++ relocation_of_part spot part kind)
 mark_good room spot part Absolute marks h l p g at =
     subst (λ (m : List RelocFields). Good room (word_number spot.section spot + 1) m) (sym (append-nil marks)) (further_good room (word_number spot.section spot) (word_number spot.section spot + 1) marks (omega arith) at)
 mark_good room spot part Inexpressible marks h l p g at =
@@ -216,7 +216,7 @@ mark_good room spot part (Moved target) marks h l p g at = record {
 -- both halves of the word at this place
 pub halves_good : (room : Room) (spot : LocationCounter) (left right : Kind) (marks : List RelocFields) → count_in spot.section spot < limit spot.section room → limit spot.section room + 8 < 2 ^ 18
     → good_kind room.newer left ≡ true → good_kind room.newer right ≡ true → Good room (word_number spot.section spot) marks
-    → Good room (word_number spot.section spot + 1) ((marks ++ mark spot 0 left) ++ mark spot 1 right)
+    → Good room (word_number spot.section spot + 1) ((marks ++ relocation_of_part spot 0 left) ++ relocation_of_part spot 1 right)
 halves_good room spot Absolute right marks h l g q at =
     mark_good room spot 1 right (marks ++ []) h l (omega arith) q (subst (λ (m : List RelocFields). Good room (word_number spot.section spot) m) (sym (append-nil marks)) at)
 halves_good room spot Inexpressible right marks h l g q at =
@@ -281,7 +281,7 @@ passed room spot marks at =
 
 operand_good : (room : Room) (text : List ℕ) (symbols : List (List ℕ × Sum)) (spot : LocationCounter) (marks : List RelocFields) (arguments : List Arg) → AllFit room.newer symbols
     → (room.newer ≡ false → is_static spot.section ≡ false) → count_in spot.section spot < limit spot.section room → limit spot.section room + 8 < 2 ^ 18
-    → Good room (word_number spot.section spot) marks → Good room (word_number spot.section spot + 1) (marks ++ operand_mark text symbols spot (first_arg arguments))
+    → Good room (word_number spot.section spot) marks → Good room (word_number spot.section spot + 1) (marks ++ operand_relocation text symbols spot (first_arg arguments))
 operand_good room text symbols spot marks [] all none h l at = passed room spot marks at
 operand_good room text symbols spot marks (arg.Symbol span ∷ more) all none h l at = passed room spot marks at
 operand_good room text symbols spot marks (arg.Number word ∷ more) all none h l at = passed room spot marks at
@@ -293,66 +293,66 @@ operand_good room text symbols spot marks (arg.Operand pr segment entry terms ta
 
 -- a line of this section
 own_line : (room : Room) (text : List ℕ) (tables : Tables) (spot : LocationCounter) (marks : List RelocFields) (arguments : List Arg) (d : LineEffect) → AllFit room.newer tables.symbols
-    → (room.newer ≡ false → is_static spot.section ≡ false) → holds_words spot.section ≡ true → count_in spot.section (moved_by text d arguments spot) ≤ limit spot.section room → limit spot.section room + 8 < 2 ^ 18
-    → Good room (word_number spot.section spot) marks → Good room (word_number spot.section (moved_by text d arguments spot)) (marks_by text tables.symbols spot marks arguments d)
+    → (room.newer ≡ false → is_static spot.section ≡ false) → can_have_words spot.section ≡ true → count_in spot.section (next_spot text d arguments spot) ≤ limit spot.section room → limit spot.section room + 8 < 2 ^ 18
+    → Good room (word_number spot.section spot) marks → Good room (word_number spot.section (next_spot text d arguments spot)) (with_line_relocations text tables.symbols spot marks arguments d)
 own_line room text tables spot marks arguments deed.Nothing all none p h l at = at
 own_line room text tables spot marks arguments (deed.Instruction code bit27) all none p h l at =
     let e = grown_self spot.section spot 1 p in
     let fits : count_in spot.section spot < limit spot.section room = omega arith in
-    further_good room (word_number spot.section spot + 1) (word_number spot.section (grown_in spot.section spot 1)) (marks ++ operand_mark text tables.symbols spot (first_arg arguments)) (numbers_next spot.section spot (grown_in spot.section spot 1) e)
+    further_good room (word_number spot.section spot + 1) (word_number spot.section (plus_words_in spot.section spot 1)) (marks ++ operand_relocation text tables.symbols spot (first_arg arguments)) (numbers_next spot.section spot (plus_words_in spot.section spot 1) e)
     (operand_good room text tables.symbols spot marks arguments all none fits l at)
 own_line room text tables spot marks arguments deed.Entry all none p h l at = at
 own_line room text tables spot marks arguments deed.Segdef all none p h l at = at
 own_line room text tables spot marks arguments deed.Equ all none p h l at = at
 own_line room text tables spot marks arguments deed.Use all none p h l at =
-    further_good room (word_number spot.section spot) (word_number spot.section (moved_by text deed.Use arguments spot)) marks
-    (numbers_grow spot.section spot (moved_by text deed.Use arguments spot) (moved_grows spot.section text tables spot arguments deed.Use p)) at
+    further_good room (word_number spot.section spot) (word_number spot.section (next_spot text deed.Use arguments spot)) marks
+    (numbers_grow spot.section spot (next_spot text deed.Use arguments spot) (moved_grows spot.section text tables spot arguments deed.Use p)) at
 own_line room text tables spot marks arguments deed.Words all none p h l at =
-    further_good room (word_number spot.section spot) (word_number spot.section (moved_by text deed.Words arguments spot)) marks
-    (numbers_grow spot.section spot (moved_by text deed.Words arguments spot) (moved_grows spot.section text tables spot arguments deed.Words p)) at
+    further_good room (word_number spot.section spot) (word_number spot.section (next_spot text deed.Words arguments spot)) marks
+    (numbers_grow spot.section spot (next_spot text deed.Words arguments spot) (moved_grows spot.section text tables spot arguments deed.Words p)) at
 own_line room text tables spot marks arguments deed.Zero all none p h l at =
     let e = grown_self spot.section spot 1 p in
     let fits : count_in spot.section spot < limit spot.section room = omega arith in
     let left = sum_of text tables.symbols spot (terms_in (first_arg arguments)) in
     let right = sum_of text tables.symbols spot (terms_in (second_arg arguments)) in
-    further_good room (word_number spot.section spot + 1) (word_number spot.section (grown_in spot.section spot 1)) (marks_by text tables.symbols spot marks arguments deed.Zero) (numbers_next spot.section spot (grown_in spot.section spot 1) e)
+    further_good room (word_number spot.section spot + 1) (word_number spot.section (plus_words_in spot.section spot 1)) (with_line_relocations text tables.symbols spot marks arguments deed.Zero) (numbers_next spot.section spot (plus_words_in spot.section spot 1) e)
     (halves_good room spot (kind_of left) (kind_of right) marks fits l
     (kind_good room.newer left (sum_fits room.newer text tables.symbols spot (terms_in (first_arg arguments)) all none))
     (kind_good room.newer right (sum_fits room.newer text tables.symbols spot (terms_in (second_arg arguments)) all none)) at)
 own_line room text tables spot marks arguments deed.Block all none p h l at =
-    further_good room (word_number spot.section spot) (word_number spot.section (moved_by text deed.Block arguments spot)) marks
-    (numbers_grow spot.section spot (moved_by text deed.Block arguments spot) (moved_grows spot.section text tables spot arguments deed.Block p)) at
+    further_good room (word_number spot.section spot) (word_number spot.section (next_spot text deed.Block arguments spot)) marks
+    (numbers_grow spot.section spot (next_spot text deed.Block arguments spot) (moved_grows spot.section text tables spot arguments deed.Block p)) at
 own_line room text tables spot marks arguments deed.Even all none p h l at =
-    further_good room (word_number spot.section spot) (word_number spot.section (moved_by text deed.Even arguments spot)) marks
-    (numbers_grow spot.section spot (moved_by text deed.Even arguments spot) (moved_grows spot.section text tables spot arguments deed.Even p)) at
+    further_good room (word_number spot.section spot) (word_number spot.section (next_spot text deed.Even arguments spot)) marks
+    (numbers_grow spot.section spot (next_spot text deed.Even arguments spot) (moved_grows spot.section text tables spot arguments deed.Even p)) at
 own_line room text tables spot marks arguments deed.Bound all none p h l at = at
 
 -- a line in this or another section
 line_by : (room : Room) (text : List ℕ) (tables : Tables) (to : Section) (spot : LocationCounter) (marks : List RelocFields) (arguments : List Arg) (d : LineEffect) (b : Bool) → same_section spot.section to ≡ b → AllFit room.newer tables.symbols
-    → (room.newer ≡ false → is_static spot.section ≡ false) → holds_words to ≡ true → count_in to (moved_by text d arguments spot) ≤ limit to room → limit to room + 8 < 2 ^ 18
-    → Good room (word_number to spot) marks → Good room (word_number to (moved_by text d arguments spot)) (cond b (marks_by text tables.symbols spot marks arguments d) marks)
+    → (room.newer ≡ false → is_static spot.section ≡ false) → can_have_words to ≡ true → count_in to (next_spot text d arguments spot) ≤ limit to room → limit to room + 8 < 2 ^ 18
+    → Good room (word_number to spot) marks → Good room (word_number to (next_spot text d arguments spot)) (cond b (with_line_relocations text tables.symbols spot marks arguments d) marks)
 line_by room text tables to spot marks arguments d true e all none p h l at =
-    let P : Section → Type 0 = λ s. holds_words s ≡ true → count_in s (moved_by text d arguments spot) ≤ limit s room → limit s room + 8 < 2 ^ 18 → Good room (word_number s spot) marks
-    → Good room (word_number s (moved_by text d arguments spot)) (marks_by text tables.symbols spot marks arguments d) in
+    let P : Section → Type 0 = λ s. can_have_words s ≡ true → count_in s (next_spot text d arguments spot) ≤ limit s room → limit s room + 8 < 2 ^ 18 → Good room (word_number s spot) marks
+    → Good room (word_number s (next_spot text d arguments spot)) (with_line_relocations text tables.symbols spot marks arguments d) in
     subst P (same_is_section spot.section to e) (λ q g m n. own_line room text tables spot marks arguments d all none q g m n) p h l at
 line_by room text tables to spot marks arguments d false e all none p h l at =
-    further_good room (word_number to spot) (word_number to (moved_by text d arguments spot)) marks
-    (numbers_grow to spot (moved_by text d arguments spot) (moved_grows to text tables spot arguments d p)) at
+    further_good room (word_number to spot) (word_number to (next_spot text d arguments spot)) marks
+    (numbers_grow to spot (next_spot text d arguments spot) (moved_grows to text tables spot arguments d p)) at
 
 line_good : (room : Room) (text : List ℕ) (tables : Tables) (to : Section) (spot : LocationCounter) (marks : List RelocFields) (line : Line36) → AllFit room.newer tables.symbols
-    → (room.newer ≡ false → is_static spot.section ≡ false) → holds_words to ≡ true → count_in to (below text spot line) ≤ limit to room → limit to room + 8 < 2 ^ 18
-    → Good room (word_number to spot) marks → Good room (word_number to (below text spot line)) (marks_after text tables.symbols to marks spot line)
-unfolding below marks_after
+    → (room.newer ≡ false → is_static spot.section ≡ false) → can_have_words to ≡ true → count_in to (next_line_spot text spot line) ≤ limit to room → limit to room + 8 < 2 ^ 18
+    → Good room (word_number to spot) marks → Good room (word_number to (next_line_spot text spot line)) (relocations_after text tables.symbols to marks spot line)
+unfolding next_line_spot relocations_after
 line_good room text tables to spot marks line all none p h l at =
     line_by room text tables to spot marks line.args line.deed (same_section spot.section to) refl all none p h l at
 
 pub marks_good : (room : Room) (text : List ℕ) (tables : Tables) (to : Section) (marks : List RelocFields) (spot : LocationCounter) (lines : List Line36) → AllFit room.newer tables.symbols
-    → StandAt text room.newer spot lines → holds_words to ≡ true → count_in to (end_of text spot lines) ≤ limit to room → limit to room + 8 < 2 ^ 18
-    → Good room (word_number to spot) marks → Good room (word_number to (end_of text spot lines)) (marks_from text tables.symbols to marks spot lines)
-unfolding end_of marks_from
+    → StandAt text room.newer spot lines → can_have_words to ≡ true → count_in to (end_of text spot lines) ≤ limit to room → limit to room + 8 < 2 ^ 18
+    → Good room (word_number to spot) marks → Good room (word_number to (end_of text spot lines)) (relocations_from text tables.symbols to marks spot lines)
+unfolding end_of relocations_from
 marks_good room text tables to marks spot [] all at p h l good = good
 marks_good room text tables to marks spot (line ∷ lines) all at p h l good =
-    let more = grows_to_end to text tables (below text spot line) lines p in
-    let fits : count_in to (below text spot line) ≤ limit to room = omega arith in
-    marks_good room text tables to (marks_after text tables.symbols to marks spot line) (below text spot line) lines all (others_stand text room.newer spot line lines at) p h l
+    let more = grows_to_end to text tables (next_line_spot text spot line) lines p in
+    let fits : count_in to (next_line_spot text spot line) ≤ limit to room = omega arith in
+    marks_good room text tables to (relocations_after text tables.symbols to marks spot line) (next_line_spot text spot line) lines all (others_stand text room.newer spot line lines at) p h l
     (line_good room text tables to spot marks line all (no_static text room.newer spot (line ∷ lines) at) p fits l good)

@@ -6,13 +6,13 @@ use Rattle.alm_parse.specs.declared.args.Arg.{Arg}
 use Rattle.alm_parse.specs.declared.args.Arg.TheVariants as arg
 use Rattle.alm_parse.specs.declared.line.Line36.{Line36}
 use Rattle.obj36_parts.specs.Fields.{LinkFields}
-use Rattle.obj36_parts.specs.Names.{name_length}
+use Rattle.obj36_parts.specs.Names.{name_size}
 use Rattle.obj36_parts.specs.Indexes.{same_link}
 use Rattle.obj36_parts.specs.ObjectSegment.{head_words, link_names, section_limit}
-use Rattle.alm_lines.specs.Sums.{no_sum}
+use Rattle.alm_lines.specs.Sums.{zero_sum}
 use Rattle.alm_lines.specs.Symbols.{sum_named, with_symbol}
 use Rattle.alm_lines.specs.Arguments.{name_at, first_arg}
-use Rattle.alm_lines.specs.Spots.{start, below, end_of}
+use Rattle.alm_lines.specs.Spots.{start, next_line_spot, end_of}
 use Rattle.alm_lines.specs.SpotFields.{LocationCounter}
 use Rattle.alm_lines.specs.Refusals.{refusal_at}
 use Rattle.alm_lines.specs.declared.sum.Sum.{Sum}
@@ -20,8 +20,8 @@ use Rattle.alm_lines.specs.declared.refusal.AlmCode.TheVariants.{E8}
 use Rattle.alm_lines.specs.declared.refusal.AlmRefusal.{AlmRefusal}
 use Rattle.alm_asm.specs.Links.{operand_args, link_in, links_after, links_from}
 use Rattle.alm_asm.specs.Links.{with_link}
-use Rattle.alm_asm.specs.Definitions.{gives_entries, sum_refusal}
-use Rattle.alm_asm.specs.Growth.{at_first, with_name, with_names, with_definition, with_unrefused, with_arg, with_args, with_definitions, with_new_link, with_link_once, with_link_given, marks_count, with_marks, grown_by, is_over, growth_refusal}
+use Rattle.alm_asm.specs.Definitions.{defines_entries, sum_refusal}
+use Rattle.alm_asm.specs.Growth.{first_growth, with_name, with_names, with_definition, with_definition_unless_refused, with_arg, with_args, with_definitions, with_new_link, with_link_once, with_link_if_any, line_relocation_count, with_relocations, growth_after_line, has_section_over_limit, growth_refusal}
 use Rattle.alm_asm.specs.declared.growth.Growth.{Growth}
 
 -- ---- the end
@@ -29,20 +29,20 @@ use Rattle.alm_asm.specs.declared.growth.Growth.{Growth}
 -- the sizes of the sections with all lines
 unfoldable pub growth_from : List ℕ → List (List ℕ × Sum) → Growth → LocationCounter → List Line36 → Growth
 growth_from text symbols g spot [] = g
-growth_from text symbols g spot (line ∷ lines) = growth_from text symbols (grown_by text symbols spot g line) (below text spot line) lines
+growth_from text symbols g spot (line ∷ lines) = growth_from text symbols (growth_after_line text symbols spot g line) (next_line_spot text spot line) lines
 
 refused_by : (b : Bool) (refusal : AlmRefusal) (rest : Option AlmRefusal) → cond b (Some refusal) rest ≡ None → (b ≡ false) × (rest ≡ None)
 refused_by true refusal rest e = absurd (true≢false (ap is_some e))
 refused_by false refusal rest e = (refl, e)
 
-not_over_from : (text : List ℕ) (symbols : List (List ℕ × Sum)) (g : Growth) (spot : LocationCounter) (lines : List Line36) → is_over spot g ≡ false → growth_refusal text symbols g spot lines ≡ None
-    → is_over (end_of text spot lines) (growth_from text symbols g spot lines) ≡ false
+not_over_from : (text : List ℕ) (symbols : List (List ℕ × Sum)) (g : Growth) (spot : LocationCounter) (lines : List Line36) → has_section_over_limit spot g ≡ false → growth_refusal text symbols g spot lines ≡ None
+    → has_section_over_limit (end_of text spot lines) (growth_from text symbols g spot lines) ≡ false
 unfolding growth_refusal growth_from end_of
 not_over_from text symbols g spot [] e none = e
 not_over_from text symbols g spot (line ∷ lines) e none =
-    let after = grown_by text symbols spot g line in
-    let parts = refused_by (is_over (below text spot line) after) (refusal_at line line.start E8) (growth_refusal text symbols after (below text spot line) lines) none in
-    not_over_from text symbols after (below text spot line) lines parts.0 parts.1
+    let after = growth_after_line text symbols spot g line in
+    let parts = refused_by (has_section_over_limit (next_line_spot text spot line) after) (refusal_at line line.start E8) (growth_refusal text symbols after (next_line_spot text spot line) lines) none in
+    not_over_from text symbols after (next_line_spot text spot line) lines parts.0 parts.1
 
 -- No section has more words than it may have.
 pub record IsWithin (spot : LocationCounter) (g : Growth) : Type 0 where
@@ -50,8 +50,8 @@ pub record IsWithin (spot : LocationCounter) (g : Growth) : Type 0 where
   pub linkage : head_words + spot.inner + 2 * length g.links ≤ section_limit
   pub symbol : g.symbol ≤ section_limit
 
-within : (spot : LocationCounter) (g : Growth) → is_over spot g ≡ false → IsWithin spot g
-unfolding is_over
+within : (spot : LocationCounter) (g : Growth) → has_section_over_limit spot g ≡ false → IsWithin spot g
+unfolding has_section_over_limit
 within spot g e =
     let linkage = head_words + spot.inner + 2 * length g.links in
     let last = or_parts (ltb section_limit g.definition || ltb section_limit linkage) (ltb section_limit g.symbol) e in
@@ -62,14 +62,14 @@ within spot g e =
       symbol = ltb-false section_limit g.symbol last.1;
     }
 
-at_first_within : is_over start at_first ≡ false
-unfolding is_over
+at_first_within : has_section_over_limit start first_growth ≡ false
+unfolding has_section_over_limit
 at_first_within = refl
 
-pub end_within : (text : List ℕ) (symbols : List (List ℕ × Sum)) (lines : List Line36) → growth_refusal text symbols at_first start lines ≡ None
-    → IsWithin (end_of text start lines) (growth_from text symbols at_first start lines)
+pub end_within : (text : List ℕ) (symbols : List (List ℕ × Sum)) (lines : List Line36) → growth_refusal text symbols first_growth start lines ≡ None
+    → IsWithin (end_of text start lines) (growth_from text symbols first_growth start lines)
 end_within text symbols lines none =
-    within (end_of text start lines) (growth_from text symbols at_first start lines) (not_over_from text symbols at_first start lines at_first_within none)
+    within (end_of text start lines) (growth_from text symbols first_growth start lines) (not_over_from text symbols first_growth start lines at_first_within none)
 
 -- ---- names
 
@@ -91,7 +91,7 @@ unless_there false g h a = a
 name_follows : (g : Growth) (name : List ℕ) → Follows g (with_name g name)
 unfolding with_name
 name_follows g name =
-    unless_there (is_some (sum_named name g.names)) g (record g { names = with_symbol g.names name no_sum; definition = g.definition + name_length name })
+    unless_there (is_some (sum_named name g.names)) g (record g { names = with_symbol g.names name zero_sum; definition = g.definition + name_size name })
     (record { links = refl; symbol = refl })
 
 pub names_follow : (g : Growth) (names : List (List ℕ)) → Follows g (with_names g names)
@@ -102,11 +102,11 @@ names_follow g (name ∷ names) = onward g (with_name g name) (with_names (with_
 pub definition_follows : (g : Growth) (name : List ℕ) → Follows g (with_definition g name)
 unfolding with_definition
 definition_follows g name =
-    let defined = record g { defined = with_symbol g.defined name no_sum; definition = g.definition + 2 } in
-    unless_there (is_some (sum_named name g.defined)) g (with_name (record g { defined = with_symbol g.defined name no_sum; definition = g.definition + 2 }) name)
+    let defined = record g { defined = with_symbol g.defined name zero_sum; definition = g.definition + 2 } in
+    unless_there (is_some (sum_named name g.defined)) g (with_name (record g { defined = with_symbol g.defined name zero_sum; definition = g.definition + 2 }) name)
     (onward g defined (with_name defined name) (record { links = refl; symbol = refl }) (name_follows defined name))
 
-unrefused_follows : (refusal : Option AlmRefusal) (g : Growth) (name : List ℕ) → Follows g (with_unrefused refusal g name)
+unrefused_follows : (refusal : Option AlmRefusal) (g : Growth) (name : List ℕ) → Follows g (with_definition_unless_refused refusal g name)
 unrefused_follows (Some refusal) g name = stays g
 unrefused_follows None g name = definition_follows g name
 
@@ -147,28 +147,28 @@ link_once : (g : Growth) (link : LinkFields) → Links (with_link g.links (Some 
 unfolding with_link_once
 link_once g link = once_by (list_any (same_link link) g.links) g link
 
-given_links : (g : Growth) (given : Option LinkFields) → Links (with_link g.links given) g (with_link_given g given)
+given_links : (g : Growth) (given : Option LinkFields) → Links (with_link g.links given) g (with_link_if_any g given)
 given_links g None = record { links = refl; symbol = refl }
 given_links g (Some link) = link_once g link
 
 -- ---- a line
 
-pub line_links : (text : List ℕ) (symbols : List (List ℕ × Sum)) (spot : LocationCounter) (g : Growth) (line : Line36) → (grown_by text symbols spot g line).links ≡ links_after text symbols g.links spot line
-unfolding grown_by with_marks links_after
+pub line_links : (text : List ℕ) (symbols : List (List ℕ × Sum)) (spot : LocationCounter) (g : Growth) (line : Line36) → (growth_after_line text symbols spot g line).links ≡ links_after text symbols g.links spot line
+unfolding growth_after_line with_relocations links_after
 line_links text symbols spot g line =
     let given = link_in text symbols spot (first_arg (operand_args line.deed line.args)) in
-    let named = with_definitions text symbols line g (gives_entries line.deed) in
-    (given_links named given).links
-    ∙ ap (λ (links : List LinkFields). with_link links given) (definitions_follow text symbols line g (gives_entries line.deed)).links
+    let definition_of_name = with_definitions text symbols line g (defines_entries line.deed) in
+    (given_links definition_of_name given).links
+    ∙ ap (λ (links : List LinkFields). with_link links given) (definitions_follow text symbols line g (defines_entries line.deed)).links
 
 pub line_symbol : (text : List ℕ) (symbols : List (List ℕ × Sum)) (spot : LocationCounter) (g : Growth) (line : Line36)
-    → (grown_by text symbols spot g line).symbol ≡ g.symbol + marks_count text symbols spot line.args line.deed
-unfolding grown_by with_marks
+    → (growth_after_line text symbols spot g line).symbol ≡ g.symbol + line_relocation_count text symbols spot line.args line.deed
+unfolding growth_after_line with_relocations
 line_symbol text symbols spot g line =
     let given = link_in text symbols spot (first_arg (operand_args line.deed line.args)) in
-    let named = with_definitions text symbols line g (gives_entries line.deed) in
-    ap (λ n. n + marks_count text symbols spot line.args line.deed)
-    ((given_links named given).symbol ∙ (definitions_follow text symbols line g (gives_entries line.deed)).symbol)
+    let definition_of_name = with_definitions text symbols line g (defines_entries line.deed) in
+    ap (λ n. n + line_relocation_count text symbols spot line.args line.deed)
+    ((given_links definition_of_name given).symbol ∙ (definitions_follow text symbols line g (defines_entries line.deed)).symbol)
 
 -- the links that are counted are those of the object
 pub links_grown : (text : List ℕ) (symbols : List (List ℕ × Sum)) (g : Growth) (spot : LocationCounter) (lines : List Line36)
@@ -176,5 +176,5 @@ pub links_grown : (text : List ℕ) (symbols : List (List ℕ × Sum)) (g : Grow
 unfolding growth_from links_from
 links_grown text symbols g spot [] = refl
 links_grown text symbols g spot (line ∷ lines) =
-    links_grown text symbols (grown_by text symbols spot g line) (below text spot line) lines
-    ∙ ap (λ (links : List LinkFields). links_from text symbols links (below text spot line) lines) (line_links text symbols spot g line)
+    links_grown text symbols (growth_after_line text symbols spot g line) (next_line_spot text spot line) lines
+    ∙ ap (λ (links : List LinkFields). links_from text symbols links (next_line_spot text spot line) lines) (line_links text symbols spot g line)

@@ -19,16 +19,16 @@ use Rattle.m36_word.specs.Field.{offset_limit}
 use Rattle.obj36_parts.specs.Indexes.{same_link}
 use Rattle.obj36_parts.specs.Sections.{is_text_section}
 use Rattle.alm_lines.specs.Arguments.{first_arg}
-use Rattle.alm_lines.specs.Spots.{below}
+use Rattle.alm_lines.specs.Spots.{next_line_spot}
 use Rattle.alm_lines.specs.SpotFields.{LocationCounter}
-use Rattle.alm_lines.specs.Refusals.{sooner, refusal_at, has_value}
+use Rattle.alm_lines.specs.Refusals.{earlier_refusal, refusal_at, has_value}
 use Rattle.alm_lines.specs.declared.sum.Sum.{Sum}
 use Rattle.alm_lines.specs.declared.refusal.AlmCode.TheVariants.{E7}
 use Rattle.alm_lines.specs.declared.refusal.ValueField.TheVariants.{Half}
-use Rattle.alm_asm.specs.Links.{link_of, operand_args, link_by, link_in, with_link, links_after, links_from, link_place}
-use Rattle.alm_asm.specs.Definitions.{gives_entries, definitions_after, definitions_refused}
-use Rattle.alm_asm.specs.LineRefusals.{unless, op_place, may_name, is_in_reach, link_expression, reaches}
-use Rattle.alm_asm.specs.LineRefusals.{operand_refusal, refusal_of_deed, line_refusal, with_links, lines_refusal}
+use Rattle.alm_asm.specs.Links.{link_of, operand_args, link_of_parts, link_in, with_link, links_after, links_from, offset_of_link_in}
+use Rattle.alm_asm.specs.Definitions.{defines_entries, definitions_after, definitions_refusal}
+use Rattle.alm_asm.specs.LineRefusals.{refusal_unless, op_place, may_name, is_in_reach, link_expression, link_is_in_reach}
+use Rattle.alm_asm.specs.LineRefusals.{operand_refusal, refusal_of_effect, line_refusal, with_links, lines_refusal}
 use Rattle.alm_lines.specs.declared.refusal.AlmRefusal.{AlmRefusal}
 use Rattle.alm_asm.specs.declared.tables.Tables.{Tables}
 use Rattle.alm_asm.proofs.LinksStanding.{stays_with, added_with}
@@ -86,5 +86,5 @@ unfolding links_from links_after
 same_below text symbols l links spot [] e = refl
 same_below text symbols l links spot (line ∷ lines) e =
     let given = link_in text symbols spot (first_arg (operand_args line.deed line.args)) in
-    same_below text symbols l (links_after text symbols links spot line) (below text spot line) lines (stays_with l links given e)
+    same_below text symbols l (links_after text symbols links spot line) (next_line_spot text spot line) lines (stays_with l links given e)
     ∙ same_with l links given e

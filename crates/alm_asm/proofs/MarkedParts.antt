@@ -3,7 +3,7 @@ use Rattle.std.proofs.Common.{ℕ, ◌≡◌, ◌+◌, ◌*◌, ◌%◌, ◌^◌
 use Rattle.m36_word.specs.Bits.{of_bit}
 use Rattle.m36_inst.specs.Fields.{InstFields}
 use Rattle.m36_inst.specs.Instruction.{inst_word}
-use Rattle.obj36_parts.specs.Halves.{left, right, offset_in}
+use Rattle.obj36_parts.specs.Halves.{left, right, bits_3_to_17}
 use Rattle.obj36_parts.specs.ObjectSegment.{part_of, linkage_register}
 use Rattle.alm_tokens.specs.declared.span.Span.{Span}
 use Rattle.alm_tokens.specs.Modifiers.{star_tag}
@@ -11,10 +11,10 @@ use Rattle.alm_lines.specs.Sums.{half_of, offset_of}
 use Rattle.alm_lines.specs.Arguments.{first_arg, second_arg, terms_in}
 use Rattle.alm_lines.specs.Expressions.{sum_of}
 use Rattle.alm_lines.specs.declared.sum.Balance.{Balance}
-use Rattle.alm_asm.specs.Links.{link_of, link_place}
-use Rattle.alm_asm.specs.Words.{plain_inst, pointed_inst, halves_word}
+use Rattle.alm_asm.specs.Links.{link_of, offset_of_link_in}
+use Rattle.alm_asm.specs.Words.{address_instruction, pointer_register_instruction, halves_word}
 use Rattle.alm_asm.specs.Relocations.{operand_part}
-use Rattle.alm_asm.specs.Laws.{PartsAreMarked}
+use Rattle.alm_asm.specs.Laws.{RelocatedPartsHoldValues}
 use Rattle.alm_asm.proofs.OffsetsRead.{offset_below, offset_kept}
 
 -- ---- instructions
@@ -32,19 +32,19 @@ address_is i code tag =
     let by_pr_small = bit_small i.by_pr in
     omega arith
 
-plain_is : (code : ℕ) (bit27 : Bool) (y tag : ℕ) → left (inst_word (plain_inst code bit27 y tag)) ≡ y
+plain_is : (code : ℕ) (bit27 : Bool) (y tag : ℕ) → left (inst_word (address_instruction code bit27 y tag)) ≡ y
 plain_is code bit27 y tag =
     let code_small : code % 2 ^ 9 < 2 ^ 9 = omega arith in
     let tag_small : tag % 2 ^ 6 < 2 ^ 6 = omega arith in
-    address_is (plain_inst code bit27 y tag) code_small tag_small
+    address_is (address_instruction code bit27 y tag) code_small tag_small
 
 -- bits 3 to 17 are the offset after a pointer register
-offset_is : (code : ℕ) (bit27 : Bool) (pr offset tag : ℕ) → offset < 2 ^ 15 → offset_in (inst_word (pointed_inst code bit27 pr offset tag)) ≡ offset
-unfolding offset_in
+offset_is : (code : ℕ) (bit27 : Bool) (pr offset tag : ℕ) → offset < 2 ^ 15 → bits_3_to_17 (inst_word (pointer_register_instruction code bit27 pr offset tag)) ≡ offset
+unfolding bits_3_to_17
 offset_is code bit27 pr offset tag small =
     let code_small : code % 2 ^ 9 < 2 ^ 9 = omega arith in
     let tag_small : tag % 2 ^ 6 < 2 ^ 6 = omega arith in
-    ap (λ y. y % 2 ^ 15) (address_is (pointed_inst code bit27 pr offset tag) code_small tag_small) ∙ offset_kept pr offset small
+    ap (λ y. y % 2 ^ 15) (address_is (pointer_register_instruction code bit27 pr offset tag) code_small tag_small) ∙ offset_kept pr offset small
 
 -- they are the offset of a link for an external operand, whatever register its line names
 linked_part : (pr : Option ℕ) (segment : Span) → operand_part pr (Some segment) ≡ 2
@@ -65,7 +65,7 @@ right_is : (l r : ℕ) → r < 2 ^ 18 → right (l * 2 ^ 18 + r) ≡ r
 unfolding right
 right_is l r small = omega arith
 
-pub parts_are_marked : PartsAreMarked
+pub parts_are_marked : RelocatedPartsHoldValues
 unfolding part_of halves_word
 parts_are_marked =
     record {
@@ -75,9 +75,9 @@ parts_are_marked =
           let number = (sum_of text tables.symbols spot terms).value in
           offset_is code bit27 pr (offset_of number) tag (offset_below number);
       linked = λ text tables spot code bit27 pr segment entry terms tag.
-          let offset : ℕ = link_place tables.links tables.first_link (link_of text tables.symbols spot segment entry terms tag) % 2 ^ 15 in
+          let offset : ℕ = offset_of_link_in tables.links tables.first_link (link_of text tables.symbols spot segment entry terms tag) % 2 ^ 15 in
           let small : offset < 2 ^ 15 = omega arith in
-          ap (λ part. part_of part (inst_word (pointed_inst code bit27 linkage_register offset star_tag))) (linked_part pr segment)
+          ap (λ part. part_of part (inst_word (pointer_register_instruction code bit27 linkage_register offset star_tag))) (linked_part pr segment)
           ∙ offset_is code bit27 linkage_register offset star_tag small;
       first = λ text tables spot arguments.
           let l = (sum_of text tables.symbols spot (terms_in (first_arg arguments))).value in

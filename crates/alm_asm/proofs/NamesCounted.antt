@@ -6,7 +6,7 @@ use Rattle.std.proofs.lemmas.Bool.{and_parts, and_from, not-true, or_left, or_ri
 use Rattle.std.proofs.lemmas.Cmp.{nat_list_eq_equiv}
 use Rattle.std.proofs.lemmas.List.Folds.{list_any-append}
 use Rattle.std.proofs.lemmas.List.{length-append}
-use Rattle.obj36_parts.specs.Names.{same, with_name, with_names, name_length, name_words, all_name_words}
+use Rattle.obj36_parts.specs.Names.{same, with_name, with_names, name_size, name_words, all_name_words}
 use Rattle.obj36_parts.specs.ObjectSegment.{are_distinct}
 use Rattle.obj36_parts.proofs.SizeLaws.{same_is, same_self, length-name_words}
 use Rattle.alm_asm.proofs.LinksSoFar.{or_second}
@@ -29,7 +29,7 @@ unfolding total
 total_last f [] name = omega arith
 total_last f (first ∷ names) name = omega (arith, total_last f names name)
 
-pub total_words : (names : List (List ℕ)) → length (all_name_words names) ≡ total name_length names
+pub total_words : (names : List (List ℕ)) → length (all_name_words names) ≡ total name_size names
 unfolding total all_name_words
 total_words [] = refl
 total_words (name ∷ names) = omega (arith, length-append (name_words name) (all_name_words names), length-name_words name, total_words names)

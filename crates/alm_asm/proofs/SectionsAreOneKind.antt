@@ -11,10 +11,10 @@ use Rattle.obj36_parts.specs.declared.section.Section.TheVariants.{Text, Linkage
 use Rattle.obj36_parts.specs.declared.definition.Named.{Named}
 use Rattle.alm_parse.specs.Pairs.{used_section}
 use Rattle.alm_lines.specs.Arguments.{first_arg, symbol_in, section_in}
-use Rattle.alm_lines.specs.Spots.{start, place, grown_in, selected, size_of, moved_by, below, end_of}
+use Rattle.alm_lines.specs.Spots.{start, place, plus_words_in, with_section, size_of, next_spot, next_line_spot, end_of}
 use Rattle.alm_lines.specs.Refusals.{refusal_at}
 use Rattle.alm_asm.specs.Definitions.{definitions_after}
-use Rattle.alm_asm.specs.LineRefusals.{op_place, may_enter, refusal_of_deed, lines_refusal}
+use Rattle.alm_asm.specs.LineRefusals.{op_place, may_select, refusal_of_effect, lines_refusal}
 use Rattle.alm_asm.specs.Assembly.{static_section}
 use Rattle.alm_lines.specs.SpotFields.{LocationCounter}
 use Rattle.alm_asm.specs.declared.tables.Tables.{Tables}
@@ -34,7 +34,7 @@ is_kept Static inner outer = outer && not inner
 abbrev kept : LocationCounter → Bool
 kept spot = is_kept spot.section spot.uses_inner spot.uses_outer
 
-grown_kept : (section : Section) (spot : LocationCounter) (n : ℕ) → kept (grown_in section spot n) ≡ kept spot
+grown_kept : (section : Section) (spot : LocationCounter) (n : ℕ) → kept (plus_words_in section spot n) ≡ kept spot
 grown_kept Text spot n = refl
 grown_kept Linkage spot n = refl
 grown_kept Symbol spot n = refl
@@ -69,46 +69,46 @@ names_section text None = refl
 names_section text (Some span) =
     entered_by (is_text (codes "text") (slice_of text span)) (is_text (codes "link") (slice_of text span)) (is_text (codes "static") (slice_of text span))
 
-entered_kept : (spot : LocationCounter) (named : Section) → is_entered named ≡ true → may_enter spot named ≡ true → (spot.uses_inner && spot.uses_outer) ≡ false → kept (selected spot named) ≡ true
+entered_kept : (spot : LocationCounter) (definition_of_name : Section) → is_entered definition_of_name ≡ true → may_select spot definition_of_name ≡ true → (spot.uses_inner && spot.uses_outer) ≡ false → kept (with_section spot definition_of_name) ≡ true
 entered_kept spot Text n m e = ap not e
 entered_kept spot Linkage n m e = m
 entered_kept spot Symbol n m e = absurd (true≢false (sym n))
 entered_kept spot Static n m e = m
 
-moved_kept : (text : List ℕ) (tables : Tables) (spot : LocationCounter) (line : Line36) (d : LineEffect) → refusal_of_deed text tables spot line d ≡ None → kept spot ≡ true → kept (moved_by text d line.args spot) ≡ true
+moved_kept : (text : List ℕ) (tables : Tables) (spot : LocationCounter) (line : Line36) (d : LineEffect) → refusal_of_effect text tables spot line d ≡ None → kept spot ≡ true → kept (next_spot text d line.args spot) ≡ true
 moved_kept text tables spot line deed.Nothing none e = e
 moved_kept text tables spot line (deed.Instruction code bit27) none e = grown_kept spot.section spot 1 ∙ e
 moved_kept text tables spot line deed.Entry none e = e
 moved_kept text tables spot line deed.Segdef none e = e
 moved_kept text tables spot line deed.Equ none e = e
 moved_kept text tables spot line deed.Use none e =
-    let named = section_in text (symbol_in (first_arg line.args)) in
+    let definition_of_name = section_in text (symbol_in (first_arg line.args)) in
     entered_kept spot (section_in text (symbol_in (first_arg line.args))) (names_section text (symbol_in (first_arg line.args)))
-    (unless_none (may_enter spot (section_in text (symbol_in (first_arg line.args)))) (refusal_at line (op_place line.op) E7) none) (one_kind spot.section spot.uses_inner spot.uses_outer e)
+    (unless_none (may_select spot (section_in text (symbol_in (first_arg line.args)))) (refusal_at line (op_place line.op) E7) none) (one_kind spot.section spot.uses_inner spot.uses_outer e)
 moved_kept text tables spot line deed.Words none e = grown_kept spot.section spot (size_of deed.Words line.args (place spot)) ∙ e
 moved_kept text tables spot line deed.Zero none e = grown_kept spot.section spot 1 ∙ e
 moved_kept text tables spot line deed.Block none e = grown_kept spot.section spot (size_of deed.Block line.args (place spot)) ∙ e
 moved_kept text tables spot line deed.Even none e = grown_kept spot.section spot (size_of deed.Even line.args (place spot)) ∙ e
 moved_kept text tables spot line deed.Bound none e = e
 
-below_kept : (text : List ℕ) (tables : Tables) (spot : LocationCounter) (line : Line36) → refusal_of_deed text tables spot line line.deed ≡ None → kept spot ≡ true → kept (below text spot line) ≡ true
-unfolding below
+below_kept : (text : List ℕ) (tables : Tables) (spot : LocationCounter) (line : Line36) → refusal_of_effect text tables spot line line.deed ≡ None → kept spot ≡ true → kept (next_line_spot text spot line) ≡ true
+unfolding next_line_spot
 below_kept text tables spot line none e = moved_kept text tables spot line line.deed none e
 
 -- a section that was selected stays so
-grown_inner : (section : Section) (spot : LocationCounter) (n : ℕ) → (grown_in section spot n).uses_inner ≡ spot.uses_inner
+grown_inner : (section : Section) (spot : LocationCounter) (n : ℕ) → (plus_words_in section spot n).uses_inner ≡ spot.uses_inner
 grown_inner Text spot n = refl
 grown_inner Linkage spot n = refl
 grown_inner Symbol spot n = refl
 grown_inner Static spot n = refl
 
-entered_inner : (spot : LocationCounter) (named : Section) → spot.uses_inner ≡ true → (selected spot named).uses_inner ≡ true
+entered_inner : (spot : LocationCounter) (definition_of_name : Section) → spot.uses_inner ≡ true → (with_section spot definition_of_name).uses_inner ≡ true
 entered_inner spot Text e = e
 entered_inner spot Linkage e = refl
 entered_inner spot Symbol e = e
 entered_inner spot Static e = e
 
-moved_inner : (text : List ℕ) (d : LineEffect) (arguments : List Arg) (spot : LocationCounter) → spot.uses_inner ≡ true → (moved_by text d arguments spot).uses_inner ≡ true
+moved_inner : (text : List ℕ) (d : LineEffect) (arguments : List Arg) (spot : LocationCounter) → spot.uses_inner ≡ true → (next_spot text d arguments spot).uses_inner ≡ true
 moved_inner text deed.Nothing arguments spot e = e
 moved_inner text (deed.Instruction code bit27) arguments spot e = grown_inner spot.section spot 1 ∙ e
 moved_inner text deed.Entry arguments spot e = e
@@ -122,16 +122,16 @@ moved_inner text deed.Even arguments spot e = grown_inner spot.section spot (siz
 moved_inner text deed.Bound arguments spot e = e
 
 end_inner : (text : List ℕ) (spot : LocationCounter) (lines : List Line36) → spot.uses_inner ≡ true → (end_of text spot lines).uses_inner ≡ true
-unfolding end_of below
+unfolding end_of next_line_spot
 end_inner text spot [] e = e
-end_inner text spot (line ∷ lines) e = end_inner text (below text spot line) lines (moved_inner text line.deed line.args spot e)
+end_inner text spot (line ∷ lines) e = end_inner text (next_line_spot text spot line) lines (moved_inner text line.deed line.args spot e)
 
 end_kept : (text : List ℕ) (tables : Tables) (done : List Named) (spot : LocationCounter) (lines : List Line36) → lines_refusal text tables done spot lines ≡ None → kept spot ≡ true → kept (end_of text spot lines) ≡ true
 unfolding end_of
 end_kept text tables done spot [] none e = e
 end_kept text tables done spot (line ∷ lines) none e =
     let own = (line_parts text tables done spot line (head_line text tables done spot line lines none)).1 in
-    end_kept text tables (definitions_after text tables.symbols done line) (below text spot line) lines (other_lines text tables done spot line lines none) (below_kept text tables spot line own e)
+    end_kept text tables (definitions_after text tables.symbols done line) (next_line_spot text spot line) lines (other_lines text tables done spot line lines none) (below_kept text tables spot line own e)
 
 abbrev Stands : Bool → Section → Type 0
 Stands newer section = (section ≡ Text) ⊎ (section ≡ static_section newer)
@@ -151,7 +151,7 @@ other_kind false outer e i = absurd (true≢false (sym i))
 pub end_follows : (text : List ℕ) (spot : LocationCounter) (above lines : List Line36) → end_of text spot (above ++ lines) ≡ end_of text (end_of text spot above) lines
 unfolding end_of
 end_follows text spot [] lines = refl
-end_follows text spot (line ∷ above) lines = end_follows text (below text spot line) above lines
+end_follows text spot (line ∷ above) lines = end_follows text (next_line_spot text spot line) above lines
 
 pub section_stands : (text : List ℕ) (tables : Tables) (lines above : List Line36) (line : Line36) (others : List Line36) → lines ≡ above ++ line ∷ others
     → lines_refusal text tables [] start lines ≡ None

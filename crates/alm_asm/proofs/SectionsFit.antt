@@ -11,7 +11,7 @@ use Rattle.alm_lines.specs.Spots.{start, count_in, end_of}
 use Rattle.alm_lines.specs.SpotFields.{LocationCounter}
 use Rattle.alm_lines.specs.Layout.{symbols_from}
 use Rattle.alm_asm.specs.Words.{words_from}
-use Rattle.alm_asm.specs.Growth.{at_first}
+use Rattle.alm_asm.specs.Growth.{first_growth}
 use Rattle.alm_asm.specs.Assembly.{tables_of, static_section, evened, parts_with, parts_of, refusal_of}
 use Rattle.alm_asm.proofs.Unrefused.{no_layout_refusal, no_lines_refusal, no_growth_refusal}
 use Rattle.alm_asm.proofs.PlaceLaws.{places_count}
@@ -72,15 +72,15 @@ are_within source none distinct =
     let statics = words_from text tables (static_section newer) [] start lines in
     let same = places_count text tables (static_section newer) lines (static_holds newer) in
     let within = end_within text symbols lines (no_growth_refusal source none) in
-    let links = ap (λ (l : List LinkFields). length l) (links_grown text symbols at_first start lines) in
+    let links = ap (λ (l : List LinkFields). length l) (links_grown text symbols first_growth start lines) in
     let linkage : 8 + ending.inner + 2 * length parts.links ≤ section_limit = omega (arith, within.linkage, links) in
     let linked = linkage_fits newer ending statics (length parts.links) same linkage in
-    let marked = marks_counted text tables newer at_first start lines (symbols_known text lines (no_layout_refusal source none)) (no_lines_refusal source none) in
-    let named = definitions_counted text tables start lines (no_lines_refusal source none) distinct in
+    let marked = marks_counted text tables newer first_growth start lines (symbols_known text lines (no_layout_refusal source none)) (no_lines_refusal source none) in
+    let definition_of_name = definitions_counted text tables start lines (no_lines_refusal source none) distinct in
     let placed = counts_fit text lines (no_layout_refusal source none) in
     record {
       text = omega (arith, placed.text, places_count text tables Text lines refl);
-      definition = omega (arith, named, within.definition, length-definition_part parts.definitions parts.links);
+      definition = omega (arith, definition_of_name, within.definition, length-definition_part parts.definitions parts.links);
       statics = statics_fit newer ending statics same placed.outer;
       linkage = omega (arith, linked, length-linkage_part (inner_statics parts) parts.links (first_expression_at (length parts.definitions)));
       symbol = omega (arith, marked, within.symbol, length-symbol_part parts.relocations);

@@ -5,8 +5,8 @@ use Rattle.alm_tokens.specs.declared.span.Span.{Span}
 use Rattle.alm_parse.specs.declared.line.Line36.{Line36}
 use Rattle.alm_lines.specs.Symbols.{same_name, sum_named, with_symbol}
 use Rattle.alm_lines.specs.Arguments.{name_at}
-use Rattle.alm_lines.specs.Spots.{start, here, below}
-use Rattle.alm_lines.specs.Layout.{with_labels, own_symbol, own_sum, with_own, symbols_with, labelled, symbols_after, symbols_from}
+use Rattle.alm_lines.specs.Spots.{start, here, next_line_spot}
+use Rattle.alm_lines.specs.Layout.{with_labels, defined_symbol, defined_symbol_sum, with_defined_symbol, symbols_with_defined, symbols_with_labels, symbols_after, symbols_from}
 use Rattle.alm_lines.specs.declared.sum.Sum.{Sum}
 use Rattle.alm_lines.specs.SpotFields.{LocationCounter}
 
@@ -37,15 +37,15 @@ labels_stay text name its sum symbols (span ∷ spans) e =
     labels_stay text name its sum (with_symbol symbols (name_at text span) its) spans (stays name symbols (name_at text span) its sum e)
 
 pub own_stays : (text name : List ℕ) (its sum : Sum) (symbols : List (List ℕ × Sum)) (own : Option Span) → sum_named name symbols ≡ Some sum
-    → sum_named name (with_own text symbols own its) ≡ Some sum
+    → sum_named name (with_defined_symbol text symbols own its) ≡ Some sum
 own_stays text name its sum symbols None e = e
 own_stays text name its sum symbols (Some span) e = stays name symbols (name_at text span) its sum e
 
 line_stays : (text name : List ℕ) (sum : Sum) (symbols : List (List ℕ × Sum)) (spot : LocationCounter) (line : Line36) → sum_named name symbols ≡ Some sum
     → sum_named name (symbols_after text symbols spot line) ≡ Some sum
-unfolding symbols_after symbols_with
+unfolding symbols_after symbols_with_defined
 line_stays text name sum symbols spot line e =
-    own_stays text name (own_sum text (labelled text symbols spot line) spot line line.deed) sum (labelled text symbols spot line) (own_symbol line.deed line.args)
+    own_stays text name (defined_symbol_sum text (symbols_with_labels text symbols spot line) spot line line.deed) sum (symbols_with_labels text symbols spot line) (defined_symbol line.deed line.args)
     (labels_stay text name (here spot) sum symbols line.labels e)
 
 pub lines_stay : (text name : List ℕ) (sum : Sum) (symbols : List (List ℕ × Sum)) (spot : LocationCounter) (lines : List Line36) → sum_named name symbols ≡ Some sum
@@ -53,14 +53,14 @@ pub lines_stay : (text name : List ℕ) (sum : Sum) (symbols : List (List ℕ ×
 unfolding symbols_from
 lines_stay text name sum symbols spot [] e = e
 lines_stay text name sum symbols spot (line ∷ lines) e =
-    lines_stay text name sum (symbols_after text symbols spot line) (below text spot line) lines (line_stays text name sum symbols spot line e)
+    lines_stay text name sum (symbols_after text symbols spot line) (next_line_spot text spot line) lines (line_stays text name sum symbols spot line e)
 
 stay_from : (text name : List ℕ) (sum : Sum) (symbols : List (List ℕ × Sum)) (spot : LocationCounter) (above lines : List Line36)
     → sum_named name (symbols_from text symbols spot above) ≡ Some sum → sum_named name (symbols_from text symbols spot (above ++ lines)) ≡ Some sum
 unfolding symbols_from
 stay_from text name sum symbols spot [] lines e = lines_stay text name sum symbols spot lines e
 stay_from text name sum symbols spot (line ∷ above) lines e =
-    stay_from text name sum (symbols_after text symbols spot line) (below text spot line) above lines e
+    stay_from text name sum (symbols_after text symbols spot line) (next_line_spot text spot line) above lines e
 
 pub symbols_stay : (text : List ℕ) (above lines : List Line36) (name : List ℕ) (sum : Sum) → sum_named name (symbols_from text [] start above) ≡ Some sum
     → sum_named name (symbols_from text [] start (above ++ lines)) ≡ Some sum

@@ -10,20 +10,20 @@ use Rattle.obj36_parts.specs.declared.section.Section.TheVariants.{Text}
 use Rattle.obj36_parts.specs.declared.definition.Named.{Named}
 use Rattle.obj36_parts.specs.Fields.{LinkFields, RelocFields}
 use Rattle.obj36_parts.specs.PartsFields.{PartsFields}
-use Rattle.obj36_parts.specs.Sections.{place_number}
-use Rattle.obj36_parts.specs.ObjectSegment.{is_newer, version_of, inner_statics, outer_statics, words_of, definition_names, are_distinct, is_definition, is_link, is_relocation, are_rising, is_well_formed}
+use Rattle.obj36_parts.specs.Sections.{section_number}
+use Rattle.obj36_parts.specs.ObjectSegment.{is_newer, version_of, inner_statics, outer_statics, words_of, definition_names, are_distinct, is_valid_definition, is_valid_link, is_valid_relocation, are_rising, is_well_formed}
 use Rattle.obj36_parts.proofs.Formed.{is_formed}
 use Rattle.obj36_parts.proofs.LengthLaws.{length-words_of, least_size}
-use Rattle.alm_lines.specs.Spots.{start, count_in, below, end_of}
+use Rattle.alm_lines.specs.Spots.{start, count_in, next_line_spot, end_of}
 use Rattle.alm_asm.specs.Links.{links_from}
 use Rattle.alm_asm.specs.Words.{words_from}
-use Rattle.alm_asm.specs.Relocations.{marks_from}
+use Rattle.alm_asm.specs.Relocations.{relocations_from}
 use Rattle.alm_lines.specs.Layout.{symbols_from}
 use Rattle.alm_asm.specs.Definitions.{definitions_from}
 use Rattle.alm_asm.specs.LineRefusals.{lines_refusal}
 use Rattle.alm_asm.proofs.Unrefused.{no_lines_refusal}
-use Rattle.alm_asm.specs.Assembly.{tables_of, bound_by, bound_from, static_section, evened, parts_with, parts_of, refusal_of}
-use Rattle.alm_asm.specs.Laws.{holds_words, lines_are_named}
+use Rattle.alm_asm.specs.Assembly.{tables_of, bound_after_line, bound_from, static_section, evened, parts_with, parts_of, refusal_of}
+use Rattle.alm_asm.specs.Laws.{can_have_words, lines_are_named}
 use Rattle.alm_lines.specs.declared.sum.Sum.{Sum}
 use Rattle.alm_lines.specs.SpotFields.{LocationCounter}
 use Rattle.alm_asm.specs.declared.tables.Tables.{Tables}
@@ -45,10 +45,10 @@ made_of newer text statics definitions links marks bound =
 record AreGood (newer : Bool) (p : PartsFields) : Type 0 where
   bound : leb p.entry_bound (length p.text) ≡ true
   even : (is_newer p || eqb (length p.statics % 2) 0) ≡ true
-  definitions : list_all (is_definition p.version) p.definitions ≡ true
+  definitions : list_all (is_valid_definition p.version) p.definitions ≡ true
   distinct : are_distinct (definition_names p.definitions) ≡ true
-  links : list_all (is_link p.version) p.links ≡ true
-  relocations : list_all (is_relocation (length p.text) (length (inner_statics p)) (length (outer_statics p)) p.version) p.relocations ≡ true
+  links : list_all (is_valid_link p.version) p.links ≡ true
+  relocations : list_all (is_valid_relocation (length p.text) (length (inner_statics p)) (length (outer_statics p)) p.version) p.relocations ≡ true
   rising : are_rising 0 3 p.relocations ≡ true
 
 all_of : (a b c d e f g h i : Bool) → a ≡ true → b ≡ true → c ≡ true → d ≡ true → e ≡ true → f ≡ true → g ≡ true → h ≡ true → i ≡ true
@@ -66,8 +66,8 @@ formed : (newer : Bool) (text statics : List ℕ) (definitions : List Named) (li
 unfolding is_well_formed
 formed newer text statics definitions links marks bound size good =
     let p = made_of newer text statics definitions links marks bound in
-    all_of (eqb (version_of newer) 1 || eqb (version_of newer) 2) (leb (length (words_of p)) (2 ^ 18)) (leb bound (length text)) (is_newer p || eqb (length statics % 2) 0) (list_all (is_definition (version_of newer)) definitions) (are_distinct (definition_names definitions)) (list_all (is_link (version_of newer)) links)
-    (list_all (is_relocation (length text) (length (inner_statics p)) (length (outer_statics p)) (version_of newer)) marks) (are_rising 0 3 marks)
+    all_of (eqb (version_of newer) 1 || eqb (version_of newer) 2) (leb (length (words_of p)) (2 ^ 18)) (leb bound (length text)) (is_newer p || eqb (length statics % 2) 0) (list_all (is_valid_definition (version_of newer)) definitions) (are_distinct (definition_names definitions)) (list_all (is_valid_link (version_of newer)) links)
+    (list_all (is_valid_relocation (length text) (length (inner_statics p)) (length (outer_statics p)) (version_of newer)) marks) (are_rising 0 3 marks)
     (version_good newer) size good.bound good.even good.definitions good.distinct good.links good.relocations good.rising
 
 by_size : (p : PartsFields) (b : Bool) → leb (length (words_of p)) (2 ^ 18) ≡ b → (b ≡ true → is_well_formed p ≡ true) → is_well_formed p ≡ b
@@ -80,7 +80,7 @@ by_size p false e good = by (is_well_formed p) refl
 
 -- ---- the entry bound
 
-bound_kept : (spot : LocationCounter) (bound : ℕ) (d : LineEffect) → bound ≤ spot.text → bound_by spot bound d ≤ spot.text
+bound_kept : (spot : LocationCounter) (bound : ℕ) (d : LineEffect) → bound ≤ spot.text → bound_after_line spot bound d ≤ spot.text
 bound_kept spot bound deed.Nothing h = h
 bound_kept spot bound (deed.Instruction code bit27) h = h
 bound_kept spot bound deed.Entry h = h
@@ -98,8 +98,8 @@ unfolding bound_from end_of
 bound_good text tables bound spot [] h = h
 bound_good text tables bound spot (line ∷ lines) h =
     let kept = bound_kept spot bound line.deed h in
-    let grown : spot.text ≤ (below text spot line).text = grows Text text tables spot line refl in
-    bound_good text tables (bound_by spot bound line.deed) (below text spot line) lines (omega arith)
+    let plus_words : spot.text ≤ (next_line_spot text spot line).text = grows Text text tables spot line refl in
+    bound_good text tables (bound_after_line spot bound line.deed) (next_line_spot text spot line) lines (omega arith)
 
 -- ---- static words
 
@@ -133,11 +133,11 @@ static_room : (newer : Bool) (text statics : List ℕ) (definitions : List Named
 static_room true text statics definitions links marks bound = refl
 static_room false text statics definitions links marks bound = refl
 
-pub static_holds : (newer : Bool) → holds_words (static_section newer) ≡ true
+pub static_holds : (newer : Bool) → can_have_words (static_section newer) ≡ true
 static_holds true = refl
 static_holds false = refl
 
-text_first : (newer : Bool) (n : ℕ) → n < 2 ^ 18 → place_number Text * 2 ^ 18 + n ≤ word_number (static_section newer) start
+text_first : (newer : Bool) (n : ℕ) → n < 2 ^ 18 → section_number Text * 2 ^ 18 + n ≤ word_number (static_section newer) start
 text_first true n h = omega arith
 text_first false n h = omega arith
 
@@ -163,10 +163,10 @@ module _ (text : List ℕ) (tables : Tables) (lines : List Line36) (uses : (end_
   definitions = definitions_from text tables.symbols [] lines
 
   abbrev of_text : List RelocFields
-  of_text = marks_from text tables.symbols Text [] start lines
+  of_text = relocations_from text tables.symbols Text [] start lines
 
   abbrev marks : List RelocFields
-  marks = marks_from text tables.symbols (static_section tables.uses_outer) of_text start lines
+  marks = relocations_from text tables.symbols (static_section tables.uses_outer) of_text start lines
 
   abbrev bound : ℕ
   bound = bound_from text 0 start lines
@@ -209,7 +209,7 @@ module _ (text : List ℕ) (tables : Tables) (lines : List Line36) (uses : (end_
         even = statics_even newer statics words definitions tables.links marks bound;
         definitions = definitions_good newer text tables.symbols [] lines fit names refl;
         distinct = distinct text tables [] start lines none no_names;
-        links = subst (λ (l : List LinkFields). list_all (is_link (version_of newer)) l ≡ true) links (links_good text tables [] [] start lines none names refl);
+        links = subst (λ (l : List LinkFields). list_all (is_valid_link (version_of newer)) l ≡ true) links (links_good text tables [] [] start lines none names refl);
         relocations = good.all;
         rising = good.order.rising;
       }

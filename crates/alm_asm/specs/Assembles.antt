@@ -21,8 +21,8 @@ use Rattle.alm_lines.specs.Symbols.{sum_named}
 use Rattle.alm_lines.specs.Arguments.{name_at, first_arg, symbol_in, section_in}
 use Rattle.alm_lines.specs.Spots.{start, count_in, here, end_of}
 use Rattle.alm_asm.specs.Links.{operand_args, link_in, links_from}
-use Rattle.alm_asm.specs.Words.{words_by}
-use Rattle.alm_lines.specs.Layout.{own_symbol, own_sum, labelled, symbols_from}
+use Rattle.alm_asm.specs.Words.{words_of_effect}
+use Rattle.alm_lines.specs.Layout.{defined_symbol, defined_symbol_sum, symbols_with_labels, symbols_from}
 use Rattle.alm_asm.specs.Definitions.{definitions_from}
 use Rattle.alm_asm.specs.LineRefusals.{is_static}
 use Rattle.alm_asm.specs.Assembly.{tables_of, static_section, relocations_of}
@@ -35,15 +35,15 @@ use Rattle.alm_parse.specs.declared.deed.LineEffect.TheVariants as deed
 -- ---- terms of the relation
 
 -- The words `part` are a part of `words`, directly after the first `count` of these.
-pub record FollowsAt (count : ℕ) (part words : List ℕ) : Type 0 where
+pub record OccursAfter (count : ℕ) (part words : List ℕ) : Type 0 where
   pub front : List ℕ
   pub rest : List ℕ
   pub whole : words ≡ front ++ part ++ rest
   pub place : length front ≡ count
 
 -- the place of the line after some others
-abbrev pub spot_below : Source → List Line36 → LocationCounter
-spot_below source above = end_of source.text start above
+abbrev pub spot_after : Source → List Line36 → LocationCounter
+spot_after source above = end_of source.text start above
 
 -- the lines of a source are those above a line, the line, and the others
 abbrev pub IsSplit : Source → List Line36 → Line36 → List Line36 → Type 0
@@ -51,13 +51,13 @@ IsSplit source above line others = source.lines ≡ above ++ line ∷ others
 
 -- the tables of a source: its symbols with their sums, its links, and where links and static words
 -- are
-abbrev pub meaning_of : Source → Tables
-meaning_of source = tables_of source.text source.lines
+abbrev pub tables_of_source : Source → Tables
+tables_of_source source = tables_of source.text source.lines
 
 -- the words that a line places: its instruction, numbers, characters, halves or zeros
 abbrev pub words_placed : Source → List Line36 → Line36 → List ℕ
 words_placed source above line =
-    words_by source.text (meaning_of source) (spot_below source above) line.args line.deed
+    words_of_effect source.text (tables_of_source source) (spot_after source above) line.args line.deed
 
 -- whether the operation is `use` and this section, which it selects, is the static one
 abbrev pub enters_static : LineEffect → Section → Bool
@@ -79,22 +79,22 @@ is_use_static text line =
     enters_static line.deed (section_in text (symbol_in (first_arg line.args)))
 
 -- whether an operation is `entrybound`
-abbrev pub is_bound : LineEffect → Bool
-is_bound deed.Nothing = false
-is_bound (deed.Instruction code bit27) = false
-is_bound deed.Entry = false
-is_bound deed.Segdef = false
-is_bound deed.Equ = false
-is_bound deed.Use = false
-is_bound deed.Words = false
-is_bound deed.Zero = false
-is_bound deed.Block = false
-is_bound deed.Even = false
-is_bound deed.Bound = true
+abbrev pub is_entrybound_effect : LineEffect → Bool
+is_entrybound_effect deed.Nothing = false
+is_entrybound_effect (deed.Instruction code bit27) = false
+is_entrybound_effect deed.Entry = false
+is_entrybound_effect deed.Segdef = false
+is_entrybound_effect deed.Equ = false
+is_entrybound_effect deed.Use = false
+is_entrybound_effect deed.Words = false
+is_entrybound_effect deed.Zero = false
+is_entrybound_effect deed.Block = false
+is_entrybound_effect deed.Even = false
+is_entrybound_effect deed.Bound = true
 
 -- whether a line is `entrybound`
 unfoldable pub is_entrybound : Line36 → Bool
-is_entrybound line = is_bound line.deed
+is_entrybound line = is_entrybound_effect line.deed
 
 -- ---- the relation
 
@@ -102,66 +102,66 @@ is_entrybound line = is_bound line.deed
 abbrev pub SectionsAreOneKind : Source → Type 0
 SectionsAreOneKind source =
     (above : List Line36) (line : Line36) (others : List Line36) → IsSplit source above line others
-    → ((spot_below source above).section ≡ Text) ⊎
-    ((spot_below source above).section ≡ static_section (meaning_of source).uses_outer)
+    → ((spot_after source above).section ≡ Text) ⊎
+    ((spot_after source above).section ≡ static_section (tables_of_source source).uses_outer)
 
 -- The words of each line of a section are in the words of the section, after those that the lines
 -- above it place there.
-abbrev pub PlacesIn : Source → Section → List ℕ → Type 0
-PlacesIn source section words =
+abbrev pub PlacesWordsIn : Source → Section → List ℕ → Type 0
+PlacesWordsIn source section words =
     (above : List Line36) (line : Line36) (others : List Line36) → IsSplit source above line others
-    → (spot_below source above).section ≡ section
-    → FollowsAt (count_in section (spot_below source above)) (words_placed source above line)
+    → (spot_after source above).section ≡ section
+    → OccursAfter (count_in section (spot_after source above)) (words_placed source above line)
     words
 
--- `PlacesIn` holds of the text.
+-- `PlacesWordsIn` holds of the text.
 abbrev pub PlacesText : Source → PartsFields → Type 0
-PlacesText source parts = PlacesIn source Text parts.text
+PlacesText source parts = PlacesWordsIn source Text parts.text
 
--- `PlacesIn` holds of the static words, in the section that has them.
+-- `PlacesWordsIn` holds of the static words, in the section that has them.
 abbrev pub PlacesStatics : Source → PartsFields → Type 0
 PlacesStatics source parts =
-    PlacesIn source (static_section (meaning_of source).uses_outer) parts.statics
+    PlacesWordsIn source (static_section (tables_of_source source).uses_outer) parts.statics
 
 -- The number of static words of an object, of which lines place n. In version 1, which is false
 -- here, it is rounded up to an even number.
-abbrev pub evened_count : Bool → ℕ → ℕ
-evened_count true n = n
-evened_count false n = evened n
+abbrev pub padded_static_count : Bool → ℕ → ℕ
+padded_static_count true n = n
+padded_static_count false n = evened n
 
 -- the words after the n static words that lines place: in version 1 a zero word if n is odd
-abbrev pub evening_words : Bool → ℕ → List ℕ
-evening_words true n = []
-evening_words false n = replicate (n % 2) 0
+abbrev pub padding_words : Bool → ℕ → List ℕ
+padding_words true n = []
+padding_words false n = replicate (n % 2) 0
 
 -- the number of static words that the lines place
 abbrev pub static_count : Source → ℕ
 static_count source =
-    count_in (static_section (meaning_of source).uses_outer) (spot_below source source.lines)
+    count_in (static_section (tables_of_source source).uses_outer) (spot_after source source.lines)
 
 -- The sum of each label is the place of its line.
-abbrev pub LabelsMean : Source → Type 0
-LabelsMean source =
+abbrev pub LabelSumsAreTheirPlaces : Source → Type 0
+LabelSumsAreTheirPlaces source =
     (above : List Line36) (line : Line36) (others : List Line36) → IsSplit source above line others
     → (before : List Span) (span : Span) (after : List Span) → line.labels ≡ before ++ span ∷ after
-    → sum_named (name_at source.text span) (meaning_of source).symbols
-    ≡ Some (here (spot_below source above))
+    → sum_named (name_at source.text span) (tables_of_source source).symbols
+    ≡ Some (here (spot_after source above))
 
 -- the symbols that are defined above the operation of a line: those of the lines above, and its
 -- labels
-abbrev pub above_line : Source → List Line36 → Line36 → List (List ℕ × Sum)
-above_line source above line =
-    labelled source.text (symbols_from source.text [] start above) (spot_below source above) line
+abbrev pub symbols_above : Source → List Line36 → Line36 → List (List ℕ × Sum)
+symbols_above source above line =
+    symbols_with_labels source.text (symbols_from source.text [] start above) (spot_after source above) line
 
 -- The sum of the symbol of each `equ` is its number by the symbols above, and that of each `bss` is
 -- the place of its line.
-abbrev pub OwnMean : Source → Type 0
-OwnMean source =
+abbrev pub DefinedSymbolSums : Source → Type 0
+DefinedSymbolSums source =
     (above : List Line36) (line : Line36) (others : List Line36) → IsSplit source above line others
-    → (span : Span) → own_symbol line.deed line.args ≡ Some span
-    → sum_named (name_at source.text span) (meaning_of source).symbols
+    → (span : Span) → defined_symbol line.deed line.args ≡ Some span
+    → sum_named (name_at source.text span) (tables_of_source source).symbols
     ≡ Some
-    (own_sum source.text (above_line source above line) (spot_below source above) line line.deed)
+    (defined_symbol_sum source.text (symbols_above source above line) (spot_after source above) line line.deed)
 
 -- whether an operand is external
 abbrev pub is_external : Option Arg → Bool
@@ -178,48 +178,48 @@ HasEachLink source parts =
     (above : List Line36) (line : Line36) (others : List Line36) → IsSplit source above line others
     → is_external (first_arg (operand_args line.deed line.args)) ≡ true
     → (link : LinkFields)
-    × (link_in source.text (meaning_of source).symbols (spot_below source above)
+    × (link_in source.text (tables_of_source source).symbols (spot_after source above)
     (first_arg (operand_args line.deed line.args))
     ≡ Some link)
     × (has_link link parts.links ≡ true)
 
 -- No two links are the same.
-unfoldable pub are_apart : List LinkFields → Bool
-are_apart links = are_distinct_by same_link links
+unfoldable pub are_distinct_links : List LinkFields → Bool
+are_distinct_links links = are_distinct_by same_link links
 
 -- The entry bound is the place in the text of the last `entrybound` line, if there is one.
-abbrev pub BoundIs : Source → PartsFields → Type 0
-BoundIs source parts =
+abbrev pub EntryBoundIsLast : Source → PartsFields → Type 0
+EntryBoundIsLast source parts =
     (above : List Line36) (line : Line36) (others : List Line36) → IsSplit source above line others
     → is_entrybound line ≡ true
-    → list_any (is_entrybound) others ≡ false → parts.entry_bound ≡ (spot_below source above).text
+    → list_any (is_entrybound) others ≡ false → parts.entry_bound ≡ (spot_after source above).text
 
 -- The parts are the object of the lines.
 pub record Assembles (source : Source) (parts : PartsFields) : Type 0 where
   pub sections : SectionsAreOneKind source
   pub text : PlacesText source parts
   pub statics : PlacesStatics source parts
-  pub text_length : length parts.text ≡ (spot_below source source.lines).text
+  pub text_length : length parts.text ≡ (spot_after source source.lines).text
   pub statics_length :
-      length parts.statics ≡ evened_count (meaning_of source).uses_outer (static_count source)
+      length parts.statics ≡ padded_static_count (tables_of_source source).uses_outer (static_count source)
   pub evening :
-      FollowsAt (static_count source)
-      (evening_words (meaning_of source).uses_outer (static_count source)) parts.statics
-  pub labels : LabelsMean source
-  pub own : OwnMean source
+      OccursAfter (static_count source)
+      (padding_words (tables_of_source source).uses_outer (static_count source)) parts.statics
+  pub labels : LabelSumsAreTheirPlaces source
+  pub own : DefinedSymbolSums source
   pub links : HasEachLink source parts
   pub links_in_order :
-      parts.links ≡ links_from source.text (meaning_of source).symbols [] start source.lines
-  pub links_apart : are_apart parts.links ≡ true
+      parts.links ≡ links_from source.text (tables_of_source source).symbols [] start source.lines
+  pub links_apart : are_distinct_links parts.links ≡ true
   -- operands refer to the links where the object has them
-  pub links_at : (meaning_of source).first_link ≡ first_link parts
+  pub links_at : (tables_of_source source).first_link ≡ first_link parts
   pub definitions :
-      parts.definitions ≡ definitions_from source.text (meaning_of source).symbols [] source.lines
+      parts.definitions ≡ definitions_from source.text (tables_of_source source).symbols [] source.lines
   pub distinct : are_distinct (definition_names parts.definitions) ≡ true
   pub relocations :
-      parts.relocations ≡ relocations_of source.text (meaning_of source) source.lines
+      parts.relocations ≡ relocations_of source.text (tables_of_source source) source.lines
   pub rising : are_in_order parts.relocations ≡ true
-  pub bound : BoundIs source parts
+  pub bound : EntryBoundIsLast source parts
   pub unbound : list_any (is_entrybound) source.lines ≡ false → parts.entry_bound ≡ 0
   pub version : parts.version ≡ version_of (list_any (is_use_static source.text) source.lines)
   pub fits : sections_fit parts ≡ true

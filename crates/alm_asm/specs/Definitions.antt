@@ -13,7 +13,7 @@ use Rattle.alm_lines.specs.Sums.{half_of, kind_of}
 use Rattle.alm_lines.specs.Symbols.{sum_named}
 use Rattle.alm_lines.specs.Arguments.{name_at}
 use Rattle.alm_lines.specs.Expressions.{symbol_sum}
-use Rattle.alm_lines.specs.Refusals.{sooner, refusal_at, has_room}
+use Rattle.alm_lines.specs.Refusals.{earlier_refusal, refusal_at, fits_field}
 use Rattle.alm_lines.specs.declared.sum.Sum.{Sum}
 use Rattle.alm_lines.specs.declared.sum.Kind.{Kind}
 use Rattle.alm_lines.specs.declared.sum.Kind.TheVariants.{Absolute, Moved, Inexpressible}
@@ -33,8 +33,8 @@ section_of (Moved section) = section
 section_of Inexpressible = Text
 
 -- the definition of a name, with the section and the value of its symbol
-unfoldable pub named : List ℕ → List (List ℕ × Sum) → Bool → Span → Named
-named text symbols is_entry span =
+unfoldable pub definition_of_name : List ℕ → List (List ℕ × Sum) → Bool → Span → Named
+definition_of_name text symbols is_entry span =
     let sum = symbol_sum text symbols span in
     record {
       name = name_at text span;
@@ -46,44 +46,44 @@ named text symbols is_entry span =
     }
 
 -- the definition that an argument gives; only a symbol gives one
-abbrev pub named_by : List ℕ → List (List ℕ × Sum) → Bool → Arg → List Named
-named_by text symbols is_entry (arg.Symbol span) = named text symbols is_entry span ∷ []
-named_by text symbols is_entry (arg.Number word) = []
-named_by text symbols is_entry (arg.Chars words) = []
-named_by text symbols is_entry (arg.Plain terms) = []
-named_by text symbols is_entry (arg.Operand pr segment entry terms tag) = []
+abbrev pub definition_of_arg : List ℕ → List (List ℕ × Sum) → Bool → Arg → List Named
+definition_of_arg text symbols is_entry (arg.Symbol span) = definition_of_name text symbols is_entry span ∷ []
+definition_of_arg text symbols is_entry (arg.Number word) = []
+definition_of_arg text symbols is_entry (arg.Chars words) = []
+definition_of_arg text symbols is_entry (arg.Plain terms) = []
+definition_of_arg text symbols is_entry (arg.Operand pr segment entry terms tag) = []
 
 -- the definitions `done`, with those of the arguments
 unfoldable pub with_names : List ℕ → List (List ℕ × Sum) → Bool → List Named → List Arg → List Named
 with_names text symbols is_entry done [] = done
 with_names text symbols is_entry done (arg ∷ arguments) =
-    with_names text symbols is_entry (done ++ named_by text symbols is_entry arg) arguments
+    with_names text symbols is_entry (done ++ definition_of_arg text symbols is_entry arg) arguments
 
 -- whether a line defines names (`Some`), and if so whether they are entries
-abbrev pub gives_entries : LineEffect → Option Bool
-gives_entries deed.Nothing = None
-gives_entries (deed.Instruction code bit27) = None
-gives_entries deed.Entry = Some true
-gives_entries deed.Segdef = Some false
-gives_entries deed.Equ = None
-gives_entries deed.Use = None
-gives_entries deed.Words = None
-gives_entries deed.Zero = None
-gives_entries deed.Block = None
-gives_entries deed.Even = None
-gives_entries deed.Bound = None
+abbrev pub defines_entries : LineEffect → Option Bool
+defines_entries deed.Nothing = None
+defines_entries (deed.Instruction code bit27) = None
+defines_entries deed.Entry = Some true
+defines_entries deed.Segdef = Some false
+defines_entries deed.Equ = None
+defines_entries deed.Use = None
+defines_entries deed.Words = None
+defines_entries deed.Zero = None
+defines_entries deed.Block = None
+defines_entries deed.Even = None
+defines_entries deed.Bound = None
 
 -- the definitions `done`, with those of the arguments if their line defines names
-abbrev pub definitions_by : List ℕ → List (List ℕ × Sum) → List Named → List Arg → Option Bool
+abbrev pub definitions_if_any : List ℕ → List (List ℕ × Sum) → List Named → List Arg → Option Bool
     → List Named
-definitions_by text symbols done arguments None = done
-definitions_by text symbols done arguments (Some is_entry) =
+definitions_if_any text symbols done arguments None = done
+definitions_if_any text symbols done arguments (Some is_entry) =
     with_names text symbols is_entry done arguments
 
 -- the definitions `done`, with those of a line
 unfoldable pub definitions_after : List ℕ → List (List ℕ × Sum) → List Named → Line36 → List Named
 definitions_after text symbols done line =
-    definitions_by text symbols done line.args (gives_entries line.deed)
+    definitions_if_any text symbols done line.args (defines_entries line.deed)
 
 -- the definitions of the lines, after those so far
 unfoldable pub definitions_from : List ℕ → List (List ℕ × Sum) → List Named → List Line36
@@ -95,8 +95,8 @@ definitions_from text symbols done (line ∷ lines) =
 -- ---- refusals of definitions
 
 -- whether a name has a definition already
-unfoldable pub is_taken : List Named → List ℕ → Bool
-is_taken done name = has_definition name done
+unfoldable pub is_defined_name : List Named → List ℕ → Bool
+is_defined_name done name = has_definition name done
 
 -- Whether a name can be defined for a symbol of this kind: an entry must be a place of the text,
 -- another definition a place of any section.
@@ -111,7 +111,7 @@ is_label_kind is_entry Inexpressible = false
 -- whether a name can be defined for a symbol with this sum: it is such a place, and its value fits
 -- half a word
 unfoldable pub is_label : Bool → Sum → Bool
-is_label is_entry sum = has_room Half sum.value && is_label_kind is_entry (kind_of sum)
+is_label is_entry sum = fits_field Half sum.value && is_label_kind is_entry (kind_of sum)
 
 -- E7 at the index `at`, unless a name can be defined for the symbol, which the last argument says
 abbrev pub label_refusal : Line36 → ℕ → Bool → Option AlmRefusal
@@ -125,16 +125,16 @@ sum_refusal line at is_entry (Some sum) = label_refusal line at (is_label is_ent
 
 -- E5 for a name that has a definition already, which the last argument says, and otherwise as
 -- `sum_refusal`
-abbrev pub taken_refusal : Line36 → ℕ → Bool → Option Sum → Bool → Option AlmRefusal
-taken_refusal line at is_entry sum true = Some (refusal_at line at E5)
-taken_refusal line at is_entry sum false = sum_refusal line at is_entry sum
+abbrev pub redefined_refusal : Line36 → ℕ → Bool → Option Sum → Bool → Option AlmRefusal
+redefined_refusal line at is_entry sum true = Some (refusal_at line at E5)
+redefined_refusal line at is_entry sum false = sum_refusal line at is_entry sum
 
 -- the refusal of a name that a line defines, given the definitions above it, if it is refused
 unfoldable pub name_refusal : List ℕ → List (List ℕ × Sum) → Line36 → Bool → List Named → Span
     → Option AlmRefusal
 name_refusal text symbols line is_entry done span =
-    taken_refusal line span.from is_entry (sum_named (name_at text span) symbols)
-    (is_taken done (name_at text span))
+    redefined_refusal line span.from is_entry (sum_named (name_at text span) symbols)
+    (is_defined_name done (name_at text span))
 
 -- the refusal of an argument as a name that a line defines; only symbols are names
 abbrev pub arg_refusal : List ℕ → List (List ℕ × Sum) → Line36 → Bool → List Named → Arg
@@ -148,17 +148,17 @@ arg_refusal text symbols line is_entry done (arg.Operand pr segment entry terms 
 
 -- the first in the text of `first` and the refusals of these arguments, each given the definitions
 -- of those before it
-unfoldable pub names_refused : List ℕ → List (List ℕ × Sum) → Line36 → Bool → List Named
+unfoldable pub names_refusal : List ℕ → List (List ℕ × Sum) → Line36 → Bool → List Named
     → Option AlmRefusal → List Arg → Option AlmRefusal
-names_refused text symbols line is_entry done first [] = first
-names_refused text symbols line is_entry done first (arg ∷ arguments) =
-    names_refused text symbols line is_entry (done ++ named_by text symbols is_entry arg)
-    (sooner first (arg_refusal text symbols line is_entry done arg)) arguments
+names_refusal text symbols line is_entry done first [] = first
+names_refusal text symbols line is_entry done first (arg ∷ arguments) =
+    names_refusal text symbols line is_entry (done ++ definition_of_arg text symbols is_entry arg)
+    (earlier_refusal first (arg_refusal text symbols line is_entry done arg)) arguments
 
--- As `names_refused`, for a line that may define no names, which the last argument says. Then only
+-- As `names_refusal`, for a line that may define no names, which the last argument says. Then only
 -- `first` can refuse it.
-abbrev pub definitions_refused : List ℕ → List (List ℕ × Sum) → Line36 → List Named → Option AlmRefusal
+abbrev pub definitions_refusal : List ℕ → List (List ℕ × Sum) → Line36 → List Named → Option AlmRefusal
     → List Arg → Option Bool → Option AlmRefusal
-definitions_refused text symbols line done first arguments None = first
-definitions_refused text symbols line done first arguments (Some is_entry) =
-    names_refused text symbols line is_entry done first arguments
+definitions_refusal text symbols line done first arguments None = first
+definitions_refusal text symbols line done first arguments (Some is_entry) =
+    names_refusal text symbols line is_entry done first arguments

@@ -9,20 +9,20 @@ use Rattle.alm_parse.specs.declared.args.Arg.{Arg}
 use Rattle.alm_parse.specs.declared.args.Arg.TheVariants as arg
 use Rattle.alm_parse.specs.declared.line.Line36.{Line36}
 use Rattle.obj36_parts.specs.Fields.{LinkFields}
-use Rattle.obj36_parts.specs.Names.{name_length}
-use Rattle.obj36_parts.specs.ObjectSegment.{definition_head, symbol_head, link_names}
+use Rattle.obj36_parts.specs.Names.{name_size}
+use Rattle.obj36_parts.specs.ObjectSegment.{definition_head_words, symbol_head_words, link_names}
 use Rattle.obj36_parts.specs.ObjectSegment.{linkage_length}
 use Rattle.obj36_parts.specs.Indexes.{has_link}
-use Rattle.alm_lines.specs.Sums.{no_sum, kind_of}
+use Rattle.alm_lines.specs.Sums.{zero_sum, kind_of}
 use Rattle.alm_lines.specs.Symbols.{sum_named, with_symbol}
 use Rattle.alm_lines.specs.Arguments.{name_at, first_arg, second_arg, terms_in}
-use Rattle.alm_lines.specs.Spots.{below}
+use Rattle.alm_lines.specs.Spots.{next_line_spot}
 use Rattle.alm_lines.specs.Refusals.{refusal_at, has_value, is_over_limit}
 use Rattle.alm_asm.specs.Links.{operand_args, link_in}
 use Rattle.alm_lines.specs.Expressions.{sum_of}
 use Rattle.alm_asm.specs.Relocations.{operand_kind}
-use Rattle.alm_asm.specs.Definitions.{gives_entries, sum_refusal}
-use Rattle.alm_asm.specs.LineRefusals.{own_room}
+use Rattle.alm_asm.specs.Definitions.{defines_entries, sum_refusal}
+use Rattle.alm_asm.specs.LineRefusals.{internal_operand_field}
 use Rattle.alm_lines.specs.declared.sum.Sum.{Sum}
 use Rattle.alm_lines.specs.declared.sum.Kind.{Kind}
 use Rattle.alm_lines.specs.declared.sum.Kind.TheVariants.{Absolute, Moved, Inexpressible}
@@ -37,13 +37,13 @@ use Rattle.alm_lines.specs.declared.refusal.AlmRefusal.{AlmRefusal}
 
 -- The sizes before the first line. The definition section has its two first words, and the symbol
 -- section the number of relocations.
-abbrev pub at_first : Growth
-at_first = record {
+abbrev pub first_growth : Growth
+first_growth = record {
   names = [];
   defined = [];
   links = [];
-  definition = definition_head;
-  symbol = symbol_head;
+  definition = definition_head_words;
+  symbol = symbol_head_words;
 }
 
 -- ---- names
@@ -53,7 +53,7 @@ unfoldable pub with_name : Growth → List ℕ → Growth
 with_name g name =
     if is_some (sum_named name g.names) then g
     else record g
-    { names = with_symbol g.names name no_sum; definition = g.definition + name_length name }
+    { names = with_symbol g.names name zero_sum; definition = g.definition + name_size name }
 
 -- the sizes with several names
 unfoldable pub with_names : Growth → List (List ℕ) → Growth
@@ -67,17 +67,17 @@ unfoldable pub with_definition : Growth → List ℕ → Growth
 with_definition g name =
     if is_some (sum_named name g.defined) then g
     else with_name
-    (record g { defined = with_symbol g.defined name no_sum; definition = g.definition + 2 }) name
+    (record g { defined = with_symbol g.defined name zero_sum; definition = g.definition + 2 }) name
 
 -- the sizes with a definition of `entry` or `segdef`, unless it is refused
-abbrev pub with_unrefused : Option AlmRefusal → Growth → List ℕ → Growth
-with_unrefused (Some refusal) g name = g
-with_unrefused None g name = with_definition g name
+abbrev pub with_definition_unless_refused : Option AlmRefusal → Growth → List ℕ → Growth
+with_definition_unless_refused (Some refusal) g name = g
+with_definition_unless_refused None g name = with_definition g name
 
 -- the sizes with the definition of an argument; only a symbol gives one
 abbrev pub with_arg : List ℕ → List (List ℕ × Sum) → Line36 → Bool → Growth → Arg → Growth
 with_arg text symbols line is_entry g (arg.Symbol span) =
-    with_unrefused (sum_refusal line span.from is_entry (sum_named (name_at text span) symbols)) g
+    with_definition_unless_refused (sum_refusal line span.from is_entry (sum_named (name_at text span) symbols)) g
     (name_at text span)
 with_arg text symbols line is_entry g (arg.Number word) = g
 with_arg text symbols line is_entry g (arg.Chars words) = g
@@ -110,29 +110,29 @@ unfoldable pub with_link_once : Growth → LinkFields → Growth
 with_link_once g link = if has_link link g.links then g else with_new_link g link
 
 -- the sizes with the link of an operand, if it has one
-abbrev pub with_link_given : Growth → Option LinkFields → Growth
-with_link_given g None = g
-with_link_given g (Some link) = with_link_once g link
+abbrev pub with_link_if_any : Growth → Option LinkFields → Growth
+with_link_if_any g None = g
+with_link_if_any g (Some link) = with_link_once g link
 
 -- ---- relocations
 
 -- The number of relocations of an expression: 1 if it is a place of a section and has a value,
 -- which the first argument says, and otherwise 0.
-abbrev pub mark_count : Bool → Kind → ℕ
-mark_count valued Absolute = 0
-mark_count valued (Moved section) = if valued then 1 else 0
-mark_count valued Inexpressible = 0
+abbrev pub relocation_count : Bool → Kind → ℕ
+relocation_count valued Absolute = 0
+relocation_count valued (Moved section) = if valued then 1 else 0
+relocation_count valued Inexpressible = 0
 
 -- The field that the expression of an operand must fit. After an external name it is a half.
-abbrev pub operand_room : Option ℕ → Option Span → ValueField
-operand_room pr (Some segment) = Half
-operand_room pr None = own_room pr
+abbrev pub operand_field : Option ℕ → Option Span → ValueField
+operand_field pr (Some segment) = Half
+operand_field pr None = internal_operand_field pr
 
 -- Whether the expression of an operand may be a place of a section: after an external name it must
 -- be a number.
-abbrev pub is_own : Option Span → Bool
-is_own (Some segment) = false
-is_own None = true
+abbrev pub is_internal : Option Span → Bool
+is_internal (Some segment) = false
+is_internal None = true
 
 -- the number of relocations of the operand of an instruction: 0 or 1
 abbrev pub operand_count : List ℕ → List (List ℕ × Sum) → LocationCounter → Option Arg → ℕ
@@ -141,53 +141,53 @@ operand_count text symbols spot (Some (arg.Number word)) = 0
 operand_count text symbols spot (Some (arg.Chars words)) = 0
 operand_count text symbols spot (Some (arg.Plain terms)) = 0
 operand_count text symbols spot (Some (arg.Operand pr segment entry terms tag)) =
-    mark_count
-    (has_value text symbols spot terms (operand_room pr segment) (is_own segment))
+    relocation_count
+    (has_value text symbols spot terms (operand_field pr segment) (is_internal segment))
     (operand_kind segment (sum_of text symbols spot terms))
 operand_count text symbols spot None = 0
 
 -- the number of relocations of an expression that is a half of a word: 0 or 1
 abbrev pub half_count : List ℕ → List (List ℕ × Sum) → LocationCounter → List Term → ℕ
 half_count text symbols spot terms =
-    mark_count (has_value text symbols spot terms Half true)
+    relocation_count (has_value text symbols spot terms Half true)
     (kind_of (sum_of text symbols spot terms))
 
 -- the number of relocations of the words that a line places
-abbrev pub marks_count : List ℕ → List (List ℕ × Sum) → LocationCounter → List Arg → LineEffect → ℕ
-marks_count text symbols spot arguments deed.Nothing = 0
-marks_count text symbols spot arguments (deed.Instruction code bit27) =
+abbrev pub line_relocation_count : List ℕ → List (List ℕ × Sum) → LocationCounter → List Arg → LineEffect → ℕ
+line_relocation_count text symbols spot arguments deed.Nothing = 0
+line_relocation_count text symbols spot arguments (deed.Instruction code bit27) =
     operand_count text symbols spot (first_arg arguments)
-marks_count text symbols spot arguments deed.Entry = 0
-marks_count text symbols spot arguments deed.Segdef = 0
-marks_count text symbols spot arguments deed.Equ = 0
-marks_count text symbols spot arguments deed.Use = 0
-marks_count text symbols spot arguments deed.Words = 0
-marks_count text symbols spot arguments deed.Zero =
+line_relocation_count text symbols spot arguments deed.Entry = 0
+line_relocation_count text symbols spot arguments deed.Segdef = 0
+line_relocation_count text symbols spot arguments deed.Equ = 0
+line_relocation_count text symbols spot arguments deed.Use = 0
+line_relocation_count text symbols spot arguments deed.Words = 0
+line_relocation_count text symbols spot arguments deed.Zero =
     half_count text symbols spot (terms_in (first_arg arguments))
     + half_count text symbols spot (terms_in (second_arg arguments))
-marks_count text symbols spot arguments deed.Block = 0
-marks_count text symbols spot arguments deed.Even = 0
-marks_count text symbols spot arguments deed.Bound = 0
+line_relocation_count text symbols spot arguments deed.Block = 0
+line_relocation_count text symbols spot arguments deed.Even = 0
+line_relocation_count text symbols spot arguments deed.Bound = 0
 
 -- the sizes with the relocations of a line
-unfoldable pub with_marks : List ℕ → List (List ℕ × Sum) → LocationCounter → Line36 → Growth → Growth
-with_marks text symbols spot line g =
-    record g { symbol = g.symbol + marks_count text symbols spot line.args line.deed }
+unfoldable pub with_relocations : List ℕ → List (List ℕ × Sum) → LocationCounter → Line36 → Growth → Growth
+with_relocations text symbols spot line g =
+    record g { symbol = g.symbol + line_relocation_count text symbols spot line.args line.deed }
 
 -- ---- lines
 
 -- the sizes with the definitions, the link and the relocations of a line
-unfoldable pub grown_by : List ℕ → List (List ℕ × Sum) → LocationCounter → Growth → Line36 → Growth
-grown_by text symbols spot g line =
-    with_marks text symbols spot line
-    (with_link_given (with_definitions text symbols line g (gives_entries line.deed))
+unfoldable pub growth_after_line : List ℕ → List (List ℕ × Sum) → LocationCounter → Growth → Line36 → Growth
+growth_after_line text symbols spot g line =
+    with_relocations text symbols spot line
+    (with_link_if_any (with_definitions text symbols line g (defines_entries line.deed))
     (link_in text symbols spot (first_arg (operand_args line.deed line.args))))
 
 -- Whether the definition, linkage or symbol section is too long. The linkage section has its head,
 -- static words and links. The zero word after an odd number of static words is not counted: the
 -- limit is even, and so is the number of all other words.
-unfoldable pub is_over : LocationCounter → Growth → Bool
-is_over spot g =
+unfoldable pub has_section_over_limit : LocationCounter → Growth → Bool
+has_section_over_limit spot g =
     is_over_limit g.definition || is_over_limit (linkage_length spot.inner (length g.links))
     || is_over_limit g.symbol
 
@@ -196,15 +196,15 @@ unfoldable pub growth_refusal : List ℕ → List (List ℕ × Sum) → Growth �
     → Option AlmRefusal
 growth_refusal text symbols g spot [] = None
 growth_refusal text symbols g spot (line ∷ lines) =
-    if is_over (below text spot line) (grown_by text symbols spot g line) then Some
+    if has_section_over_limit (next_line_spot text spot line) (growth_after_line text symbols spot g line) then Some
     (refusal_at line line.start E8)
-    else growth_refusal text symbols (grown_by text symbols spot g line) (below text spot line)
+    else growth_refusal text symbols (growth_after_line text symbols spot g line) (next_line_spot text spot line)
     lines
 
 -- ---- bounds of the growth
 
 -- After a change of the sizes the definition section has at most `more` more words, and the symbol
 -- section as many as before.
-pub record IsLarger (more : ℕ) (before after : Growth) : Type 0 where
+pub record GrowsAtMost (more : ℕ) (before after : Growth) : Type 0 where
   pub definition : after.definition ≤ before.definition + more
   pub symbol : after.symbol ≡ before.symbol

@@ -3,7 +3,7 @@ use Rattle.std.specs.Prelude.{ℕ, ◌≡◌, ◌%◌, ◌^◌, Bool, true, fals
 use Rattle.std.specs.Prelude.{◌++◌, length, Option, Some, None, is_some, Ok}
 use Rattle.alm_tokens.specs.Tokens.{slice_of}
 use Rattle.alm_parse.specs.SourceFields.{Source}
-use Rattle.alm_parse.specs.Sources.{parsed}
+use Rattle.alm_parse.specs.Sources.{source_of_text}
 use Rattle.alm_tokens.specs.declared.span.Span.{Span}
 use Rattle.alm_tokens.specs.declared.expression.Term.{Term}
 use Rattle.alm_parse.specs.declared.args.Arg.{Arg}
@@ -23,28 +23,28 @@ use Rattle.alm_lines.specs.Sums.{half_of, offset_of}
 use Rattle.alm_lines.specs.Symbols.{sum_named}
 use Rattle.alm_lines.specs.Spots.{start, count_in, place, size_of, end_of}
 use Rattle.alm_lines.specs.SpotFields.{LocationCounter}
-use Rattle.alm_asm.specs.Links.{link_of, link_place}
+use Rattle.alm_asm.specs.Links.{link_of, offset_of_link_in}
 use Rattle.alm_asm.specs.Relocations.{operand_part}
-use Rattle.alm_asm.specs.Words.{pointed_inst, inst_by, halves_word, words_of_line, words_from}
+use Rattle.alm_asm.specs.Words.{pointer_register_instruction, instruction_of_parts, halves_word, words_of_line, words_from}
 use Rattle.alm_lines.specs.Layout.{symbols_from}
-use Rattle.alm_lines.specs.Refusals.{has_room}
+use Rattle.alm_lines.specs.Refusals.{fits_field}
 use Rattle.alm_lines.specs.declared.refusal.ValueField.TheVariants.{Offset}
 use Rattle.alm_lines.specs.declared.sum.Balance.{Balance}
 use Rattle.alm_lines.specs.declared.sum.Sum.{Sum}
 use Rattle.alm_asm.specs.declared.tables.Tables.{Tables}
 
 -- whether lines can place words in a section
-abbrev pub holds_words : Section → Bool
-holds_words Text = true
-holds_words Linkage = true
-holds_words Symbol = false
-holds_words Static = true
+abbrev pub can_have_words : Section → Bool
+can_have_words Text = true
+can_have_words Linkage = true
+can_have_words Symbol = false
+can_have_words Static = true
 
 -- The place of a line in a section is the number of words that the lines above it place there.
 abbrev pub PlacesCount : Type 0
 PlacesCount =
     (text : List ℕ) (tables : Tables) (section : Section) (above : List Line36)
-    → holds_words section ≡ true
+    → can_have_words section ≡ true
     → count_in section (end_of text start above)
     ≡ length (words_from text tables section [] start above)
 
@@ -75,28 +75,28 @@ SymbolsStay =
 -- 2^18, for each number that fits the field.
 abbrev pub OffsetsAreRead : Type 0
 OffsetsAreRead =
-    (code : ℕ) (bit27 : Bool) (pr tag : ℕ) (b : Balance) → has_room Offset b ≡ true
-    → pr_offset (pointed_inst code bit27 pr (offset_of b) tag) ≡ half_of b
+    (code : ℕ) (bit27 : Bool) (pr tag : ℕ) (b : Balance) → fits_field Offset b ≡ true
+    → pr_offset (pointer_register_instruction code bit27 pr (offset_of b) tag) ≡ half_of b
 
 -- The part of a word that has a relocation holds the value of its expression: an address, an offset
 -- after a pointer register, or either half. For an external operand it holds the offset of the
 -- link.
-pub record PartsAreMarked : Type 0 where
+pub record RelocatedPartsHoldValues : Type 0 where
   pub plain : (text : List ℕ) (tables : Tables) (spot : LocationCounter) (code : ℕ) (bit27 : Bool)
       (entry : Option Span) (terms : List Term) (tag : ℕ)
       → part_of (operand_part None None)
-      (inst_word (inst_by text tables spot code bit27 None None entry terms tag))
+      (inst_word (instruction_of_parts text tables spot code bit27 None None entry terms tag))
       ≡ half_of (sum_of text tables.symbols spot terms).value
   pub through : (text : List ℕ) (tables : Tables) (spot : LocationCounter) (code : ℕ) (bit27 : Bool) (pr : ℕ)
       (entry : Option Span) (terms : List Term) (tag : ℕ)
       → part_of (operand_part (Some pr) None)
-      (inst_word (inst_by text tables spot code bit27 (Some pr) None entry terms tag))
+      (inst_word (instruction_of_parts text tables spot code bit27 (Some pr) None entry terms tag))
       ≡ offset_of (sum_of text tables.symbols spot terms).value
   pub linked : (text : List ℕ) (tables : Tables) (spot : LocationCounter) (code : ℕ) (bit27 : Bool)
       (pr : Option ℕ) (segment : Span) (entry : Option Span) (terms : List Term) (tag : ℕ)
       → part_of (operand_part pr (Some segment))
-      (inst_word (inst_by text tables spot code bit27 pr (Some segment) entry terms tag))
-      ≡ link_place tables.links tables.first_link
+      (inst_word (instruction_of_parts text tables spot code bit27 pr (Some segment) entry terms tag))
+      ≡ offset_of_link_in tables.links tables.first_link
       (link_of text tables.symbols spot segment entry terms tag) % 2 ^ 15
   pub first : (text : List ℕ) (tables : Tables) (spot : LocationCounter) (arguments : List Arg)
       → part_of left_part (halves_word text tables spot arguments)
@@ -143,5 +143,5 @@ lines_are_named text (line ∷ lines) = args_are_named text line.args && lines_a
 -- if the object has no more words than a segment may have.
 abbrev pub OnlyTooLong : Type 0
 OnlyTooLong =
-    (text : List ℕ) (source : Source) → parsed text ≡ Ok source → refusal_of source ≡ None
+    (text : List ℕ) (source : Source) → source_of_text text ≡ Ok source → refusal_of source ≡ None
     → is_well_formed (parts_of source) ≡ nat_le (length (words_of (parts_of source))) segment_limit

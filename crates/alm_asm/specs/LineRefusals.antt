@@ -16,12 +16,12 @@ use Rattle.obj36_parts.specs.declared.section.Section.TheVariants.{Text, Linkage
 use Rattle.obj36_parts.specs.declared.definition.Named.{Named}
 use Rattle.obj36_parts.specs.Fields.{LinkFields}
 use Rattle.alm_lines.specs.Arguments.{first_arg, second_arg, symbol_in, terms_in, section_in}
-use Rattle.alm_lines.specs.Spots.{below}
+use Rattle.alm_lines.specs.Spots.{next_line_spot}
 use Rattle.alm_lines.specs.Expressions.{expression_place}
-use Rattle.alm_lines.specs.Refusals.{sooner, refusal_at, expression_refusal}
+use Rattle.alm_lines.specs.Refusals.{earlier_refusal, refusal_at, expression_refusal}
 use Rattle.alm_lines.specs.Refusals.{number_refusal, has_number}
-use Rattle.alm_asm.specs.Links.{link_of, link_place}
-use Rattle.alm_asm.specs.Definitions.{gives_entries, definitions_after, definitions_refused}
+use Rattle.alm_asm.specs.Links.{link_of, offset_of_link_in}
+use Rattle.alm_asm.specs.Definitions.{defines_entries, definitions_after, definitions_refusal}
 use Rattle.alm_lines.specs.SpotFields.{LocationCounter}
 use Rattle.alm_lines.specs.declared.sum.Sum.{Sum}
 use Rattle.alm_asm.specs.declared.tables.Tables.{Tables}
@@ -33,9 +33,9 @@ use Rattle.alm_lines.specs.declared.refusal.ValueField.{ValueField}
 use Rattle.alm_lines.specs.declared.refusal.ValueField.TheVariants.{Half, Offset}
 
 -- the refusal, unless the condition holds
-abbrev pub unless : Bool → AlmRefusal → Option AlmRefusal
-unless true refusal = None
-unless false refusal = Some refusal
+abbrev pub refusal_unless : Bool → AlmRefusal → Option AlmRefusal
+refusal_unless true refusal = None
+refusal_unless false refusal = Some refusal
 
 -- the index of an operation in the text; 0 if there is none
 abbrev pub op_place : Option Span → ℕ
@@ -72,14 +72,14 @@ may_name tables own = tables.uses_outer || not (needs_static own)
 unfoldable pub is_in_reach : List ℕ → Tables → LocationCounter → Span → Option Span → List Term → ℕ → Bool
 is_in_reach text tables spot segment entry terms tag =
     nat_lt
-    (link_place tables.links tables.first_link
+    (offset_of_link_in tables.links tables.first_link
     (link_of text tables.symbols spot segment entry terms tag)) offset_limit
 
 -- The field of an expression that is not external: bits 3 to 17 after a pointer register, and
 -- otherwise half a word.
-abbrev pub own_room : Option ℕ → ValueField
-own_room (Some pr) = Offset
-own_room None = Half
+abbrev pub internal_operand_field : Option ℕ → ValueField
+internal_operand_field (Some pr) = Offset
+internal_operand_field None = Half
 
 -- the refusal of the expression after an external name
 abbrev pub link_expression : List ℕ → List (List ℕ × Sum) → LocationCounter → Line36 → Span → Option Span
@@ -89,8 +89,8 @@ link_expression text symbols spot line segment entry terms =
 
 -- Whether the link of an external operand is in reach. An operand whose expression has no value is
 -- not a link, so its place is not checked.
-unfoldable pub reaches : List ℕ → Tables → LocationCounter → Span → Option Span → List Term → ℕ → Bool
-reaches text tables spot segment entry terms tag =
+unfoldable pub link_is_in_reach : List ℕ → Tables → LocationCounter → Span → Option Span → List Term → ℕ → Bool
+link_is_in_reach text tables spot segment entry terms tag =
     not (has_number text tables.symbols spot terms)
     || is_in_reach text tables spot segment entry terms tag
 
@@ -100,11 +100,11 @@ abbrev pub external_refusal : List ℕ → Tables → LocationCounter → Line36
     → Option AlmRefusal
 external_refusal text tables spot line segment entry terms tag =
     let at = refusal_at line segment.from E7 in
-    sooner
-    (sooner
+    earlier_refusal
+    (earlier_refusal
     (link_expression text tables.symbols spot line segment entry terms)
-    (unless (reaches text tables spot segment entry terms tag) at))
-    (unless (may_name tables (own_section (slice_of text segment))) at)
+    (refusal_unless (link_is_in_reach text tables spot segment entry terms tag) at))
+    (refusal_unless (may_name tables (own_section (slice_of text segment))) at)
 
 -- the refusal of an operand that is an expression, without a segment
 abbrev pub own_operand : List ℕ → Tables → LocationCounter → Line36 → ValueField → List Term → Option AlmRefusal
@@ -113,12 +113,12 @@ own_operand text tables spot line room terms =
 
 -- the refusal of an operand with these parts: external if it names a segment, and otherwise an
 -- expression
-abbrev pub operand_by : List ℕ → Tables → LocationCounter → Line36 → Option ℕ → Option Span → Option Span
+abbrev pub refusal_of_operand_parts : List ℕ → Tables → LocationCounter → Line36 → Option ℕ → Option Span → Option Span
     → List Term → ℕ → Option AlmRefusal
-operand_by text tables spot line pr (Some segment) entry terms tag =
+refusal_of_operand_parts text tables spot line pr (Some segment) entry terms tag =
     external_refusal text tables spot line segment entry terms tag
-operand_by text tables spot line pr None entry terms tag =
-    own_operand text tables spot line (own_room pr) terms
+refusal_of_operand_parts text tables spot line pr None entry terms tag =
+    own_operand text tables spot line (internal_operand_field pr) terms
 
 -- the refusal of the operand of an instruction, if it has one; no other argument is refused here
 abbrev pub operand_refusal : List ℕ → Tables → LocationCounter → Line36 → Option Arg → Option AlmRefusal
@@ -127,50 +127,50 @@ operand_refusal text tables spot line (Some (arg.Number word)) = None
 operand_refusal text tables spot line (Some (arg.Chars words)) = None
 operand_refusal text tables spot line (Some (arg.Plain terms)) = None
 operand_refusal text tables spot line (Some (arg.Operand pr segment entry terms tag)) =
-    operand_by text tables spot line pr segment entry terms tag
+    refusal_of_operand_parts text tables spot line pr segment entry terms tag
 operand_refusal text tables spot line None = None
 
 -- ---- operations
 
 -- Whether a `use` line may select a section: the static words of a source are all in one section.
-abbrev pub may_enter : LocationCounter → Section → Bool
-may_enter spot Text = true
-may_enter spot Linkage = not spot.uses_outer
-may_enter spot Symbol = true
-may_enter spot Static = not spot.uses_inner
+abbrev pub may_select : LocationCounter → Section → Bool
+may_select spot Text = true
+may_select spot Linkage = not spot.uses_outer
+may_select spot Symbol = true
+may_select spot Static = not spot.uses_inner
 
 -- The refusal of an instruction: E7 at the operation outside the text, and those of its operand.
 abbrev pub instruction_refusal : List ℕ → Tables → LocationCounter → Line36 → Option AlmRefusal
 instruction_refusal text tables spot line =
-    sooner (unless (is_text_section spot.section) (refusal_at line (op_place line.op) E7))
+    earlier_refusal (refusal_unless (is_text_section spot.section) (refusal_at line (op_place line.op) E7))
     (operand_refusal text tables spot line (first_arg line.args))
 
 -- the refusal of a `use` line: E7 at the operation, if the static words are in the other section
 abbrev pub use_refusal : List ℕ → LocationCounter → Line36 → Option AlmRefusal
 use_refusal text spot line =
-    unless (may_enter spot (section_in text (symbol_in (first_arg line.args))))
+    refusal_unless (may_select spot (section_in text (symbol_in (first_arg line.args))))
     (refusal_at line (op_place line.op) E7)
 
 -- the first refusal of the two expressions of a `zero` line
 abbrev pub halves_refusal : List ℕ → Tables → LocationCounter → Line36 → Option AlmRefusal
 halves_refusal text tables spot line =
-    sooner (own_operand text tables spot line Half (terms_in (first_arg line.args)))
+    earlier_refusal (own_operand text tables spot line Half (terms_in (first_arg line.args)))
     (own_operand text tables spot line Half (terms_in (second_arg line.args)))
 
 -- the refusal of the operation of a line, apart from those of the names and symbols that it defines
-abbrev pub refusal_of_deed : List ℕ → Tables → LocationCounter → Line36 → LineEffect → Option AlmRefusal
-refusal_of_deed text tables spot line deed.Nothing = None
-refusal_of_deed text tables spot line (deed.Instruction code bit27) =
+abbrev pub refusal_of_effect : List ℕ → Tables → LocationCounter → Line36 → LineEffect → Option AlmRefusal
+refusal_of_effect text tables spot line deed.Nothing = None
+refusal_of_effect text tables spot line (deed.Instruction code bit27) =
     instruction_refusal text tables spot line
-refusal_of_deed text tables spot line deed.Entry = None
-refusal_of_deed text tables spot line deed.Segdef = None
-refusal_of_deed text tables spot line deed.Equ = None
-refusal_of_deed text tables spot line deed.Use = use_refusal text spot line
-refusal_of_deed text tables spot line deed.Words = None
-refusal_of_deed text tables spot line deed.Zero = halves_refusal text tables spot line
-refusal_of_deed text tables spot line deed.Block = None
-refusal_of_deed text tables spot line deed.Even = None
-refusal_of_deed text tables spot line deed.Bound = None
+refusal_of_effect text tables spot line deed.Entry = None
+refusal_of_effect text tables spot line deed.Segdef = None
+refusal_of_effect text tables spot line deed.Equ = None
+refusal_of_effect text tables spot line deed.Use = use_refusal text spot line
+refusal_of_effect text tables spot line deed.Words = None
+refusal_of_effect text tables spot line deed.Zero = halves_refusal text tables spot line
+refusal_of_effect text tables spot line deed.Block = None
+refusal_of_effect text tables spot line deed.Even = None
+refusal_of_effect text tables spot line deed.Bound = None
 
 -- ---- the lines
 
@@ -181,9 +181,9 @@ with_links tables links = record tables { links = links }
 -- the first refusal of a line: of its definitions or of its operation
 unfoldable pub line_refusal : List ℕ → Tables → List Named → LocationCounter → Line36 → Option AlmRefusal
 line_refusal text tables done spot line =
-    sooner
-    (definitions_refused text tables.symbols line done None line.args (gives_entries line.deed))
-    (refusal_of_deed text tables spot line line.deed)
+    earlier_refusal
+    (definitions_refusal text tables.symbols line done None line.args (defines_entries line.deed))
+    (refusal_of_effect text tables spot line line.deed)
 
 -- The refusal of the first line that is refused. It is earlier in the text than those of all lines
 -- below.
@@ -193,4 +193,4 @@ lines_refusal text tables done spot (line ∷ lines) =
     option_or
     (line_refusal text tables done spot line)
     (lines_refusal text tables
-    (definitions_after text tables.symbols done line) (below text spot line) lines)
+    (definitions_after text tables.symbols done line) (next_line_spot text spot line) lines)

@@ -2,7 +2,7 @@
 use Rattle.std.specs.Prelude.{ℕ, ◌%◌, ◌^◌, List, [], ◌∷◌, Option, Some, None, unwrap_or}
 use Rattle.std.specs.Prelude.{if◌then◌else◌}
 use Rattle.std.specs.List.{position}
-use Rattle.m36_text.specs.Once.{with_unless}
+use Rattle.m36_text.specs.Once.{appended_unless}
 use Rattle.alm_tokens.specs.Tokens.{slice_of}
 use Rattle.alm_tokens.specs.declared.span.Span.{Span}
 use Rattle.alm_tokens.specs.declared.expression.Term.{Term}
@@ -14,11 +14,11 @@ use Rattle.obj36_parts.specs.declared.section.Section.{Section}
 use Rattle.obj36_parts.specs.declared.section.Section.TheVariants.{Text}
 use Rattle.obj36_parts.specs.Fields.{LinkFields}
 use Rattle.obj36_parts.specs.ObjectSegment.{to_section, to_segment, to_entry, to_own_entry}
-use Rattle.obj36_parts.specs.ObjectSegment.{word_of_link}
+use Rattle.obj36_parts.specs.ObjectSegment.{link_offset}
 use Rattle.obj36_parts.specs.Indexes.{same_link, has_link}
 use Rattle.alm_lines.specs.Sums.{half_of}
 use Rattle.alm_lines.specs.Arguments.{name_at, first_arg}
-use Rattle.alm_lines.specs.Spots.{below}
+use Rattle.alm_lines.specs.Spots.{next_line_spot}
 use Rattle.alm_lines.specs.Expressions.{sum_of}
 use Rattle.alm_lines.specs.Refusals.{has_number}
 use Rattle.alm_lines.specs.declared.sum.Sum.{Sum}
@@ -82,13 +82,13 @@ operand_args deed.Bound arguments = []
 
 -- The link of an operand with these parts. It is a link if it names a segment and its expression
 -- has a value.
-abbrev pub link_by : List ℕ → List (List ℕ × Sum) → LocationCounter → Option Span → Option Span → List Term → ℕ
+abbrev pub link_of_parts : List ℕ → List (List ℕ × Sum) → LocationCounter → Option Span → Option Span → List Term → ℕ
     → Option LinkFields
-link_by text symbols spot (Some segment) entry terms tag =
+link_of_parts text symbols spot (Some segment) entry terms tag =
     if has_number text symbols spot terms
     then Some (link_of text symbols spot segment entry terms tag)
     else None
-link_by text symbols spot None entry terms tag = None
+link_of_parts text symbols spot None entry terms tag = None
 
 -- the link of an operand, if it is external and its expression has a value
 abbrev pub link_in : List ℕ → List (List ℕ × Sum) → LocationCounter → Option Arg → Option LinkFields
@@ -97,13 +97,13 @@ link_in text symbols spot (Some (arg.Number word)) = None
 link_in text symbols spot (Some (arg.Chars words)) = None
 link_in text symbols spot (Some (arg.Plain terms)) = None
 link_in text symbols spot (Some (arg.Operand pr segment entry terms tag)) =
-    link_by text symbols spot segment entry terms tag
+    link_of_parts text symbols spot segment entry terms tag
 link_in text symbols spot None = None
 
 -- the links with one more at the end, if there is one and they do not have it
 abbrev pub with_link : List LinkFields → Option LinkFields → List LinkFields
 with_link links None = links
-with_link links (Some link) = with_unless (has_link link links) links link
+with_link links (Some link) = appended_unless (has_link link links) links link
 
 -- the links with that of a line
 unfoldable pub links_after : List ℕ → List (List ℕ × Sum) → List LinkFields → LocationCounter → Line36
@@ -116,12 +116,12 @@ unfoldable pub links_from : List ℕ → List (List ℕ × Sum) → List LinkFie
     → List LinkFields
 links_from text symbols links spot [] = links
 links_from text symbols links spot (line ∷ lines) =
-    links_from text symbols (links_after text symbols links spot line) (below text spot line) lines
+    links_from text symbols (links_after text symbols links spot line) (next_line_spot text spot line) lines
 
 -- ---- the place of a link
 
 -- The offset of a link in the linkage section, if the first link is at `first`. A link that the
 -- list does not have counts as the first.
-unfoldable pub link_place : List LinkFields → ℕ → LinkFields → ℕ
-link_place links first link =
-    word_of_link first (unwrap_or (position (same_link link) links) 0)
+unfoldable pub offset_of_link_in : List LinkFields → ℕ → LinkFields → ℕ
+offset_of_link_in links first link =
+    link_offset first (unwrap_or (position (same_link link) links) 0)

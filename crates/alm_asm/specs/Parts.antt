@@ -8,8 +8,8 @@ use Rattle.alm_asm.specs.declared.parts.DefinitionsAndRelocations.{DefinitionsAn
 
 -- The parts of an object, put together from the words that the lines place, their definitions and
 -- relocations, and the links in the tables.
-abbrev pub parts_by : Tables → PlacedWords → DefinitionsAndRelocations → ℕ → PartsFields
-parts_by tables placed noted entry_bound =
+abbrev pub parts_from_tables : Tables → PlacedWords → DefinitionsAndRelocations → ℕ → PartsFields
+parts_from_tables tables placed noted entry_bound =
     record {
       text = placed.text;
       statics = placed.statics;

@@ -14,9 +14,9 @@ use Rattle.obj36_parts.specs.ObjectSegment.{linkage_register}
 use Rattle.obj36_parts.specs.Sections.{same_section}
 use Rattle.alm_lines.specs.Sums.{half_of, offset_of}
 use Rattle.alm_lines.specs.Arguments.{first_arg, second_arg, terms_in, number_in, words_of_args}
-use Rattle.alm_lines.specs.Spots.{place, below}
+use Rattle.alm_lines.specs.Spots.{place, next_line_spot}
 use Rattle.alm_lines.specs.Expressions.{sum_of}
-use Rattle.alm_asm.specs.Links.{link_of, link_place}
+use Rattle.alm_asm.specs.Links.{link_of, offset_of_link_in}
 use Rattle.alm_lines.specs.SpotFields.{LocationCounter}
 use Rattle.alm_asm.specs.declared.tables.Tables.{Tables}
 use Rattle.alm_parse.specs.declared.deed.LineEffect.{LineEffect}
@@ -25,8 +25,8 @@ use Rattle.alm_parse.specs.declared.deed.LineEffect.TheVariants as deed
 -- ---- instructions
 
 -- the fields of an instruction with an address
-abbrev pub plain_inst : ℕ → Bool → ℕ → ℕ → InstFields
-plain_inst code bit27 y tag =
+abbrev pub address_instruction : ℕ → Bool → ℕ → ℕ → InstFields
+address_instruction code bit27 y tag =
     record {
       y = y;
       code = code % 2 ^ 9;
@@ -37,8 +37,8 @@ plain_inst code bit27 y tag =
     }
 
 -- the fields of an instruction with an offset after a pointer register
-abbrev pub pointed_inst : ℕ → Bool → ℕ → ℕ → ℕ → InstFields
-pointed_inst code bit27 pr offset tag =
+abbrev pub pointer_register_instruction : ℕ → Bool → ℕ → ℕ → ℕ → InstFields
+pointer_register_instruction code bit27 pr offset tag =
     record {
       y = pr % 2 ^ 3 * 2 ^ 15 + offset;
       code = code % 2 ^ 9;
@@ -50,37 +50,37 @@ pointed_inst code bit27 pr offset tag =
 
 -- The fields of an instruction whose operand is an expression: its value is the offset after a
 -- pointer register, or the address.
-abbrev pub own_inst : ℕ → Bool → Option ℕ → ℕ → ℕ → ℕ → InstFields
-own_inst code bit27 (Some pr) y offset tag = pointed_inst code bit27 pr offset tag
-own_inst code bit27 None y offset tag = plain_inst code bit27 y tag
+abbrev pub internal_instruction : ℕ → Bool → Option ℕ → ℕ → ℕ → ℕ → InstFields
+internal_instruction code bit27 (Some pr) y offset tag = pointer_register_instruction code bit27 pr offset tag
+internal_instruction code bit27 None y offset tag = address_instruction code bit27 y tag
 
 -- The fields of an instruction with an operand of these parts. An external operand is `pr4|link,*`.
-abbrev pub inst_by : List ℕ → Tables → LocationCounter → ℕ → Bool → Option ℕ → Option Span → Option Span
+abbrev pub instruction_of_parts : List ℕ → Tables → LocationCounter → ℕ → Bool → Option ℕ → Option Span → Option Span
     → List Term → ℕ → InstFields
-inst_by text tables spot code bit27 pr (Some segment) entry terms tag =
-    pointed_inst code bit27 linkage_register
-    (link_place tables.links tables.first_link
+instruction_of_parts text tables spot code bit27 pr (Some segment) entry terms tag =
+    pointer_register_instruction code bit27 linkage_register
+    (offset_of_link_in tables.links tables.first_link
     (link_of text tables.symbols spot segment entry terms tag) % 2 ^ 15) star_tag
-inst_by text tables spot code bit27 pr None entry terms tag =
-    own_inst code bit27 pr (half_of (sum_of text tables.symbols spot terms).value)
+instruction_of_parts text tables spot code bit27 pr None entry terms tag =
+    internal_instruction code bit27 pr (half_of (sum_of text tables.symbols spot terms).value)
     (offset_of (sum_of text tables.symbols spot terms).value) tag
 
 -- The fields of an instruction with this argument. Without an operand its address and tag are 0.
-abbrev pub inst_in : List ℕ → Tables → LocationCounter → ℕ → Bool → Option Arg → InstFields
-inst_in text tables spot code bit27 (Some (arg.Symbol span)) = plain_inst code bit27 0 0
-inst_in text tables spot code bit27 (Some (arg.Number word)) = plain_inst code bit27 0 0
-inst_in text tables spot code bit27 (Some (arg.Chars words)) = plain_inst code bit27 0 0
-inst_in text tables spot code bit27 (Some (arg.Plain terms)) = plain_inst code bit27 0 0
-inst_in text tables spot code bit27 (Some (arg.Operand pr segment entry terms tag)) =
-    inst_by text tables spot code bit27 pr segment entry terms tag
-inst_in text tables spot code bit27 None = plain_inst code bit27 0 0
+abbrev pub instruction_of_arg : List ℕ → Tables → LocationCounter → ℕ → Bool → Option Arg → InstFields
+instruction_of_arg text tables spot code bit27 (Some (arg.Symbol span)) = address_instruction code bit27 0 0
+instruction_of_arg text tables spot code bit27 (Some (arg.Number word)) = address_instruction code bit27 0 0
+instruction_of_arg text tables spot code bit27 (Some (arg.Chars words)) = address_instruction code bit27 0 0
+instruction_of_arg text tables spot code bit27 (Some (arg.Plain terms)) = address_instruction code bit27 0 0
+instruction_of_arg text tables spot code bit27 (Some (arg.Operand pr segment entry terms tag)) =
+    instruction_of_parts text tables spot code bit27 pr segment entry terms tag
+instruction_of_arg text tables spot code bit27 None = address_instruction code bit27 0 0
 
 -- ---- the words of a line
 
 -- the word of an instruction
 unfoldable pub instruction_word : List ℕ → Tables → LocationCounter → ℕ → Bool → List Arg → ℕ
 instruction_word text tables spot code bit27 arguments =
-    inst_word (inst_in text tables spot code bit27 (first_arg arguments))
+    inst_word (instruction_of_arg text tables spot code bit27 (first_arg arguments))
 
 -- the word of a `zero` line: the values of its two expressions
 unfoldable pub halves_word : List ℕ → Tables → LocationCounter → List Arg → ℕ
@@ -89,28 +89,28 @@ halves_word text tables spot arguments =
     + half_of (sum_of text tables.symbols spot (terms_in (second_arg arguments))).value
 
 -- the words that a line places, by its operation
-abbrev pub words_by : List ℕ → Tables → LocationCounter → List Arg → LineEffect → List ℕ
-words_by text tables spot arguments deed.Nothing = []
-words_by text tables spot arguments (deed.Instruction code bit27) =
+abbrev pub words_of_effect : List ℕ → Tables → LocationCounter → List Arg → LineEffect → List ℕ
+words_of_effect text tables spot arguments deed.Nothing = []
+words_of_effect text tables spot arguments (deed.Instruction code bit27) =
     instruction_word text tables spot code bit27 arguments ∷ []
-words_by text tables spot arguments deed.Entry = []
-words_by text tables spot arguments deed.Segdef = []
-words_by text tables spot arguments deed.Equ = []
-words_by text tables spot arguments deed.Use = []
-words_by text tables spot arguments deed.Words = words_of_args [] arguments
-words_by text tables spot arguments deed.Zero = halves_word text tables spot arguments ∷ []
-words_by text tables spot arguments deed.Block = replicate (number_in (second_arg arguments)) 0
-words_by text tables spot arguments deed.Even = replicate (place spot % 2) 0
-words_by text tables spot arguments deed.Bound = []
+words_of_effect text tables spot arguments deed.Entry = []
+words_of_effect text tables spot arguments deed.Segdef = []
+words_of_effect text tables spot arguments deed.Equ = []
+words_of_effect text tables spot arguments deed.Use = []
+words_of_effect text tables spot arguments deed.Words = words_of_args [] arguments
+words_of_effect text tables spot arguments deed.Zero = halves_word text tables spot arguments ∷ []
+words_of_effect text tables spot arguments deed.Block = replicate (number_in (second_arg arguments)) 0
+words_of_effect text tables spot arguments deed.Even = replicate (place spot % 2) 0
+words_of_effect text tables spot arguments deed.Bound = []
 
 -- the words that a line places in a section
 unfoldable pub words_of_line : List ℕ → Tables → Section → LocationCounter → Line36 → List ℕ
 words_of_line text tables section spot line =
-    if same_section spot.section section then words_by text tables spot line.args line.deed else []
+    if same_section spot.section section then words_of_effect text tables spot line.args line.deed else []
 
 -- the words of the lines in a section, after those so far
 unfoldable pub words_from : List ℕ → Tables → Section → List ℕ → LocationCounter → List Line36 → List ℕ
 words_from text tables section words spot [] = words
 words_from text tables section words spot (line ∷ lines) =
     words_from text tables section (words ++ words_of_line text tables section spot line)
-    (below text spot line) lines
+    (next_line_spot text spot line) lines

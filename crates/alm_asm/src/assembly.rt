@@ -2,17 +2,17 @@
 
 ghost use Rattle.std.specs.Prelude.{ℕ, [], ◌≡◌, ◌^◌, ◌<◌, length};
 ghost use Rattle.std.specs.Prelude.{Option, None, Ok, IfOk, true};
-ghost use Rattle.alm_parse.specs.Sources.{ParseSays};
-ghost use Rattle.alm_lines.specs.Spots.{start, HasRoom};
-ghost use Rattle.alm_asm.specs.LineValues.{seen_from};
+ghost use Rattle.alm_parse.specs.Sources.{IsResultOf};
+ghost use Rattle.alm_lines.specs.Spots.{start, HasRoomForLines};
+ghost use Rattle.alm_asm.specs.LineValues.{values_from};
 ghost use Rattle.obj36_parts.specs.ObjectSegment.{is_well_formed};
 ghost use Rattle.alm_lines.specs.Layout.{layout_refusal};
-ghost use Rattle.alm_lines.specs.Refusals.{sooner};
+ghost use Rattle.alm_lines.specs.Refusals.{earlier_refusal};
 ghost use Rattle.alm_asm.specs.LineRefusals.{lines_refusal};
 ghost use Rattle.alm_asm.specs.Links.{links_from};
-ghost use Rattle.alm_asm.specs.Growth.{at_first, growth_refusal};
+ghost use Rattle.alm_asm.specs.Growth.{first_growth, growth_refusal};
 ghost use Rattle.alm_asm.specs.Assembles.{Assembles};
-ghost use Rattle.alm_asm.specs.Assembly.{made, first_link, tables_of, parts_with, last_line};
+ghost use Rattle.alm_asm.specs.Assembly.{parts_if_well_formed, first_link, tables_of, parts_with, last_line};
 ghost use Rattle.alm_asm.specs.Assembly.{refusal_in, unless_refused, assembled};
 
 use crate::growth::growth_refusal;
@@ -22,7 +22,7 @@ use crate::seen::{AllLineValues, LineValues, compute_values};
 use crate::tables::Tables;
 use alm_lines::count::Count;
 use alm_lines::layout::layout_of;
-use alm_lines::refusal::{AlmRefusal, fault_of, sooner};
+use alm_lines::refusal::{AlmRefusal, fault_of, earlier_refusal};
 use alm_lines::spot::{LocationCounter, end_of};
 use alm_lines::symbols::Symbols;
 use alm_parse::{AlmFault, Line36, Lines36};
@@ -33,7 +33,7 @@ use std::alloc::Global;
 
 // The offset of the first link in the linkage section, given the place after the last line.
 fn first_link(ending: LocationCounter) -> Count
-    requires { HasRoom 0 ending }
+    requires { HasRoomForLines 0 ending }
     ensures { result ≡ first_link ending }
 {
     if ending.uses_outer {
@@ -53,27 +53,27 @@ struct TablesAndValues {
 
 // The links of lines, and the values of the lines.
 #[derive(Drop)]
-struct Linked {
+struct LinksAndValues {
     links: Links,
     seen: AllLineValues,
 }
 
 // The links of the lines, and the values of each line with arguments.
-fn linked_in(
+fn links_and_values(
     alloc: Global,
     text: &[u8],
     symbols: &Symbols,
     lines: &[Line36],
-) -> Result<Linked, NoMemory>
+) -> Result<LinksAndValues, NoMemory>
     requires { length lines.now < 2 ^ 32 }
     ensures links { IfOk result (λ linked.
         linked.links ≡ links_from text.now symbols.now [] start lines.now) }
     ensures seen { IfOk result (λ linked.
-        linked.seen ≡ seen_from text.now symbols.now linked.links start lines.now) }
+        linked.seen ≡ values_from text.now symbols.now linked.links start lines.now) }
 {
     let mut links = Links::new(alloc, symbols.seed());
     match compute_values(alloc, text, symbols, &mut links, lines) {
-        Ok(seen) => Ok(Linked { links, seen }),
+        Ok(seen) => Ok(LinksAndValues { links, seen }),
         Err(fault) => {
             // Dropped explicitly, so that the drop is proved once for its type.
             drop(links);
@@ -85,12 +85,12 @@ fn linked_in(
 // The tables of the lines, the values of each line with arguments, and the first refusal of the
 // layout.
 #[tactic(auto, unfolding(crate::specs::Assembly::tables_of))]
-fn found_in(alloc: Global, text: &[u8], lines: &[Line36]) -> Result<TablesAndValues, NoMemory>
+fn tables_and_values(alloc: Global, text: &[u8], lines: &[Line36]) -> Result<TablesAndValues, NoMemory>
     requires { length lines.now < 2 ^ 32 }
     ensures tables { IfOk result (λ found. found.tables ≡ tables_of text.now lines.now) }
     ensures seen { IfOk result (λ found.
         found.seen
-        ≡ seen_from text.now found.tables.symbols found.tables.links start lines.now) }
+        ≡ values_from text.now found.tables.symbols found.tables.links start lines.now) }
     ensures links { IfOk result (λ found.
         found.tables.links ≡ links_from text.now found.tables.symbols [] start lines.now) }
     ensures refused { IfOk result (λ found.
@@ -98,7 +98,7 @@ fn found_in(alloc: Global, text: &[u8], lines: &[Line36]) -> Result<TablesAndVal
 {
     let ending = end_of(alloc, text, lines)?;
     let layout = layout_of(alloc, text, lines)?;
-    match linked_in(alloc, text, &layout.symbols, lines) {
+    match links_and_values(alloc, text, &layout.symbols, lines) {
         Ok(linked) => Ok(TablesAndValues {
             tables: Tables {
                 symbols: layout.symbols,
@@ -128,17 +128,17 @@ fn first_refusal(
 ) -> Result<Option<AlmRefusal>, NoMemory>
     requires count { length lines.now < 2 ^ 32 }
     requires seen { seen.now
-        ≡ seen_from text.now tables.now.symbols tables.now.links start lines.now }
+        ≡ values_from text.now tables.now.symbols tables.now.links start lines.now }
     requires links { tables.now.links ≡ links_from text.now tables.now.symbols [] start lines.now }
     ensures { IfOk result (λ r.
         r
-        ≡ sooner
-        (sooner found (lines_refusal text.now tables.now [] start lines.now))
-        (growth_refusal text.now tables.now.symbols at_first start lines.now)) }
+        ≡ earlier_refusal
+        (earlier_refusal found (lines_refusal text.now tables.now [] start lines.now))
+        (growth_refusal text.now tables.now.symbols first_growth start lines.now)) }
 {
     let refused = lines_refusal(alloc, text, tables, lines, seen)?;
-    let grown = growth_refusal(alloc, text, tables, lines, seen)?;
-    Ok(sooner(sooner(found, refused), grown))
+    let plus_words = growth_refusal(alloc, text, tables, lines, seen)?;
+    Ok(earlier_refusal(earlier_refusal(found, refused), plus_words))
 }
 
 // The tables of lines, or the first refusal. Sets `seen` to the values of the lines.
@@ -151,15 +151,15 @@ fn tables_in(
 ) -> Result<Tables, AlmFault>
     requires { length lines.now < 2 ^ 32 }
     ensures seen { IfOk result (λ tables.
-        seen.new ≡ seen_from text.now tables.symbols tables.links start lines.now) }
-    ensures says { ParseSays result
+        seen.new ≡ values_from text.now tables.symbols tables.links start lines.now) }
+    ensures says { IsResultOf result
         (unless_refused text.now lines.now (refusal_in text.now lines.now)) }
 {
     let TablesAndValues {
         tables,
         seen: lines_seen,
         refused,
-    } = found_in(alloc, text, lines)?;
+    } = tables_and_values(alloc, text, lines)?;
     *seen = lines_seen;
     match first_refusal(alloc, text, refused, &tables, lines, seen.items()) {
         Ok(None) => Ok(tables),
@@ -190,19 +190,19 @@ fn last_line(lines: &[Line36]) -> u32
 }
 
 // The object with these parts, which are well formed.
-fn object_made(alloc: Global, parts: Parts) -> Result<Object, AlmFault>
+fn object_of_parts(alloc: Global, parts: Parts) -> Result<Object, AlmFault>
     requires { is_well_formed parts ≡ true }
-    ensures { ParseSays result (Ok parts) }
+    ensures { IsResultOf result (Ok parts) }
 {
     Ok(Object::new(alloc, parts)?)
 }
 
 // The object with these parts if they are well formed; otherwise E8 at line `number`.
 fn object_of(alloc: Global, parts: Parts, number: u32) -> Result<Object, AlmFault>
-    ensures { ParseSays result (made parts number (is_well_formed parts)) }
+    ensures { IsResultOf result (parts_if_well_formed parts number (is_well_formed parts)) }
 {
     if parts.is_object() {
-        object_made(alloc, parts)
+        object_of_parts(alloc, parts)
     } else {
         // Dropped explicitly, so that the drop is proved once for its type.
         drop(parts);
@@ -219,9 +219,9 @@ fn object_with(
     seen: &[LineValues],
 ) -> Result<Object, AlmFault>
     requires count { length lines.now < 2 ^ 32 }
-    requires seen { seen.now ≡ seen_from text.now tables.symbols tables.links start lines.now }
-    ensures { ParseSays result
-        (made (parts_with text.now tables lines.now) (last_line 1 lines.now)
+    requires seen { seen.now ≡ values_from text.now tables.symbols tables.links start lines.now }
+    ensures { IsResultOf result
+        (parts_if_well_formed (parts_with text.now tables lines.now) (last_line 1 lines.now)
         (is_well_formed (parts_with text.now tables lines.now))) }
 {
     let parts = parts_with(alloc, text, tables, lines, seen)?;
@@ -229,12 +229,12 @@ fn object_with(
 }
 
 // The object of lines, or the fault of the first refusal. Sets `seen` to the values of the lines.
-fn meaning_seen(
+fn assemble_with_values(
     alloc: Global,
     lines: &Lines36,
     seen: &mut AllLineValues,
 ) -> Result<Object, AlmFault>
-    ensures { ParseSays result (assembled lines.now) }
+    ensures { IsResultOf result (assembled lines.now) }
 {
     let text = lines.text();
     let rows = lines.lines();
@@ -245,11 +245,11 @@ fn meaning_seen(
 }
 
 // The object of lines, or the fault of the first refusal.
-fn meaning(alloc: Global, lines: &Lines36) -> Result<Object, AlmFault>
-    ensures { ParseSays result (assembled lines.now) }
+fn assemble_lines(alloc: Global, lines: &Lines36) -> Result<Object, AlmFault>
+    ensures { IsResultOf result (assembled lines.now) }
 {
     let mut seen = AllLineValues::new(alloc);
-    let object = meaning_seen(alloc, lines, &mut seen);
+    let object = assemble_with_values(alloc, lines, &mut seen);
     // Dropped explicitly, so that the drop is proved once for its type.
     drop(seen);
     object
@@ -262,8 +262,8 @@ fn meaning(alloc: Global, lines: &Lines36) -> Result<Object, AlmFault>
 /// It may also be `NoMemory`.
 #[tactic(auto, using(crate::proofs::Assembling::says_assembles))]
 pub fn assemble(alloc: Global, lines: &Lines36) -> Result<Object, AlmFault>
-    ensures says { ParseSays result (assembled lines.now) }
+    ensures says { IsResultOf result (assembled lines.now) }
     ensures assembles { IfOk result (λ parts. Assembles lines.now parts) }
 {
-    meaning(alloc, lines)
+    assemble_lines(alloc, lines)
 }

@@ -3,15 +3,15 @@
 ghost use Rattle.std.specs.Prelude.{ℕ, Bool, List, [], ◌∷◌, ◌++◌, ◌≡◌, Option, OnOk, IfOk};
 ghost use Rattle.std.specs.List.{list_any};
 ghost use Rattle.alm_lines.specs.Symbols.{same_name};
-ghost use Rattle.alm_asm.specs.Definitions.{section_of, named, named_by, with_names, gives_entries};
-ghost use Rattle.alm_asm.specs.Definitions.{definitions_by, definitions_after, definitions_from};
-ghost use Rattle.alm_asm.specs.Definitions.{is_taken, is_label_kind, is_label, sum_refusal};
-ghost use Rattle.alm_asm.specs.Definitions.{name_refusal, arg_refusal, names_refused};
-ghost use Rattle.alm_asm.specs.Definitions.{definitions_refused};
+ghost use Rattle.alm_asm.specs.Definitions.{section_of, definition_of_name, definition_of_arg, with_names, defines_entries};
+ghost use Rattle.alm_asm.specs.Definitions.{definitions_if_any, definitions_after, definitions_from};
+ghost use Rattle.alm_asm.specs.Definitions.{is_defined_name, is_label_kind, is_label, sum_refusal};
+ghost use Rattle.alm_asm.specs.Definitions.{name_refusal, arg_refusal, names_refusal};
+ghost use Rattle.alm_asm.specs.Definitions.{definitions_refusal};
 
 use alm_lines::arguments::name_at;
 use alm_lines::expression::symbol_sum;
-use alm_lines::refusal::{AlmCode, AlmRefusal, ValueField, has_room, refusal_at, sooner};
+use alm_lines::refusal::{AlmCode, AlmRefusal, ValueField, fits_field, refusal_at, earlier_refusal};
 use alm_lines::sum::{Kind, Sum};
 use alm_lines::symbols::Symbols;
 use alm_parse::{Arg, Line36, LineEffect, Span};
@@ -32,9 +32,9 @@ fn section_of(kind: Kind) -> Section
 }
 
 // The definition of a name, with the section and the value of its symbol.
-#[tactic(auto, unfolding(crate::specs::Definitions::named))]
-fn named(text: &[u8], symbols: &Symbols, is_entry: bool, span: Span) -> Named
-    ensures { result ≡ named text.now symbols.now is_entry span }
+#[tactic(auto, unfolding(crate::specs::Definitions::definition_of_name))]
+fn definition_of_name(text: &[u8], symbols: &Symbols, is_entry: bool, span: Span) -> Named
+    ensures { result ≡ definition_of_name text.now symbols.now is_entry span }
 {
     let sum = symbol_sum(text, symbols, span);
     Named {
@@ -55,17 +55,17 @@ fn push_named(
     arg: &Arg,
     done: &mut Defs,
 ) -> Result<(), NoMemory>
-    ensures { OnOk result (done.new ≡ done.old ++ named_by text.now symbols.now is_entry arg.now) }
+    ensures { OnOk result (done.new ≡ done.old ++ definition_of_arg text.now symbols.now is_entry arg.now) }
 {
     match arg {
-        Arg::Symbol(span) => done.push(named(text, symbols, is_entry, *span)),
+        Arg::Symbol(span) => done.push(definition_of_name(text, symbols, is_entry, *span)),
         _ => Ok(()),
     }
 }
 
 /// Whether a line has definitions, and if so whether they are entries.
-pub fn gives_entries(deed: LineEffect) -> Option<bool>
-    ensures { result ≡ gives_entries deed }
+pub fn defines_entries(deed: LineEffect) -> Option<bool>
+    ensures { result ≡ defines_entries deed }
 {
     match deed {
         LineEffect::Entry => Some(true),
@@ -83,9 +83,9 @@ pub fn gives_entries(deed: LineEffect) -> Option<bool>
 }
 
 // Whether a name has a definition already.
-#[tactic(auto, unfolding(crate::specs::Definitions::is_taken))]
-fn is_taken(done: &Defs, name: &Name) -> bool
-    ensures { result ≡ is_taken done.now name.now }
+#[tactic(auto, unfolding(crate::specs::Definitions::is_defined_name))]
+fn is_defined_name(done: &Defs, name: &Name) -> bool
+    ensures { result ≡ is_defined_name done.now name.now }
 {
     done.has(name)
 }
@@ -110,7 +110,7 @@ fn is_label_kind(is_entry: bool, kind: Kind) -> bool
 fn is_label(is_entry: bool, sum: Sum) -> bool
     ensures { result ≡ is_label is_entry sum }
 {
-    has_room(ValueField::Half, sum.value) && is_label_kind(is_entry, sum.kind())
+    fits_field(ValueField::Half, sum.value) && is_label_kind(is_entry, sum.kind())
 }
 
 /// The refusal of a name of `entry` or `segdef`: E6 if its symbol is not defined, E7 if the sum of
@@ -144,7 +144,7 @@ fn name_refusal(
     ensures { result ≡ name_refusal text.now symbols.now line.now is_entry done.now span }
 {
     let name = name_at(text, span);
-    if is_taken(done, &name) {
+    if is_defined_name(done, &name) {
         return Some(refusal_at(line, span.from as u64, AlmCode::E5));
     }
     sum_refusal(line, span.from as u64, is_entry, symbols.find(&name))
@@ -169,7 +169,7 @@ fn arg_refusal(
 
 // Adds the definitions of the arguments of a line. Returns the first in the text of `refused` and
 // the refusals of these names.
-#[tactic(auto, unfolding(crate::specs::Definitions::with_names, crate::specs::Definitions::names_refused))]
+#[tactic(auto, unfolding(crate::specs::Definitions::with_names, crate::specs::Definitions::names_refusal))]
 fn push_names(
     text: &[u8],
     symbols: &Symbols,
@@ -181,13 +181,13 @@ fn push_names(
     ensures definitions { OnOk result
         (done.new ≡ with_names text.now symbols.now is_entry done.old line.now.args) }
     ensures refused { IfOk result (λ r.
-        r ≡ names_refused text.now symbols.now line.now is_entry done.old refused line.now.args) }
+        r ≡ names_refusal text.now symbols.now line.now is_entry done.old refused line.now.args) }
 {
     let mut first = refused;
     let mut rest = line.args.items();
     while let [arg, more @ ..] = rest {
         let refusal = arg_refusal(text, symbols, line, is_entry, done, arg);
-        first = sooner(first, refusal);
+        first = earlier_refusal(first, refusal);
         push_named(text, symbols, is_entry, arg, done)?;
         rest = more;
     }
@@ -208,10 +208,10 @@ pub fn push_definitions(
         (done.new ≡ definitions_after text.now symbols.now done.old line.now) }
     ensures refused { IfOk result (λ r.
         r
-        ≡ definitions_refused text.now symbols.now line.now done.old refused line.now.args
-        (gives_entries line.now.deed)) }
+        ≡ definitions_refusal text.now symbols.now line.now done.old refused line.now.args
+        (defines_entries line.now.deed)) }
 {
-    match gives_entries(line.deed) {
+    match defines_entries(line.deed) {
         None => Ok(refused),
         Some(is_entry) => push_names(text, symbols, line, is_entry, refused, done),
     }

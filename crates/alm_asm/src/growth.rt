@@ -4,34 +4,34 @@ ghost use Rattle.std.specs.Prelude.{ℕ, false, [], ◌∷◌, ◌≡◌, ◌+�
 ghost use Rattle.std.specs.Prelude.{◌≤◌, length, if◌then◌else◌, Option, OnOk, IfOk};
 ghost use Rattle.obj36_parts.specs.ObjectSegment.{section_limit};
 ghost use Rattle.alm_lines.specs.Arguments.{first_arg, terms_in};
-ghost use Rattle.alm_lines.specs.Values.{evaluated};
-ghost use Rattle.alm_asm.specs.LineValues.{place_in, is_below, seen_from, AreFirst};
-ghost use Rattle.alm_lines.specs.Spots.{start, below};
-ghost use Rattle.alm_asm.specs.Links.{operand_args, link_by, link_in, links_from};
-ghost use Rattle.alm_asm.specs.Definitions.{gives_entries};
-ghost use Rattle.alm_asm.specs.Growth.{IsLarger, at_first, with_name, with_names, with_definition};
+ghost use Rattle.alm_lines.specs.Values.{value_of_expression};
+ghost use Rattle.alm_asm.specs.LineValues.{index_in_links, is_below, values_from, AreFirst};
+ghost use Rattle.alm_lines.specs.Spots.{start, next_line_spot};
+ghost use Rattle.alm_asm.specs.Links.{operand_args, link_of_parts, link_in, links_from};
+ghost use Rattle.alm_asm.specs.Definitions.{defines_entries};
+ghost use Rattle.alm_asm.specs.Growth.{GrowsAtMost, first_growth, with_name, with_names, with_definition};
 ghost use Rattle.alm_asm.specs.Growth.{with_arg, with_args, with_definitions};
-ghost use Rattle.alm_asm.specs.Growth.{with_new_link, with_link_once, with_link_given};
-ghost use Rattle.alm_asm.specs.Growth.{mark_count, operand_room, is_own, operand_count, half_count};
-ghost use Rattle.alm_asm.specs.Growth.{marks_count, with_marks, grown_by, is_over, growth_refusal};
+ghost use Rattle.alm_asm.specs.Growth.{with_new_link, with_link_once, with_link_if_any};
+ghost use Rattle.alm_asm.specs.Growth.{relocation_count, operand_field, is_internal, operand_count, half_count};
+ghost use Rattle.alm_asm.specs.Growth.{line_relocation_count, with_relocations, growth_after_line, has_section_over_limit, growth_refusal};
 
-use crate::definitions::{gives_entries, sum_refusal};
-use crate::line_refusal::own_room;
+use crate::definitions::{defines_entries, sum_refusal};
+use crate::line_refusal::internal_operand_field;
 use crate::links::link_of;
-use crate::relocations::kind_given;
+use crate::relocations::operand_value_kind;
 use crate::seen::{LineValues, next_values};
 use crate::tables::Tables;
 use alm_lines::arguments::{first_terms, name_at, second_terms};
 use alm_lines::refusal::{AlmCode, AlmRefusal, ValueField, is_over_limit, refusal_at};
-use alm_lines::spot::{LocationCounter, below};
+use alm_lines::spot::{LocationCounter, next_line_spot};
 use alm_lines::sum::{Kind, absolute};
 use alm_lines::symbols::Symbols;
-use alm_lines::value::{Value, evaluate, is_valued, kind_valued};
+use alm_lines::value::{Value, evaluate, evaluated_has_value, evaluated_kind};
 use alm_parse::{Arg, Line36, LineEffect, Span, Term};
 use m36_text::{HashSeed, Name};
 use m36_word::NoMemory;
 use obj36::{Link, Links};
-use obj36_parts::names::{has_its_entry, has_its_name};
+use obj36_parts::names::{kind_has_entry, kind_has_name};
 use obj36_parts::sections::HEAD_WORDS;
 use std::alloc::Global;
 
@@ -50,7 +50,7 @@ pub struct Growth {
 impl Growth {
     // The sizes before the first line.
     fn start(alloc: Global, seed: HashSeed) -> Growth
-        ensures { result ≡ at_first }
+        ensures { result ≡ first_growth }
     {
         Growth {
             names: Symbols::new(alloc, seed),
@@ -62,11 +62,11 @@ impl Growth {
     }
 
     // Counts the words of a name, unless they were counted before.
-    #[tactic(auto, unfolding(crate::specs::Growth::with_name, obj36_parts::specs::Names::name_length))]
+    #[tactic(auto, unfolding(crate::specs::Growth::with_name, obj36_parts::specs::Names::name_size))]
     fn add_name(&mut self, name: Name) -> Result<(), NoMemory>
         requires { self.old.definition ≤ 2 ^ 80 }
         ensures value { OnOk result (self.new ≡ with_name self.old name) }
-        ensures larger { OnOk result (IsLarger 9 self.old self.new) }
+        ensures larger { OnOk result (GrowsAtMost 9 self.old self.new) }
     {
         if self.names.find(&name).is_some() {
             return Ok(());
@@ -77,11 +77,11 @@ impl Growth {
 
     // Counts a name that a link uses.
     #[tactic(auto, unfolding(crate::specs::Growth::with_names))]
-    fn add_use(&mut self, is_used: bool, name: Name) -> Result<(), NoMemory>
+    fn add_name_if_used(&mut self, is_used: bool, name: Name) -> Result<(), NoMemory>
         requires { self.old.definition ≤ 2 ^ 80 }
         ensures value { OnOk result
             (self.new ≡ with_names self.old (if is_used then name ∷ [] else [])) }
-        ensures larger { OnOk result (IsLarger 9 self.old self.new) }
+        ensures larger { OnOk result (GrowsAtMost 9 self.old self.new) }
     {
         if is_used {
             return self.add_name(name);
@@ -94,7 +94,7 @@ impl Growth {
     fn add_definition(&mut self, name: Name) -> Result<(), NoMemory>
         requires { self.old.definition ≤ 2 ^ 79 }
         ensures value { OnOk result (self.new ≡ with_definition self.old name) }
-        ensures larger { OnOk result (IsLarger 11 self.old self.new) }
+        ensures larger { OnOk result (GrowsAtMost 11 self.old self.new) }
     {
         if self.defined.find(&name).is_some() {
             return Ok(());
@@ -116,8 +116,8 @@ impl Growth {
         let entry = link.entry.copied();
         self.links.push(link)?;
         self.definition += 2;
-        self.add_use(has_its_name(kind), name)?;
-        self.add_use(has_its_entry(kind), entry)
+        self.add_name_if_used(kind_has_name(kind), name)?;
+        self.add_name_if_used(kind_has_entry(kind), entry)
     }
 
     // Counts a link and its names, unless the link was counted before.
@@ -134,9 +134,9 @@ impl Growth {
     }
 
     // Whether one of these sections is too long, if the next line is at `spot`.
-    #[tactic(auto, unfolding(crate::specs::Growth::is_over))]
-    fn is_over(&self, spot: LocationCounter) -> bool
-        ensures value { result ≡ is_over spot self.now }
+    #[tactic(auto, unfolding(crate::specs::Growth::has_section_over_limit))]
+    fn has_section_over_limit(&self, spot: LocationCounter) -> bool
+        ensures value { result ≡ has_section_over_limit spot self.now }
         ensures definition { result ≡ false → self.now.definition ≤ section_limit }
         ensures symbol { result ≡ false → self.now.symbol ≤ section_limit }
     {
@@ -147,7 +147,7 @@ impl Growth {
 }
 
 // Counts the definition that an argument gives, unless it is refused.
-fn take_arg(
+fn count_arg(
     text: &[u8],
     symbols: &Symbols,
     line: &Line36,
@@ -158,7 +158,7 @@ fn take_arg(
     requires { growth.old.definition ≤ 2 ^ 79 }
     ensures value { OnOk result
         (growth.new ≡ with_arg text.now symbols.now line.now is_entry growth.old arg.now) }
-    ensures larger { OnOk result (IsLarger 11 growth.old growth.new) }
+    ensures larger { OnOk result (GrowsAtMost 11 growth.old growth.new) }
 {
     match arg {
         Arg::Symbol(span) => {
@@ -175,7 +175,7 @@ fn take_arg(
 // Counts the definitions that the arguments of a line give. A line has fewer than 2^64 arguments,
 // so the number of words does not overflow.
 #[tactic(auto, using(crate::proofs::GrowthLaws::larger_more), unfolding(crate::specs::Growth::with_args))]
-fn take_args(
+fn count_args(
     text: &[u8],
     symbols: &Symbols,
     line: &Line36,
@@ -183,34 +183,34 @@ fn take_args(
     growth: &mut Growth,
 ) -> Result<(), NoMemory>
     requires { growth.old.definition ≤ 2 ^ 18 }
-    ensures larger { OnOk result (IsLarger (11 * 2 ^ 64) growth.old growth.new) }
+    ensures larger { OnOk result (GrowsAtMost (11 * 2 ^ 64) growth.old growth.new) }
     ensures value { OnOk result
         (growth.new ≡ with_args text.now symbols.now line.now is_entry growth.old line.now.args) }
 {
     let mut rest = line.args.items();
     while let [arg, more @ ..] = rest {
-        take_arg(text, symbols, line, is_entry, growth, arg)?;
+        count_arg(text, symbols, line, is_entry, growth, arg)?;
         rest = more;
     }
     Ok(())
 }
 
 // Counts the definitions of a line.
-fn take_definitions(
+fn count_definitions(
     text: &[u8],
     symbols: &Symbols,
     line: &Line36,
     growth: &mut Growth,
 ) -> Result<(), NoMemory>
     requires { growth.old.definition ≤ 2 ^ 18 }
-    ensures larger { OnOk result (IsLarger (11 * 2 ^ 64) growth.old growth.new) }
+    ensures larger { OnOk result (GrowsAtMost (11 * 2 ^ 64) growth.old growth.new) }
     ensures value { OnOk result
         (growth.new
-        ≡ with_definitions text.now symbols.now line.now growth.old (gives_entries line.now.deed)) }
+        ≡ with_definitions text.now symbols.now line.now growth.old (defines_entries line.now.deed)) }
 {
-    match gives_entries(line.deed) {
+    match defines_entries(line.deed) {
         None => Ok(()),
-        Some(is_entry) => take_args(text, symbols, line, is_entry, growth),
+        Some(is_entry) => count_args(text, symbols, line, is_entry, growth),
     }
 }
 
@@ -226,7 +226,7 @@ fn is_index_below(place: Option<u64>, count: usize) -> bool
 
 // Counts the link of an external operand.
 #[tactic(auto, using(crate::proofs::SeenLaws::noted_is), unfolding(crate::specs::Growth::with_link_once))]
-fn take_external(
+fn count_external(
     text: &[u8],
     symbols: &Symbols,
     _links: &Links,
@@ -240,18 +240,18 @@ fn take_external(
     place: Option<u64>,
 ) -> Result<(), NoMemory>
     requires room { growth.old.definition ≤ 2 ^ 79 }
-    requires value { value ≡ evaluated text.now symbols.now spot terms.now }
+    requires value { value ≡ value_of_expression text.now symbols.now spot terms.now }
     requires place { place
-        ≡ place_in _links.now
-        (link_by text.now symbols.now spot (Option.Some segment) entry terms.now tag) }
+        ≡ index_in_links _links.now
+        (link_of_parts text.now symbols.now spot (Option.Some segment) entry terms.now tag) }
     requires first { AreFirst growth.old.links _links.now }
     ensures symbol { OnOk result (growth.new.symbol ≡ growth.old.symbol) }
     ensures value { OnOk result
         (growth.new
-        ≡ with_link_given growth.old
-        (link_by text.now symbols.now spot (Option.Some segment) entry terms.now tag)) }
+        ≡ with_link_if_any growth.old
+        (link_of_parts text.now symbols.now spot (Option.Some segment) entry terms.now tag)) }
 {
-    if !is_valued(text, symbols, spot, terms, ValueField::Half, false, value) {
+    if !evaluated_has_value(text, symbols, spot, terms, ValueField::Half, false, value) {
         return Ok(());
     }
     if is_index_below(place, growth.links.items().len()) {
@@ -262,7 +262,7 @@ fn take_external(
 }
 
 // Counts the link of an operand, if it has one.
-fn take_operand(
+fn count_operand(
     text: &[u8],
     symbols: &Symbols,
     _links: &Links,
@@ -273,14 +273,14 @@ fn take_operand(
     growth: &mut Growth,
 ) -> Result<(), NoMemory>
     requires room { growth.old.definition ≤ 2 ^ 79 }
-    requires value { value ≡ evaluated text.now symbols.now spot (terms_in (first_arg args.now)) }
+    requires value { value ≡ value_of_expression text.now symbols.now spot (terms_in (first_arg args.now)) }
     requires place { place
-        ≡ place_in _links.now (link_in text.now symbols.now spot (first_arg args.now)) }
+        ≡ index_in_links _links.now (link_in text.now symbols.now spot (first_arg args.now)) }
     requires first { AreFirst growth.old.links _links.now }
     ensures symbol { OnOk result (growth.new.symbol ≡ growth.old.symbol) }
     ensures value { OnOk result
         (growth.new
-        ≡ with_link_given growth.old (link_in text.now symbols.now spot (first_arg args.now))) }
+        ≡ with_link_if_any growth.old (link_in text.now symbols.now spot (first_arg args.now))) }
 {
     match args {
         [
@@ -294,7 +294,7 @@ fn take_operand(
             ..
         ] => {
             let terms = expr.items();
-            take_external(
+            count_external(
                 text, symbols, _links, spot, growth, *segment, *entry, terms, *tag, value, place,
             )
         }
@@ -303,7 +303,7 @@ fn take_operand(
 }
 
 // Counts the link of a line, if it has one.
-fn take_link(
+fn count_link(
     text: &[u8],
     symbols: &Symbols,
     _links: &Links,
@@ -315,22 +315,22 @@ fn take_link(
 ) -> Result<(), NoMemory>
     requires room { growth.old.definition ≤ 2 ^ 79 }
     requires value { value
-        ≡ evaluated text.now symbols.now spot (terms_in (first_arg line.now.args)) }
+        ≡ value_of_expression text.now symbols.now spot (terms_in (first_arg line.now.args)) }
     requires place { place
-        ≡ place_in _links.now
+        ≡ index_in_links _links.now
         (link_in text.now symbols.now spot (first_arg (operand_args line.now.deed line.now.args))) }
     requires first { AreFirst growth.old.links _links.now }
     ensures symbol { OnOk result (growth.new.symbol ≡ growth.old.symbol) }
     ensures value { OnOk result
         (growth.new
-        ≡ with_link_given growth.old
+        ≡ with_link_if_any growth.old
         (link_in text.now symbols.now spot
         (first_arg (operand_args line.now.deed line.now.args)))) }
 {
     match line.deed {
         LineEffect::Instruction(_, _) => {
             let args = line.args.items();
-            take_operand(text, symbols, _links, spot, args, value, place, growth)
+            count_operand(text, symbols, _links, spot, args, value, place, growth)
         }
         LineEffect::Nothing
         | LineEffect::Entry
@@ -346,30 +346,30 @@ fn take_link(
 }
 
 // The number of relocations of an expression: 1 if it has a value and is a place of a section.
-fn mark_count(is_valued: bool, kind: Kind) -> u64
-    ensures value { result ≡ mark_count is_valued kind }
+fn relocation_count(evaluated_has_value: bool, kind: Kind) -> u64
+    ensures value { result ≡ relocation_count evaluated_has_value kind }
     ensures bound { result ≤ 1 }
 {
     match kind {
-        Kind::Moved(_) => is_valued as u64,
+        Kind::Moved(_) => evaluated_has_value as u64,
         Kind::Absolute | Kind::Inexpressible => 0,
     }
 }
 
 // The field that the expression of an operand must fit. After an external name it is a half.
-fn operand_room(pr: Option<u8>, segment: Option<Span>) -> ValueField
-    ensures { result ≡ operand_room pr segment }
+fn operand_field(pr: Option<u8>, segment: Option<Span>) -> ValueField
+    ensures { result ≡ operand_field pr segment }
 {
     match segment {
         Some(_) => ValueField::Half,
-        None => own_room(pr),
+        None => internal_operand_field(pr),
     }
 }
 
 // Whether the expression of an operand may be a place of a section: after an external name it must
 // be a number.
-fn is_own(segment: Option<Span>) -> bool
-    ensures { result ≡ is_own segment }
+fn is_internal(segment: Option<Span>) -> bool
+    ensures { result ≡ is_internal segment }
 {
     match segment {
         Some(_) => false,
@@ -385,7 +385,7 @@ fn operand_count(
     args: &[Arg],
     value: Value,
 ) -> u64
-    requires { value ≡ evaluated text.now symbols.now spot (terms_in (first_arg args.now)) }
+    requires { value ≡ value_of_expression text.now symbols.now spot (terms_in (first_arg args.now)) }
     ensures value { result ≡ operand_count text.now symbols.now spot (first_arg args.now) }
     ensures bound { result ≤ 1 }
 {
@@ -401,10 +401,10 @@ fn operand_count(
             ..
         ] => {
             let terms = expr.items();
-            let room = operand_room(*pr, *seg);
-            let has_value = is_valued(text, symbols, spot, terms, room, is_own(*seg), value);
-            let kind = kind_valued(text, symbols, spot, terms, value);
-            mark_count(has_value, kind_given(*seg, kind))
+            let room = operand_field(*pr, *seg);
+            let has_value = evaluated_has_value(text, symbols, spot, terms, room, is_internal(*seg), value);
+            let kind = evaluated_kind(text, symbols, spot, terms, value);
+            relocation_count(has_value, operand_value_kind(*seg, kind))
         }
         _ => 0,
     }
@@ -418,24 +418,24 @@ fn half_count(
     terms: &[Term],
     value: Value,
 ) -> u64
-    requires { value ≡ evaluated text.now symbols.now spot terms.now }
+    requires { value ≡ value_of_expression text.now symbols.now spot terms.now }
     ensures value { result ≡ half_count text.now symbols.now spot terms.now }
     ensures bound { result ≤ 1 }
 {
-    let has_value = is_valued(text, symbols, spot, terms, ValueField::Half, true, value);
-    mark_count(has_value, kind_valued(text, symbols, spot, terms, value))
+    let has_value = evaluated_has_value(text, symbols, spot, terms, ValueField::Half, true, value);
+    relocation_count(has_value, evaluated_kind(text, symbols, spot, terms, value))
 }
 
 // The number of relocations of the words that a line places.
-fn marks_count(
+fn line_relocation_count(
     text: &[u8],
     symbols: &Symbols,
     spot: LocationCounter,
     line: &Line36,
     value: Value,
 ) -> u64
-    requires { value ≡ evaluated text.now symbols.now spot (terms_in (first_arg line.now.args)) }
-    ensures value { result ≡ marks_count text.now symbols.now spot line.now.args line.now.deed }
+    requires { value ≡ value_of_expression text.now symbols.now spot (terms_in (first_arg line.now.args)) }
+    ensures value { result ≡ line_relocation_count text.now symbols.now spot line.now.args line.now.deed }
     ensures bound { result ≤ 2 }
 {
     let args = line.args.items();
@@ -461,8 +461,8 @@ fn marks_count(
 }
 
 // Counts the relocations of a line.
-#[tactic(auto, unfolding(crate::specs::Growth::with_marks))]
-fn take_marks(
+#[tactic(auto, unfolding(crate::specs::Growth::with_relocations))]
+fn count_relocations(
     text: &[u8],
     symbols: &Symbols,
     spot: LocationCounter,
@@ -472,14 +472,14 @@ fn take_marks(
 )
     requires room { growth.old.symbol ≤ 2 ^ 18 }
     requires value { value
-        ≡ evaluated text.now symbols.now spot (terms_in (first_arg line.now.args)) }
-    ensures { growth.new ≡ with_marks text.now symbols.now spot line.now growth.old }
+        ≡ value_of_expression text.now symbols.now spot (terms_in (first_arg line.now.args)) }
+    ensures { growth.new ≡ with_relocations text.now symbols.now spot line.now growth.old }
 {
-    growth.symbol += marks_count(text, symbols, spot, line, value) as u128;
+    growth.symbol += line_relocation_count(text, symbols, spot, line, value) as u128;
 }
 
 // Counts the definitions, the link and the relocations of a line.
-#[tactic(auto, unfolding(crate::specs::Growth::grown_by))]
+#[tactic(auto, unfolding(crate::specs::Growth::growth_after_line))]
 fn take_line(
     text: &[u8],
     symbols: &Symbols,
@@ -491,25 +491,25 @@ fn take_line(
     growth: &mut Growth,
 ) -> Result<(), NoMemory>
     requires value { seen.now.value
-        ≡ evaluated text.now symbols.now spot (terms_in (first_arg line.now.args)) }
+        ≡ value_of_expression text.now symbols.now spot (terms_in (first_arg line.now.args)) }
     requires place { seen.now.place
-        ≡ place_in links.now
+        ≡ index_in_links links.now
         (link_in text.now symbols.now spot (first_arg (operand_args line.now.deed line.now.args))) }
     requires links { links_from text.now symbols.now growth.old.links spot (line.now ∷ _more.now)
         ≡ links.now }
     requires definition { growth.old.definition ≤ 2 ^ 18 }
     requires symbol { growth.old.symbol ≤ 2 ^ 18 }
     ensures value { OnOk result
-        (growth.new ≡ grown_by text.now symbols.now spot growth.old line.now) }
+        (growth.new ≡ growth_after_line text.now symbols.now spot growth.old line.now) }
     ensures links { OnOk result
-        (links_from text.now symbols.now growth.new.links (below text.now spot line.now) _more.now
+        (links_from text.now symbols.now growth.new.links (next_line_spot text.now spot line.now) _more.now
         ≡ links.now) }
 {
-    take_definitions(text, symbols, line, growth)?;
-    take_link(
+    count_definitions(text, symbols, line, growth)?;
+    count_link(
         text, symbols, links, spot, line, seen.value, seen.place, growth,
     )?;
-    take_marks(text, symbols, spot, line, seen.value, growth);
+    count_relocations(text, symbols, spot, line, seen.value, growth);
     Ok(())
 }
 
@@ -526,7 +526,7 @@ fn take_lines(
 ) -> Result<Option<AlmRefusal>, NoMemory>
     requires count { length lines.now < 2 ^ 32 }
     requires seen { seen.now
-        ≡ seen_from text.now tables.now.symbols tables.now.links start lines.now }
+        ≡ values_from text.now tables.now.symbols tables.now.links start lines.now }
     requires links { links_from text.now tables.now.symbols growth.old.links start lines.now
         ≡ tables.now.links }
     requires definition { growth.old.definition ≤ section_limit }
@@ -557,8 +557,8 @@ fn take_lines(
             &seen,
             growth,
         )?;
-        spot = below(alloc, text, spot, line)?;
-        if growth.is_over(spot) {
+        spot = next_line_spot(alloc, text, spot, line)?;
+        if growth.has_section_over_limit(spot) {
             return Ok(Some(refusal_at(line, line.start as u64, AlmCode::E8)));
         }
         rest = more;
@@ -578,11 +578,11 @@ pub fn growth_refusal(
 ) -> Result<Option<AlmRefusal>, NoMemory>
     requires count { length lines.now < 2 ^ 32 }
     requires seen { seen.now
-        ≡ seen_from text.now tables.now.symbols tables.now.links start lines.now }
+        ≡ values_from text.now tables.now.symbols tables.now.links start lines.now }
     requires links { tables.now.links
         ≡ links_from text.now tables.now.symbols [] start lines.now }
     ensures { IfOk result (λ r.
-        r ≡ growth_refusal text.now tables.now.symbols at_first start lines.now) }
+        r ≡ growth_refusal text.now tables.now.symbols first_growth start lines.now) }
 {
     let mut growth = Growth::start(alloc, tables.symbols.seed());
     let refused = take_lines(alloc, text, tables, lines, seen, &mut growth);

@@ -1,7 +1,7 @@
 //! Laws about the object of lines.
 
 ghost use Rattle.alm_asm.specs.Laws.{PlacesCount, SizesCount, WordsFollow, SymbolsStay};
-ghost use Rattle.alm_asm.specs.Laws.{OffsetsAreRead, PartsAreMarked, OnlyTooLong};
+ghost use Rattle.alm_asm.specs.Laws.{OffsetsAreRead, RelocatedPartsHoldValues, OnlyTooLong};
 
 /// The place of a line in its section is the number of words that the lines above it place there,
 /// and its size is the number of words that it places. The words of lines follow those of the lines
@@ -15,6 +15,6 @@ pub fn assembly_laws()
     ensures words { WordsFollow }
     ensures symbols { SymbolsStay }
     ensures offsets { OffsetsAreRead }
-    ensures parts { PartsAreMarked }
+    ensures parts { RelocatedPartsHoldValues }
     ensures length { OnlyTooLong }
 {}

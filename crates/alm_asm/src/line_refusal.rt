@@ -3,19 +3,19 @@
 ghost use Rattle.std.specs.Prelude.{ℕ, [], ◌≡◌, ◌+◌, ◌^◌, ◌<◌, ◌≤◌, length};
 ghost use Rattle.std.specs.Prelude.{Option, OnOk, IfOk, nat_lt, unwrap_or};
 ghost use Rattle.alm_lines.specs.Arguments.{first_arg, terms_in};
-ghost use Rattle.alm_lines.specs.Values.{evaluated};
-ghost use Rattle.alm_asm.specs.LineValues.{place_in, seen_from};
-ghost use Rattle.obj36_parts.specs.ObjectSegment.{word_of_link};
+ghost use Rattle.alm_lines.specs.Values.{value_of_expression};
+ghost use Rattle.alm_asm.specs.LineValues.{index_in_links, values_from};
+ghost use Rattle.obj36_parts.specs.ObjectSegment.{link_offset};
 ghost use Rattle.m36_word.specs.Field.{offset_limit};
 ghost use Rattle.alm_lines.specs.Spots.{start};
 ghost use Rattle.alm_asm.specs.Definitions.{definitions_after};
-ghost use Rattle.alm_asm.specs.LineRefusals.{unless, op_place, external_place, needs_static};
-ghost use Rattle.alm_asm.specs.LineRefusals.{may_name, own_room, link_expression};
-ghost use Rattle.alm_asm.specs.LineRefusals.{reaches, external_refusal, own_operand};
-ghost use Rattle.alm_asm.specs.LineRefusals.{operand_refusal, may_enter};
+ghost use Rattle.alm_asm.specs.LineRefusals.{refusal_unless, op_place, external_place, needs_static};
+ghost use Rattle.alm_asm.specs.LineRefusals.{may_name, internal_operand_field, link_expression};
+ghost use Rattle.alm_asm.specs.LineRefusals.{link_is_in_reach, external_refusal, own_operand};
+ghost use Rattle.alm_asm.specs.LineRefusals.{operand_refusal, may_select};
 ghost use Rattle.alm_asm.specs.LineRefusals.{instruction_refusal, use_refusal, halves_refusal};
-ghost use Rattle.alm_asm.specs.LineRefusals.{refusal_of_deed, line_refusal, lines_refusal};
-ghost use Rattle.alm_asm.specs.Links.{operand_args, link_by, link_in};
+ghost use Rattle.alm_asm.specs.LineRefusals.{refusal_of_effect, line_refusal, lines_refusal};
+ghost use Rattle.alm_asm.specs.Links.{operand_args, link_of_parts, link_in};
 
 use crate::definitions::push_definitions;
 use crate::links::offset_of_link;
@@ -24,10 +24,10 @@ use crate::tables::Tables;
 use alm_lines::arguments::{first_symbol, first_terms, second_terms, section_in};
 use alm_lines::count::Count;
 use alm_lines::expression::expression_place;
-use alm_lines::refusal::{AlmCode, AlmRefusal, Requirement, ValueField, refusal_at, sooner};
-use alm_lines::spot::{LocationCounter, below};
+use alm_lines::refusal::{AlmCode, AlmRefusal, Requirement, ValueField, refusal_at, earlier_refusal};
+use alm_lines::spot::{LocationCounter, next_line_spot};
 use alm_lines::symbols::Symbols;
-use alm_lines::value::{Value, evaluate, is_valued, value_refused};
+use alm_lines::value::{Value, evaluate, evaluated_has_value, evaluated_refusal};
 use alm_parse::{Arg, Line36, LineEffect, Span, Term, own_section};
 use m36_word::NoMemory;
 use obj36::{Defs, Section};
@@ -36,8 +36,8 @@ use obj36_parts::sections::is_text_section;
 use std::alloc::Global;
 
 // The refusal, unless the condition holds.
-fn unless(holds: bool, refusal: AlmRefusal) -> Option<AlmRefusal>
-    ensures { result ≡ unless holds refusal }
+fn refusal_unless(holds: bool, refusal: AlmRefusal) -> Option<AlmRefusal>
+    ensures { result ≡ refusal_unless holds refusal }
 {
     if holds { None } else { Some(refusal) }
 }
@@ -83,8 +83,8 @@ fn may_name(tables: &Tables, own: Option<Section>) -> bool
 
 /// The field that the expression of an operand must fit: the offset after a pointer register, or
 /// half a word.
-pub fn own_room(pr: Option<u8>) -> ValueField
-    ensures { result ≡ own_room pr }
+pub fn internal_operand_field(pr: Option<u8>) -> ValueField
+    ensures { result ≡ internal_operand_field pr }
 {
     match pr {
         Some(_) => ValueField::Offset,
@@ -103,7 +103,7 @@ fn link_expression_refusal(
     terms: &[Term],
     value: Value,
 ) -> Option<AlmRefusal>
-    requires { value ≡ evaluated text.now symbols.now spot terms.now }
+    requires { value ≡ value_of_expression text.now symbols.now spot terms.now }
     ensures { result
         ≡ link_expression text.now symbols.now spot line.now segment entry terms.now }
 {
@@ -112,20 +112,20 @@ fn link_expression_refusal(
         room: ValueField::Half,
         may_move: false,
     };
-    value_refused(text, symbols, spot, line, terms, wanted, value)
+    evaluated_refusal(text, symbols, spot, line, terms, wanted, value)
 }
 
 // Whether the link with this index is in the reach of `pr4|`, below 2^14 words.
 fn is_in_reach(first: Count, place: Option<u64>) -> bool
-    ensures { result ≡ nat_lt (word_of_link first (unwrap_or place 0)) offset_limit }
+    ensures { result ≡ nat_lt (link_offset first (unwrap_or place 0)) offset_limit }
 {
     offset_of_link(first, place) < OFFSET_LIMIT as u128
 }
 
 // Whether the link of an external operand is in reach. An operand whose expression has no value is
 // not a link, so its place is not checked.
-#[tactic(auto, using(crate::proofs::SeenLaws::by_place), unfolding(crate::specs::LineRefusals::reaches, crate::specs::LineRefusals::is_in_reach))]
-fn reaches(
+#[tactic(auto, using(crate::proofs::SeenLaws::by_place), unfolding(crate::specs::LineRefusals::link_is_in_reach, crate::specs::LineRefusals::is_in_reach))]
+fn link_is_in_reach(
     text: &[u8],
     tables: &Tables,
     spot: LocationCounter,
@@ -136,14 +136,14 @@ fn reaches(
     value: Value,
     place: Option<u64>,
 ) -> bool
-    requires value { value ≡ evaluated text.now tables.now.symbols spot terms.now }
+    requires value { value ≡ value_of_expression text.now tables.now.symbols spot terms.now }
     requires place { place
-        ≡ place_in tables.now.links
-        (link_by text.now tables.now.symbols spot (Option.Some _segment) _entry terms.now _tag) }
-    ensures { result ≡ reaches text.now tables.now spot _segment _entry terms.now _tag }
+        ≡ index_in_links tables.now.links
+        (link_of_parts text.now tables.now.symbols spot (Option.Some _segment) _entry terms.now _tag) }
+    ensures { result ≡ link_is_in_reach text.now tables.now spot _segment _entry terms.now _tag }
 {
     let symbols = &tables.symbols;
-    if !is_valued(text, symbols, spot, terms, ValueField::Half, false, value) {
+    if !evaluated_has_value(text, symbols, spot, terms, ValueField::Half, false, value) {
         return true;
     }
     is_in_reach(tables.first_link, place)
@@ -163,10 +163,10 @@ fn external_refusal(
     value: Value,
     place: Option<u64>,
 ) -> Option<AlmRefusal>
-    requires value { value ≡ evaluated text.now tables.now.symbols spot terms.now }
+    requires value { value ≡ value_of_expression text.now tables.now.symbols spot terms.now }
     requires place { place
-        ≡ place_in tables.now.links
-        (link_by text.now tables.now.symbols spot (Option.Some segment) entry terms.now tag) }
+        ≡ index_in_links tables.now.links
+        (link_of_parts text.now tables.now.symbols spot (Option.Some segment) entry terms.now tag) }
     ensures { result
         ≡ external_refusal text.now tables.now spot line.now segment entry terms.now tag }
 {
@@ -181,13 +181,13 @@ fn external_refusal(
         terms,
         value,
     );
-    let reached = reaches(text, tables, spot, segment, entry, terms, tag, value, place);
-    let named = may_name(tables, own_section(text, segment));
-    sooner(sooner(expression, unless(reached, at)), unless(named, at))
+    let reached = link_is_in_reach(text, tables, spot, segment, entry, terms, tag, value, place);
+    let definition_of_name = may_name(tables, own_section(text, segment));
+    earlier_refusal(earlier_refusal(expression, refusal_unless(reached, at)), refusal_unless(definition_of_name, at))
 }
 
 // The refusal of an operand that is an expression.
-fn own_operand_refusal(
+fn refusal_of_internal_operand(
     text: &[u8],
     tables: &Tables,
     spot: LocationCounter,
@@ -196,7 +196,7 @@ fn own_operand_refusal(
     terms: &[Term],
     value: Value,
 ) -> Option<AlmRefusal>
-    requires { value ≡ evaluated text.now tables.now.symbols spot terms.now }
+    requires { value ≡ value_of_expression text.now tables.now.symbols spot terms.now }
     ensures { result ≡ own_operand text.now tables.now spot line.now room terms.now }
 {
     let wanted = Requirement {
@@ -204,7 +204,7 @@ fn own_operand_refusal(
         room,
         may_move: true,
     };
-    value_refused(text, &tables.symbols, spot, line, terms, wanted, value)
+    evaluated_refusal(text, &tables.symbols, spot, line, terms, wanted, value)
 }
 
 // The refusal of the operand of an instruction, if it has one that is refused.
@@ -217,9 +217,9 @@ fn operand_refusal(
     place: Option<u64>,
 ) -> Option<AlmRefusal>
     requires value { value
-        ≡ evaluated text.now tables.now.symbols spot (terms_in (first_arg line.now.args)) }
+        ≡ value_of_expression text.now tables.now.symbols spot (terms_in (first_arg line.now.args)) }
     requires place { place
-        ≡ place_in tables.now.links
+        ≡ index_in_links tables.now.links
         (link_in text.now tables.now.symbols spot (first_arg line.now.args)) }
     ensures { result
         ≡ operand_refusal text.now tables.now spot line.now (first_arg line.now.args) }
@@ -240,7 +240,7 @@ fn operand_refusal(
                 Some(segment) => external_refusal(
                     text, tables, spot, line, *segment, *entry, terms, *tag, value, place,
                 ),
-                None => own_operand_refusal(text, tables, spot, line, own_room(*pr), terms, value),
+                None => refusal_of_internal_operand(text, tables, spot, line, internal_operand_field(*pr), terms, value),
             }
         }
         _ => None,
@@ -248,8 +248,8 @@ fn operand_refusal(
 }
 
 // Whether a `use` line may select a section: the static words of a source are all in one section.
-fn may_enter(spot: LocationCounter, section: Section) -> bool
-    ensures { result ≡ may_enter spot section }
+fn may_select(spot: LocationCounter, section: Section) -> bool
+    ensures { result ≡ may_select spot section }
 {
     match section {
         Section::Text | Section::Symbol => true,
@@ -268,15 +268,15 @@ fn instruction_refusal(
     place: Option<u64>,
 ) -> Option<AlmRefusal>
     requires value { value
-        ≡ evaluated text.now tables.now.symbols spot (terms_in (first_arg line.now.args)) }
+        ≡ value_of_expression text.now tables.now.symbols spot (terms_in (first_arg line.now.args)) }
     requires place { place
-        ≡ place_in tables.now.links
+        ≡ index_in_links tables.now.links
         (link_in text.now tables.now.symbols spot (first_arg line.now.args)) }
     ensures { result ≡ instruction_refusal text.now tables.now spot line.now }
 {
     let operand = operand_refusal(text, tables, spot, line, value, place);
     let at = refusal_at(line, op_place(line.op), AlmCode::E7);
-    sooner(unless(is_text_section(spot.section), at), operand)
+    earlier_refusal(refusal_unless(is_text_section(spot.section), at), operand)
 }
 
 // The refusal of a `use` line: E7 at the operation, if static words are in another section.
@@ -285,7 +285,7 @@ fn use_refusal(text: &[u8], spot: LocationCounter, line: &Line36) -> Option<AlmR
 {
     let section = section_in(text, first_symbol(line.args.items()));
     let at = refusal_at(line, op_place(line.op), AlmCode::E7);
-    unless(may_enter(spot, section), at)
+    refusal_unless(may_select(spot, section), at)
 }
 
 // The first refusal of the two expressions of a `zero` line.
@@ -297,21 +297,21 @@ fn halves_refusal(
     value: Value,
 ) -> Option<AlmRefusal>
     requires { value
-        ≡ evaluated text.now tables.now.symbols spot (terms_in (first_arg line.now.args)) }
+        ≡ value_of_expression text.now tables.now.symbols spot (terms_in (first_arg line.now.args)) }
     ensures { result ≡ halves_refusal text.now tables.now spot line.now }
 {
     let args = line.args.items();
     let first = first_terms(args);
     let second = second_terms(args);
     let other = evaluate(text, &tables.symbols, spot, second);
-    let left = own_operand_refusal(text, tables, spot, line, ValueField::Half, first, value);
-    let right = own_operand_refusal(text, tables, spot, line, ValueField::Half, second, other);
-    sooner(left, right)
+    let left = refusal_of_internal_operand(text, tables, spot, line, ValueField::Half, first, value);
+    let right = refusal_of_internal_operand(text, tables, spot, line, ValueField::Half, second, other);
+    earlier_refusal(left, right)
 }
 
 // The refusal of the operation of a line, apart from those of the names and symbols that it
 // defines. `value` is that of the first argument, `place` the index of the link.
-fn refusal_of_deed(
+fn refusal_of_effect(
     text: &[u8],
     tables: &Tables,
     spot: LocationCounter,
@@ -321,11 +321,11 @@ fn refusal_of_deed(
     place: Option<u64>,
 ) -> Option<AlmRefusal>
     requires value { value
-        ≡ evaluated text.now tables.now.symbols spot (terms_in (first_arg line.now.args)) }
+        ≡ value_of_expression text.now tables.now.symbols spot (terms_in (first_arg line.now.args)) }
     requires place { place
-        ≡ place_in tables.now.links
+        ≡ index_in_links tables.now.links
         (link_in text.now tables.now.symbols spot (first_arg (operand_args deed line.now.args))) }
-    ensures { result ≡ refusal_of_deed text.now tables.now spot line.now deed }
+    ensures { result ≡ refusal_of_effect text.now tables.now spot line.now deed }
 {
     match deed {
         LineEffect::Instruction(_, _) => instruction_refusal(
@@ -355,9 +355,9 @@ fn take_line(
     done: &mut Defs,
 ) -> Result<Option<AlmRefusal>, NoMemory>
     requires value { seen.now.value
-        ≡ evaluated text.now tables.now.symbols spot (terms_in (first_arg line.now.args)) }
+        ≡ value_of_expression text.now tables.now.symbols spot (terms_in (first_arg line.now.args)) }
     requires place { seen.now.place
-        ≡ place_in tables.now.links
+        ≡ index_in_links tables.now.links
         (link_in text.now tables.now.symbols spot
         (first_arg (operand_args line.now.deed line.now.args))) }
     ensures definitions { OnOk result
@@ -366,8 +366,8 @@ fn take_line(
         r ≡ line_refusal text.now tables.now done.old spot line.now) }
 {
     let names = push_definitions(text, &tables.symbols, line, None, done)?;
-    let own = refusal_of_deed(text, tables, spot, line, line.deed, seen.value, seen.place);
-    Ok(sooner(names, own))
+    let own = refusal_of_effect(text, tables, spot, line, line.deed, seen.value, seen.place);
+    Ok(earlier_refusal(names, own))
 }
 
 // The first refusal of a line. `done` has the definitions of the lines above.
@@ -382,7 +382,7 @@ fn take_lines(
 ) -> Result<Option<AlmRefusal>, NoMemory>
     requires count { length lines.now < 2 ^ 32 }
     requires seen { seen.now
-        ≡ seen_from text.now tables.now.symbols tables.now.links start lines.now }
+        ≡ values_from text.now tables.now.symbols tables.now.links start lines.now }
     ensures { IfOk result (λ r.
         r ≡ lines_refusal text.now tables.now done.old start lines.now) }
 {
@@ -402,7 +402,7 @@ fn take_lines(
         if let Some(refusal) = take_line(text, tables, spot, line, &seen, done)? {
             return Ok(Some(refusal));
         }
-        spot = below(alloc, text, spot, line)?;
+        spot = next_line_spot(alloc, text, spot, line)?;
         rest = more;
         left = later;
     }
@@ -419,7 +419,7 @@ pub fn lines_refusal(
 ) -> Result<Option<AlmRefusal>, NoMemory>
     requires count { length lines.now < 2 ^ 32 }
     requires seen { seen.now
-        ≡ seen_from text.now tables.now.symbols tables.now.links start lines.now }
+        ≡ values_from text.now tables.now.symbols tables.now.links start lines.now }
     ensures { IfOk result (λ r.
         r ≡ lines_refusal text.now tables.now [] start lines.now) }
 {

@@ -2,22 +2,22 @@
 
 ghost use Rattle.std.specs.Prelude.{ℕ, [], ◌≡◌, ◌^◌, ◌<◌, ◌≤◌, length, Option};
 ghost use Rattle.std.specs.Prelude.{OnOk, IfOk, position, unwrap_or};
-ghost use Rattle.obj36_parts.specs.ObjectSegment.{word_of_link};
+ghost use Rattle.obj36_parts.specs.ObjectSegment.{link_offset};
 ghost use Rattle.obj36_parts.specs.Indexes.{same_link};
-ghost use Rattle.alm_asm.specs.LineValues.{place_in};
+ghost use Rattle.alm_asm.specs.LineValues.{index_in_links};
 ghost use Rattle.alm_lines.specs.Arguments.{name_at, first_arg, terms_in};
-ghost use Rattle.alm_lines.specs.Values.{evaluated};
+ghost use Rattle.alm_lines.specs.Values.{value_of_expression};
 ghost use Rattle.obj36_parts.specs.Sections.{same_section};
 ghost use Rattle.alm_asm.specs.Links.{link_kind, link_section, link_name, entry_name};
-ghost use Rattle.alm_asm.specs.Links.{link_of, operand_args, link_by, link_in, with_link};
-ghost use Rattle.alm_asm.specs.Links.{links_after, link_place};
+ghost use Rattle.alm_asm.specs.Links.{link_of, operand_args, link_of_parts, link_in, with_link};
+ghost use Rattle.alm_asm.specs.Links.{links_after, offset_of_link_in};
 
 use alm_lines::arguments::name_at;
 use alm_lines::count::Count;
 use alm_lines::refusal::ValueField;
 use alm_lines::spot::LocationCounter;
 use alm_lines::symbols::Symbols;
-use alm_lines::value::{Value, is_valued};
+use alm_lines::value::{Value, evaluated_has_value};
 use alm_parse::{Arg, Line36, LineEffect, Span, Term, own_section};
 use m36_text::Name;
 use m36_word::NoMemory;
@@ -68,7 +68,7 @@ fn entry_name(text: &[u8], entry: Option<Span>) -> Name
 }
 
 /// The link of an external operand. `value` is that of its expression.
-#[tactic(auto, unfolding(crate::specs::Links::link_of, alm_lines::specs::Values::evaluated))]
+#[tactic(auto, unfolding(crate::specs::Links::link_of, alm_lines::specs::Values::value_of_expression))]
 pub fn link_of(
     text: &[u8],
     _symbols: &Symbols,
@@ -79,7 +79,7 @@ pub fn link_of(
     tag: u8,
     value: Value,
 ) -> Link
-    requires { value ≡ evaluated text.now _symbols.now _spot _terms.now }
+    requires { value ≡ value_of_expression text.now _symbols.now _spot _terms.now }
     ensures { result ≡ link_of text.now _symbols.now _spot segment entry _terms.now tag }
 {
     let own = own_section(text, segment);
@@ -104,11 +104,11 @@ fn external_link(
     tag: u8,
     value: Value,
 ) -> Option<Link>
-    requires { value ≡ evaluated text.now symbols.now spot terms.now }
+    requires { value ≡ value_of_expression text.now symbols.now spot terms.now }
     ensures { result
-        ≡ link_by text.now symbols.now spot (Option.Some segment) entry terms.now tag }
+        ≡ link_of_parts text.now symbols.now spot (Option.Some segment) entry terms.now tag }
 {
-    if !is_valued(text, symbols, spot, terms, ValueField::Half, false, value) {
+    if !evaluated_has_value(text, symbols, spot, terms, ValueField::Half, false, value) {
         return None;
     }
     Some(link_of(text, symbols, spot, segment, entry, terms, tag, value))
@@ -123,7 +123,7 @@ fn link_in(
     args: &[Arg],
     value: Value,
 ) -> Option<Link>
-    requires { value ≡ evaluated text.now symbols.now spot (terms_in (first_arg args.now)) }
+    requires { value ≡ value_of_expression text.now symbols.now spot (terms_in (first_arg args.now)) }
     ensures { result ≡ link_in text.now symbols.now spot (first_arg args.now) }
 {
     match args {
@@ -167,7 +167,7 @@ fn add_link(links: &mut Links, link: Link) -> Result<u64, NoMemory>
 // Adds the link of an operand, if it has one. Returns the index of the link.
 fn add_operand_link(links: &mut Links, link: Option<Link>) -> Result<Option<u64>, NoMemory>
     ensures links { OnOk result (links.new ≡ with_link links.old link) }
-    ensures place { IfOk result (λ place. place ≡ place_in links.new link) }
+    ensures place { IfOk result (λ place. place ≡ index_in_links links.new link) }
 {
     match link {
         None => Ok(None),
@@ -189,12 +189,12 @@ pub fn add_link_of_line(
     line: &Line36,
     value: Value,
 ) -> Result<Option<u64>, NoMemory>
-    requires { value ≡ evaluated text.now symbols.now spot (terms_in (first_arg line.now.args)) }
+    requires { value ≡ value_of_expression text.now symbols.now spot (terms_in (first_arg line.now.args)) }
     ensures links { OnOk result
         (links.new ≡ links_after text.now symbols.now links.old spot line.now) }
     ensures place { IfOk result (λ place.
         place
-        ≡ place_in links.new
+        ≡ index_in_links links.new
         (link_in text.now symbols.now spot
         (first_arg (operand_args line.now.deed line.now.args)))) }
 {
@@ -219,16 +219,16 @@ pub fn add_link_of_line(
 /// The offset in the linkage section of the link with this index, counted from 0; that of the first
 /// link if there is no index. `first` is the offset of the first link.
 pub fn offset_of_link(first: Count, place: Option<u64>) -> u128
-    ensures { result ≡ word_of_link first (unwrap_or place 0) }
+    ensures { result ≡ link_offset first (unwrap_or place 0) }
 {
     first.value() + 2 * (place.unwrap_or(0) as u128)
 }
 
 /// The offset of a link in the linkage section. `first` is the offset of the first link. A link
 /// that the list does not have counts as the first.
-#[tactic(auto, unfolding(crate::specs::Links::link_place))]
-pub fn link_place(links: &Links, first: Count, link: &Link) -> u128
-    ensures { result ≡ link_place links.now first link.now }
+#[tactic(auto, unfolding(crate::specs::Links::offset_of_link_in))]
+pub fn offset_of_link_in(links: &Links, first: Count, link: &Link) -> u128
+    ensures { result ≡ offset_of_link_in links.now first link.now }
 {
     let index = links.place(link).unwrap_or(0) as u128;
     first.value() + 2 * index

@@ -2,30 +2,30 @@
 
 ghost use Rattle.std.specs.Prelude.{[], ◌≡◌, ◌^◌, ◌<◌, length, OnOk, IfOk};
 ghost use Rattle.alm_lines.specs.Spots.{start};
-ghost use Rattle.alm_asm.specs.LineValues.{seen_from};
+ghost use Rattle.alm_asm.specs.LineValues.{values_from};
 ghost use Rattle.obj36_parts.specs.declared.section.Section.TheVariants.{Text};
 ghost use Rattle.alm_asm.specs.Words.{words_from};
 ghost use Rattle.alm_asm.specs.Definitions.{definitions_from};
-ghost use Rattle.alm_asm.specs.Parts.{parts_by};
-ghost use Rattle.alm_asm.specs.Assembly.{bound_by, bound_from, static_section, relocations_of, evened, parts_with};
+ghost use Rattle.alm_asm.specs.Parts.{parts_from_tables};
+ghost use Rattle.alm_asm.specs.Assembly.{bound_after_line, bound_from, static_section, relocations_of, evened, parts_with};
 
 use crate::definitions::definitions_of;
-use crate::relocations::push_marks_in;
+use crate::relocations::push_relocations_in;
 use crate::seen::LineValues;
 use crate::tables::Tables;
 use crate::words::words_in;
-use alm_lines::spot::{LocationCounter, below};
+use alm_lines::spot::{LocationCounter, next_line_spot};
 use alm_parse::{Line36, LineEffect};
 use m36_word::{NoMemory, Words};
 use obj36::{Defs, Parts, Relocs, Section};
-use obj36_parts::sections::{push_evening, version_of};
+use obj36_parts::sections::{pad_to_even, version_of};
 use std::alloc::Global;
 
 // The entry bound after a line: its place in the text, if it is an `entrybound` line, or else the
 // bound so far.
-fn bound_by(spot: LocationCounter, bound: u32, deed: LineEffect) -> u32
+fn bound_after_line(spot: LocationCounter, bound: u32, deed: LineEffect) -> u32
     requires { bound < 2 ^ 18 }
-    ensures value { result ≡ bound_by spot bound deed }
+    ensures value { result ≡ bound_after_line spot bound deed }
     ensures bound { result < 2 ^ 18 }
 {
     match deed {
@@ -54,8 +54,8 @@ fn bound_of(alloc: Global, text: &[u8], lines: &[Line36]) -> Result<u32, NoMemor
     let mut spot = LocationCounter::start();
     let mut rest = lines;
     while let [line, more @ ..] = rest {
-        bound = bound_by(spot, bound, line.deed);
-        spot = below(alloc, text, spot, line)?;
+        bound = bound_after_line(spot, bound, line.deed);
+        spot = next_line_spot(alloc, text, spot, line)?;
         rest = more;
     }
     Ok(bound)
@@ -73,13 +73,13 @@ fn static_section(uses_outer: bool) -> Section
 }
 
 // In version 1 adds a zero word to an odd number of static words.
-fn even_out(uses_outer: bool, words: &mut Words) -> Result<(), NoMemory>
+fn pad_statics(uses_outer: bool, words: &mut Words) -> Result<(), NoMemory>
     ensures { OnOk result (words.new ≡ evened uses_outer words.old) }
 {
     if uses_outer {
         return Ok(());
     }
-    push_evening(words)
+    pad_to_even(words)
 }
 
 // The static words of the object of the lines.
@@ -92,7 +92,7 @@ fn statics_of(
 ) -> Result<Words, NoMemory>
     requires count { length lines.now < 2 ^ 32 }
     requires seen { seen.now
-        ≡ seen_from text.now tables.now.symbols tables.now.links start lines.now }
+        ≡ values_from text.now tables.now.symbols tables.now.links start lines.now }
     ensures { IfOk result (λ words.
         words
         ≡ evened tables.now.uses_outer
@@ -101,7 +101,7 @@ fn statics_of(
 {
     let section = static_section(tables.uses_outer);
     let mut words = words_in(alloc, text, tables, section, lines, seen)?;
-    even_out(tables.uses_outer, &mut words)?;
+    pad_statics(tables.uses_outer, &mut words)?;
     Ok(words)
 }
 
@@ -115,13 +115,13 @@ fn relocations_of(
 ) -> Result<Relocs, NoMemory>
     requires count { length lines.now < 2 ^ 32 }
     requires seen { seen.now
-        ≡ seen_from text.now tables.now.symbols tables.now.links start lines.now }
+        ≡ values_from text.now tables.now.symbols tables.now.links start lines.now }
     ensures { IfOk result (λ marks. marks ≡ relocations_of text.now tables.now lines.now) }
 {
     let mut marks = Relocs::new(alloc);
     let section = static_section(tables.uses_outer);
-    push_marks_in(alloc, text, tables, Section::Text, lines, seen, &mut marks)?;
-    push_marks_in(alloc, text, tables, section, lines, seen, &mut marks)?;
+    push_relocations_in(alloc, text, tables, Section::Text, lines, seen, &mut marks)?;
+    push_relocations_in(alloc, text, tables, section, lines, seen, &mut marks)?;
     Ok(marks)
 }
 
@@ -133,7 +133,7 @@ struct PlacedWords {
 }
 
 // The text and the static words of the object of the lines.
-fn placed_in(
+fn placed_words(
     alloc: Global,
     text: &[u8],
     tables: &Tables,
@@ -142,7 +142,7 @@ fn placed_in(
 ) -> Result<PlacedWords, NoMemory>
     requires count { length lines.now < 2 ^ 32 }
     requires seen { seen.now
-        ≡ seen_from text.now tables.now.symbols tables.now.links start lines.now }
+        ≡ values_from text.now tables.now.symbols tables.now.links start lines.now }
     ensures text { IfOk result (λ placed.
         placed.text ≡ words_from text.now tables.now Text [] start lines.now) }
     ensures statics { IfOk result (λ placed.
@@ -167,7 +167,7 @@ struct DefinitionsAndRelocations {
 }
 
 // The definitions and the relocations of the object of the lines.
-fn noted_in(
+fn definitions_and_relocations(
     alloc: Global,
     text: &[u8],
     tables: &Tables,
@@ -176,7 +176,7 @@ fn noted_in(
 ) -> Result<DefinitionsAndRelocations, NoMemory>
     requires count { length lines.now < 2 ^ 32 }
     requires seen { seen.now
-        ≡ seen_from text.now tables.now.symbols tables.now.links start lines.now }
+        ≡ values_from text.now tables.now.symbols tables.now.links start lines.now }
     ensures definitions { IfOk result (λ noted.
         noted.definitions ≡ definitions_from text.now tables.now.symbols [] lines.now) }
     ensures relocations { IfOk result (λ noted.
@@ -201,7 +201,7 @@ struct Contents {
 // The parts of the object, which take the links from the tables.
 fn parts_of(tables: Tables, contents: Contents) -> Parts
     requires { contents.entry_bound < 2 ^ 18 }
-    ensures { result ≡ parts_by tables contents.placed contents.noted contents.entry_bound }
+    ensures { result ≡ parts_from_tables tables contents.placed contents.noted contents.entry_bound }
 {
     Parts {
         text: contents.placed.text,
@@ -225,15 +225,15 @@ fn contents_of(
 ) -> Result<Contents, NoMemory>
     requires count { length lines.now < 2 ^ 32 }
     requires seen { seen.now
-        ≡ seen_from text.now tables.now.symbols tables.now.links start lines.now }
+        ≡ values_from text.now tables.now.symbols tables.now.links start lines.now }
     ensures bound { IfOk result (λ contents. contents.entry_bound < 2 ^ 18) }
     ensures parts { IfOk result (λ contents.
-        parts_by tables.now contents.placed contents.noted contents.entry_bound
+        parts_from_tables tables.now contents.placed contents.noted contents.entry_bound
         ≡ parts_with text.now tables.now lines.now) }
 {
     let entry_bound = bound_of(alloc, text, lines)?;
-    let placed = placed_in(alloc, text, tables, lines, seen)?;
-    let noted = noted_in(alloc, text, tables, lines, seen)?;
+    let placed = placed_words(alloc, text, tables, lines, seen)?;
+    let noted = definitions_and_relocations(alloc, text, tables, lines, seen)?;
     Ok(Contents {
         placed,
         noted,
@@ -250,7 +250,7 @@ pub(crate) fn parts_with(
     seen: &[LineValues],
 ) -> Result<Parts, NoMemory>
     requires count { length lines.now < 2 ^ 32 }
-    requires seen { seen.now ≡ seen_from text.now tables.symbols tables.links start lines.now }
+    requires seen { seen.now ≡ values_from text.now tables.symbols tables.links start lines.now }
     ensures { IfOk result (λ parts. parts ≡ parts_with text.now tables lines.now) }
 {
     match contents_of(alloc, text, &tables, lines, seen) {

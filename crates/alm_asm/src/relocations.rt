@@ -4,21 +4,21 @@
 ghost use Rattle.std.specs.Prelude.{ℕ, List, [], ◌∷◌, ◌++◌, ◌≡◌, ◌%◌, ◌^◌, ◌<◌, length, Option};
 ghost use Rattle.std.specs.Prelude.{OnOk, IfOk};
 ghost use Rattle.alm_lines.specs.Arguments.{first_arg, terms_in};
-ghost use Rattle.alm_lines.specs.Values.{evaluated};
-ghost use Rattle.alm_asm.specs.LineValues.{seen_from};
+ghost use Rattle.alm_lines.specs.Values.{value_of_expression};
+ghost use Rattle.alm_asm.specs.LineValues.{values_from};
 ghost use Rattle.alm_lines.specs.Spots.{start};
 ghost use Rattle.alm_parse.specs.declared.deed.LineEffect.TheVariants as deed;
-ghost use Rattle.alm_asm.specs.Relocations.{mark, operand_part, kind_given, operand_mark, marks_by};
-ghost use Rattle.alm_asm.specs.Relocations.{marks_after, marks_from};
+ghost use Rattle.alm_asm.specs.Relocations.{relocation_of_part, operand_part, operand_value_kind, operand_relocation, with_line_relocations};
+ghost use Rattle.alm_asm.specs.Relocations.{relocations_after, relocations_from};
 
 use crate::links::same_section;
 use crate::seen::{LineValues, next_values};
 use crate::tables::Tables;
 use alm_lines::arguments::{first_terms, second_terms};
-use alm_lines::spot::{LocationCounter, below};
+use alm_lines::spot::{LocationCounter, next_line_spot};
 use alm_lines::sum::Kind;
 use alm_lines::symbols::Symbols;
-use alm_lines::value::{Value, evaluate, kind_valued};
+use alm_lines::value::{Value, evaluate, evaluated_kind};
 use alm_parse::{Arg, Line36, LineEffect, Span};
 use m36_word::NoMemory;
 use obj36::{Reloc, Relocs, Section};
@@ -31,7 +31,7 @@ fn push_relocation(
     part: u8,
     kind: Kind,
 ) -> Result<(), NoMemory>
-    ensures { OnOk result (marks.new ≡ marks.old ++ mark spot part kind) }
+    ensures { OnOk result (marks.new ≡ marks.old ++ relocation_of_part spot part kind) }
 {
     match kind {
         Kind::Moved(target) => {
@@ -60,8 +60,8 @@ fn operand_part(pr: Option<u8>, segment: Option<Span>) -> u8
 
 /// The kind of the value in the word of an operand: a place of the linkage section for an external
 /// one, otherwise that of its expression.
-pub fn kind_given(segment: Option<Span>, kind: Kind) -> Kind
-    ensures { result ≡ kind_given segment kind }
+pub fn operand_value_kind(segment: Option<Span>, kind: Kind) -> Kind
+    ensures { result ≡ operand_value_kind segment kind }
 {
     match segment {
         Some(_) => Kind::Moved(Section::Linkage),
@@ -78,9 +78,9 @@ fn push_operand(
     value: Value,
     marks: &mut Relocs,
 ) -> Result<(), NoMemory>
-    requires { value ≡ evaluated text.now symbols.now spot (terms_in (first_arg args.now)) }
+    requires { value ≡ value_of_expression text.now symbols.now spot (terms_in (first_arg args.now)) }
     ensures { OnOk result
-        (marks.new ≡ marks.old ++ operand_mark text.now symbols.now spot (first_arg args.now)) }
+        (marks.new ≡ marks.old ++ operand_relocation text.now symbols.now spot (first_arg args.now)) }
 {
     match args {
         [
@@ -93,8 +93,8 @@ fn push_operand(
             },
             ..
         ] => {
-            let kind = kind_valued(text, symbols, spot, expr.items(), value);
-            push_relocation(marks, spot, operand_part(*pr, *seg), kind_given(*seg, kind))
+            let kind = evaluated_kind(text, symbols, spot, expr.items(), value);
+            push_relocation(marks, spot, operand_part(*pr, *seg), operand_value_kind(*seg, kind))
         }
         _ => Ok(()),
     }
@@ -109,20 +109,20 @@ fn push_halves(
     value: Value,
     marks: &mut Relocs,
 ) -> Result<(), NoMemory>
-    requires { value ≡ evaluated text.now symbols.now spot (terms_in (first_arg args.now)) }
+    requires { value ≡ value_of_expression text.now symbols.now spot (terms_in (first_arg args.now)) }
     ensures { OnOk result
-        (marks.new ≡ marks_by text.now symbols.now spot marks.old args.now deed.Zero) }
+        (marks.new ≡ with_line_relocations text.now symbols.now spot marks.old args.now deed.Zero) }
 {
     let second = second_terms(args);
     let other = evaluate(text, symbols, spot, second);
-    let left = kind_valued(text, symbols, spot, first_terms(args), value);
-    let right = kind_valued(text, symbols, spot, second, other);
+    let left = evaluated_kind(text, symbols, spot, first_terms(args), value);
+    let right = evaluated_kind(text, symbols, spot, second, other);
     push_relocation(marks, spot, 0, left)?;
     push_relocation(marks, spot, 1, right)
 }
 
 // Adds the relocations of a line with this operation.
-fn push_marks(
+fn push_relocations(
     text: &[u8],
     symbols: &Symbols,
     spot: LocationCounter,
@@ -131,8 +131,8 @@ fn push_marks(
     deed: LineEffect,
     marks: &mut Relocs,
 ) -> Result<(), NoMemory>
-    requires { value ≡ evaluated text.now symbols.now spot (terms_in (first_arg args.now)) }
-    ensures { OnOk result (marks.new ≡ marks_by text.now symbols.now spot marks.old args.now deed) }
+    requires { value ≡ value_of_expression text.now symbols.now spot (terms_in (first_arg args.now)) }
+    ensures { OnOk result (marks.new ≡ with_line_relocations text.now symbols.now spot marks.old args.now deed) }
 {
     match deed {
         LineEffect::Instruction(_, _) => push_operand(text, symbols, spot, args, value, marks),
@@ -150,7 +150,7 @@ fn push_marks(
 }
 
 // Adds the relocations of a line, if it is in this section.
-#[tactic(auto, unfolding(crate::specs::Relocations::marks_after))]
+#[tactic(auto, unfolding(crate::specs::Relocations::relocations_after))]
 fn take_line(
     text: &[u8],
     symbols: &Symbols,
@@ -160,20 +160,20 @@ fn take_line(
     value: Value,
     marks: &mut Relocs,
 ) -> Result<(), NoMemory>
-    requires { value ≡ evaluated text.now symbols.now spot (terms_in (first_arg line.now.args)) }
+    requires { value ≡ value_of_expression text.now symbols.now spot (terms_in (first_arg line.now.args)) }
     ensures { OnOk result
-        (marks.new ≡ marks_after text.now symbols.now section marks.old spot line.now) }
+        (marks.new ≡ relocations_after text.now symbols.now section marks.old spot line.now) }
 {
     if !same_section(spot.section, section) {
         return Ok(());
     }
     let deed = line.deed;
-    push_marks(text, symbols, spot, line.args.items(), value, deed, marks)
+    push_relocations(text, symbols, spot, line.args.items(), value, deed, marks)
 }
 
 /// Adds the relocations of the lines that place words in a section. Fails only with `NoMemory`.
-#[tactic(auto, using(alm_lines::proofs::Rooms::rooms), unfolding(crate::specs::Relocations::marks_from))]
-pub fn push_marks_in(
+#[tactic(auto, using(alm_lines::proofs::Rooms::rooms), unfolding(crate::specs::Relocations::relocations_from))]
+pub fn push_relocations_in(
     alloc: Global,
     text: &[u8],
     tables: &Tables,
@@ -184,9 +184,9 @@ pub fn push_marks_in(
 ) -> Result<(), NoMemory>
     requires count { length lines.now < 2 ^ 32 }
     requires seen { seen.now
-        ≡ seen_from text.now tables.now.symbols tables.now.links start lines.now }
+        ≡ values_from text.now tables.now.symbols tables.now.links start lines.now }
     ensures { OnOk result
-        (marks.new ≡ marks_from text.now tables.now.symbols section marks.old start lines.now) }
+        (marks.new ≡ relocations_from text.now tables.now.symbols section marks.old start lines.now) }
 {
     let mut spot = LocationCounter::start();
     let mut rest = lines;
@@ -210,7 +210,7 @@ pub fn push_marks_in(
             seen.value,
             marks,
         )?;
-        spot = below(alloc, text, spot, line)?;
+        spot = next_line_spot(alloc, text, spot, line)?;
         rest = more;
         left = later;
     }

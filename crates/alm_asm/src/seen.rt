@@ -2,16 +2,16 @@
 
 ghost use Rattle.std.specs.Prelude.{ℕ, List, [], ◌∷◌, ◌++◌, ◌≡◌, ◌^◌, ◌<◌, length, OnOk, OnErr, IfOk};
 ghost use Rattle.alm_lines.specs.Arguments.{first_arg, terms_in};
-ghost use Rattle.alm_lines.specs.Spots.{start, below};
-ghost use Rattle.alm_lines.specs.Values.{evaluated};
+ghost use Rattle.alm_lines.specs.Spots.{start, next_line_spot};
+ghost use Rattle.alm_lines.specs.Values.{value_of_expression};
 ghost use Rattle.alm_asm.specs.Links.{operand_args, link_in, links_after, links_from};
-ghost use Rattle.alm_asm.specs.LineValues.{place_in, with_seen, seen_from};
+ghost use Rattle.alm_asm.specs.LineValues.{index_in_links, with_values, values_from};
 
 use crate::links::add_link_of_line;
 use alm_lines::arguments::first_terms;
-use alm_lines::spot::{LocationCounter, below};
+use alm_lines::spot::{LocationCounter, next_line_spot};
 use alm_lines::symbols::Symbols;
-use alm_lines::value::{Value, evaluate, no_value};
+use alm_lines::value::{Value, evaluate, empty_expression_value};
 use alm_parse::{Arg, Line36};
 use m36_word::NoMemory;
 use obj36::Links;
@@ -79,7 +79,7 @@ impl AllLineValues {
 
 // Computes the values of a line, and adds its link.
 #[tactic(auto, unfolding(crate::specs::Links::links_after))]
-fn see_line(
+fn compute_line_values(
     text: &[u8],
     symbols: &Symbols,
     links: &mut Links,
@@ -89,10 +89,10 @@ fn see_line(
     ensures links { OnOk result
         (links.new ≡ links_after text.now symbols.now links.old spot line.now) }
     ensures value { IfOk result (λ seen.
-        seen.value ≡ evaluated text.now symbols.now spot (terms_in (first_arg line.now.args))) }
+        seen.value ≡ value_of_expression text.now symbols.now spot (terms_in (first_arg line.now.args))) }
     ensures place { IfOk result (λ seen.
         seen.place
-        ≡ place_in links.new
+        ≡ index_in_links links.new
         (link_in text.now symbols.now spot
         (first_arg (operand_args line.now.deed line.now.args)))) }
 {
@@ -102,9 +102,9 @@ fn see_line(
 }
 
 // Adds the values of a line with these arguments to the list, if there are any.
-#[tactic(auto, unfolding(crate::specs::LineValues::with_seen))]
-fn keep(all: &mut AllLineValues, args: &[Arg], seen: LineValues) -> Result<(), NoMemory>
-    ensures { OnOk result (all.new ≡ with_seen all.old args.now seen) }
+#[tactic(auto, unfolding(crate::specs::LineValues::with_values))]
+fn push_line_values(all: &mut AllLineValues, args: &[Arg], seen: LineValues) -> Result<(), NoMemory>
+    ensures { OnOk result (all.new ≡ with_values all.old args.now seen) }
 {
     match args {
         [] => Ok(()),
@@ -126,24 +126,24 @@ pub fn compute_values(
         (links.new ≡ links_from text.now symbols.now links.old start lines.now) }
     ensures seen { IfOk result (λ seen.
         seen
-        ≡ seen_from text.now symbols.now
+        ≡ values_from text.now symbols.now
         (links_from text.now symbols.now links.old start lines.now) start lines.now) }
 {
     let mut all = AllLineValues::with_room(alloc, lines.len())?;
     let mut spot = LocationCounter::start();
     let mut rest = lines;
     while let [line, more @ ..] = rest {
-        let seen = see_line(text, symbols, links, spot, line)?;
-        keep(&mut all, line.args.items(), seen)?;
-        spot = below(alloc, text, spot, line)?;
+        let seen = compute_line_values(text, symbols, links, spot, line)?;
+        push_line_values(&mut all, line.args.items(), seen)?;
+        spot = next_line_spot(alloc, text, spot, line)?;
         rest = more;
     }
     Ok(all)
 }
 
 // The values of a line without arguments, which are not in the list, and the rest of the list.
-#[tactic(auto, using(crate::proofs::SeenLaws::none_next), unfolding(crate::specs::LineValues::seen_from))]
-fn next_of_none<'a>(
+#[tactic(auto, using(crate::proofs::SeenLaws::none_next), unfolding(crate::specs::LineValues::values_from))]
+fn next_without_args<'a>(
     _text: &[u8],
     _symbols: &Symbols,
     _links: &Links,
@@ -154,26 +154,26 @@ fn next_of_none<'a>(
 ) -> (LineValues, &'a [LineValues])
     requires none { _line.now.args ≡ [] }
     requires left { left.now
-        ≡ seen_from _text.now _symbols.now _links.now _spot (_line.now ∷ _more.now) }
+        ≡ values_from _text.now _symbols.now _links.now _spot (_line.now ∷ _more.now) }
     ensures value { result.0.value
-        ≡ evaluated _text.now _symbols.now _spot (terms_in (first_arg _line.now.args)) }
+        ≡ value_of_expression _text.now _symbols.now _spot (terms_in (first_arg _line.now.args)) }
     ensures place { result.0.place
-        ≡ place_in _links.now
+        ≡ index_in_links _links.now
         (link_in _text.now _symbols.now _spot
         (first_arg (operand_args _line.now.deed _line.now.args))) }
     ensures later { result.1.now
-        ≡ seen_from _text.now _symbols.now _links.now (below _text.now _spot _line.now) _more.now }
+        ≡ values_from _text.now _symbols.now _links.now (next_line_spot _text.now _spot _line.now) _more.now }
 {
     let nothing = LineValues {
-        value: no_value(),
+        value: empty_expression_value(),
         place: None,
     };
     (nothing, left)
 }
 
 // The values of a line with arguments, which are the first of the list, and the rest of the list.
-#[tactic(auto, using(crate::proofs::SeenLaws::some_with), unfolding(crate::specs::LineValues::seen_from, crate::specs::LineValues::seen_of))]
-fn next_of_some<'a>(
+#[tactic(auto, using(crate::proofs::SeenLaws::some_with), unfolding(crate::specs::LineValues::values_from, crate::specs::LineValues::values_of_line))]
+fn next_with_args<'a>(
     _text: &[u8],
     _symbols: &Symbols,
     _links: &Links,
@@ -184,15 +184,15 @@ fn next_of_some<'a>(
 ) -> (LineValues, &'a [LineValues])
     requires some { 0 < length _line.now.args }
     requires left { left.now
-        ≡ seen_from _text.now _symbols.now _links.now _spot (_line.now ∷ _more.now) }
+        ≡ values_from _text.now _symbols.now _links.now _spot (_line.now ∷ _more.now) }
     ensures value { result.0.value
-        ≡ evaluated _text.now _symbols.now _spot (terms_in (first_arg _line.now.args)) }
+        ≡ value_of_expression _text.now _symbols.now _spot (terms_in (first_arg _line.now.args)) }
     ensures place { result.0.place
-        ≡ place_in _links.now
+        ≡ index_in_links _links.now
         (link_in _text.now _symbols.now _spot
         (first_arg (operand_args _line.now.deed _line.now.args))) }
     ensures later { result.1.now
-        ≡ seen_from _text.now _symbols.now _links.now (below _text.now _spot _line.now) _more.now }
+        ≡ values_from _text.now _symbols.now _links.now (next_line_spot _text.now _spot _line.now) _more.now }
 {
     match left {
         [seen, later @ ..] => (*seen, later),
@@ -211,19 +211,19 @@ pub fn next_values<'a>(
     left: &'a [LineValues],
 ) -> (LineValues, &'a [LineValues])
     requires { left.now
-        ≡ seen_from text.now symbols.now links.now spot (line.now ∷ more.now) }
+        ≡ values_from text.now symbols.now links.now spot (line.now ∷ more.now) }
     ensures value { result.0.value
-        ≡ evaluated text.now symbols.now spot (terms_in (first_arg line.now.args)) }
+        ≡ value_of_expression text.now symbols.now spot (terms_in (first_arg line.now.args)) }
     ensures place { result.0.place
-        ≡ place_in links.now
+        ≡ index_in_links links.now
         (link_in text.now symbols.now spot
         (first_arg (operand_args line.now.deed line.now.args))) }
     ensures later { result.1.now
-        ≡ seen_from text.now symbols.now links.now (below text.now spot line.now) more.now }
+        ≡ values_from text.now symbols.now links.now (next_line_spot text.now spot line.now) more.now }
 {
     if line.args.items().is_empty() {
-        next_of_none(text, symbols, links, spot, line, more, left)
+        next_without_args(text, symbols, links, spot, line, more, left)
     } else {
-        next_of_some(text, symbols, links, spot, line, more, left)
+        next_with_args(text, symbols, links, spot, line, more, left)
     }
 }

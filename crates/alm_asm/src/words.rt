@@ -3,21 +3,21 @@
 ghost use Rattle.std.specs.Prelude.{ℕ, [], ◌++◌, ◌≡◌, ◌+◌, ◌*◌, ◌%◌, ◌^◌, ◌<◌};
 ghost use Rattle.std.specs.Prelude.{◌≤◌, length, Option, Some, None, OnOk, IfOk};
 ghost use Rattle.alm_lines.specs.Arguments.{first_arg, terms_in};
-ghost use Rattle.alm_lines.specs.Values.{evaluated};
-ghost use Rattle.alm_asm.specs.LineValues.{place_in, seen_from};
+ghost use Rattle.alm_lines.specs.Values.{value_of_expression};
+ghost use Rattle.alm_asm.specs.LineValues.{index_in_links, values_from};
 ghost use Rattle.alm_lines.specs.Spots.{start};
-ghost use Rattle.alm_asm.specs.Links.{link_of, link_by, link_in, link_place, operand_args};
-ghost use Rattle.alm_asm.specs.Words.{plain_inst, pointed_inst, own_inst, inst_in};
-ghost use Rattle.alm_asm.specs.Words.{instruction_word, halves_word, words_by, words_of_line};
-ghost use Rattle.alm_asm.specs.Words.{words_from, inst_by};
+ghost use Rattle.alm_asm.specs.Links.{link_of, link_of_parts, link_in, offset_of_link_in, operand_args};
+ghost use Rattle.alm_asm.specs.Words.{address_instruction, pointer_register_instruction, internal_instruction, instruction_of_arg};
+ghost use Rattle.alm_asm.specs.Words.{instruction_word, halves_word, words_of_effect, words_of_line};
+ghost use Rattle.alm_asm.specs.Words.{words_from, instruction_of_parts};
 
-use crate::links::{link_of, link_place, offset_of_link, same_section};
+use crate::links::{link_of, offset_of_link_in, offset_of_link, same_section};
 use crate::seen::{LineValues, next_values};
 use crate::tables::Tables;
 use alm_lines::arguments::{second_number, second_terms, words_of_args};
 use alm_lines::refusal::ValueField;
-use alm_lines::spot::{LocationCounter, below};
-use alm_lines::value::{Value, evaluate, is_valued};
+use alm_lines::spot::{LocationCounter, next_line_spot};
+use alm_lines::value::{Value, evaluate, evaluated_has_value};
 use alm_parse::{Arg, Line36, LineEffect, Span, Term};
 use m36_inst::Inst;
 use m36_word::{NoMemory, Word, Words};
@@ -33,9 +33,9 @@ struct OperationCode {
 }
 
 // The instruction with the address `y`.
-fn plain_inst(operation: OperationCode, y: u64, tag: u8) -> Inst
+fn address_instruction(operation: OperationCode, y: u64, tag: u8) -> Inst
     requires { y < 2 ^ 18 }
-    ensures { result ≡ plain_inst operation.code operation.bit27 y tag }
+    ensures { result ≡ address_instruction operation.code operation.bit27 y tag }
 {
     Inst {
         y: y as u32,
@@ -48,9 +48,9 @@ fn plain_inst(operation: OperationCode, y: u64, tag: u8) -> Inst
 }
 
 // The instruction with an offset of 15 bits after the pointer register `pr`.
-fn pointed_inst(operation: OperationCode, pr: u8, offset: u64, tag: u8) -> Inst
+fn pointer_register_instruction(operation: OperationCode, pr: u8, offset: u64, tag: u8) -> Inst
     requires { offset < 2 ^ 15 }
-    ensures { result ≡ pointed_inst operation.code operation.bit27 pr offset tag }
+    ensures { result ≡ pointer_register_instruction operation.code operation.bit27 pr offset tag }
 {
     let base = (pr % (1 << 3)) as u32 * (1 << 15);
     Inst {
@@ -64,13 +64,13 @@ fn pointed_inst(operation: OperationCode, pr: u8, offset: u64, tag: u8) -> Inst
 }
 
 // The instruction whose operand is an expression with this value, after a pointer register or not.
-fn own_inst(operation: OperationCode, pr: Option<u8>, value: Value, tag: u8) -> Inst
+fn internal_instruction(operation: OperationCode, pr: Option<u8>, value: Value, tag: u8) -> Inst
     ensures { result
-        ≡ own_inst operation.code operation.bit27 pr value.half value.offset tag }
+        ≡ internal_instruction operation.code operation.bit27 pr value.half value.offset tag }
 {
     match pr {
-        Some(pr) => pointed_inst(operation, pr, value.offset as u64, tag),
-        None => plain_inst(operation, value.half as u64, tag),
+        Some(pr) => pointer_register_instruction(operation, pr, value.offset as u64, tag),
+        None => address_instruction(operation, value.half as u64, tag),
     }
 }
 
@@ -87,20 +87,20 @@ fn external_offset(
     value: Value,
     place: Option<u64>,
 ) -> u128
-    requires value { value ≡ evaluated text.now tables.now.symbols spot terms.now }
+    requires value { value ≡ value_of_expression text.now tables.now.symbols spot terms.now }
     requires place { place
-        ≡ place_in tables.now.links
-        (link_by text.now tables.now.symbols spot (Option.Some segment) entry terms.now tag) }
+        ≡ index_in_links tables.now.links
+        (link_of_parts text.now tables.now.symbols spot (Option.Some segment) entry terms.now tag) }
     ensures { result
-        ≡ link_place tables.now.links tables.now.first_link
+        ≡ offset_of_link_in tables.now.links tables.now.first_link
         (link_of text.now tables.now.symbols spot segment entry terms.now tag) }
 {
     let symbols = &tables.symbols;
-    if is_valued(text, symbols, spot, terms, ValueField::Half, false, value) {
+    if evaluated_has_value(text, symbols, spot, terms, ValueField::Half, false, value) {
         return offset_of_link(tables.first_link, place);
     }
     let link = link_of(text, symbols, spot, segment, entry, terms, tag, value);
-    link_place(&tables.links, tables.first_link, &link)
+    offset_of_link_in(&tables.links, tables.first_link, &link)
 }
 
 // The instruction with an external operand: `pr4|link,*`.
@@ -116,20 +116,20 @@ fn external_inst(
     value: Value,
     place: Option<u64>,
 ) -> Inst
-    requires value { value ≡ evaluated text.now tables.now.symbols spot terms.now }
+    requires value { value ≡ value_of_expression text.now tables.now.symbols spot terms.now }
     requires place { place
-        ≡ place_in tables.now.links
-        (link_by text.now tables.now.symbols spot (Option.Some segment) entry terms.now tag) }
+        ≡ index_in_links tables.now.links
+        (link_of_parts text.now tables.now.symbols spot (Option.Some segment) entry terms.now tag) }
     ensures { result
-        ≡ inst_by text.now tables.now spot operation.code operation.bit27 None (Some segment) entry
+        ≡ instruction_of_parts text.now tables.now spot operation.code operation.bit27 None (Some segment) entry
         terms.now tag }
 {
     let offset = external_offset(text, tables, spot, segment, entry, terms, tag, value, place);
-    pointed_inst(operation, 4, (offset % (1 << 15)) as u64, 16)
+    pointer_register_instruction(operation, 4, (offset % (1 << 15)) as u64, 16)
 }
 
 // The instruction with an operand that is an expression.
-#[tactic(auto, unfolding(alm_lines::specs::Values::evaluated))]
+#[tactic(auto, unfolding(alm_lines::specs::Values::value_of_expression))]
 fn own_operand(
     _text: &[u8],
     _tables: &Tables,
@@ -140,17 +140,17 @@ fn own_operand(
     tag: u8,
     value: Value,
 ) -> Inst
-    requires { value ≡ evaluated _text.now _tables.now.symbols _spot _terms.now }
+    requires { value ≡ value_of_expression _text.now _tables.now.symbols _spot _terms.now }
     ensures { result
-        ≡ inst_by _text.now _tables.now _spot operation.code operation.bit27 pr None None
+        ≡ instruction_of_parts _text.now _tables.now _spot operation.code operation.bit27 pr None None
         _terms.now tag }
 {
-    own_inst(operation, pr, value, tag)
+    internal_instruction(operation, pr, value, tag)
 }
 
 // The instruction with the operand in these arguments. Without an operand its address and tag are
 // 0.
-fn inst_in(
+fn instruction_of_arg(
     text: &[u8],
     tables: &Tables,
     spot: LocationCounter,
@@ -160,12 +160,12 @@ fn inst_in(
     place: Option<u64>,
 ) -> Inst
     requires value { value
-        ≡ evaluated text.now tables.now.symbols spot (terms_in (first_arg args.now)) }
+        ≡ value_of_expression text.now tables.now.symbols spot (terms_in (first_arg args.now)) }
     requires place { place
-        ≡ place_in tables.now.links
+        ≡ index_in_links tables.now.links
         (link_in text.now tables.now.symbols spot (first_arg args.now)) }
     ensures { result
-        ≡ inst_in text.now tables.now spot operation.code operation.bit27 (first_arg args.now) }
+        ≡ instruction_of_arg text.now tables.now spot operation.code operation.bit27 (first_arg args.now) }
 {
     match args {
         [
@@ -186,7 +186,7 @@ fn inst_in(
                 None => own_operand(text, tables, spot, operation, *pr, terms, *tag, value),
             }
         }
-        _ => plain_inst(operation, 0, 0),
+        _ => address_instruction(operation, 0, 0),
     }
 }
 
@@ -202,14 +202,14 @@ fn instruction_word(
     place: Option<u64>,
 ) -> Word
     requires value { value
-        ≡ evaluated text.now tables.now.symbols spot (terms_in (first_arg args.now)) }
+        ≡ value_of_expression text.now tables.now.symbols spot (terms_in (first_arg args.now)) }
     requires place { place
-        ≡ place_in tables.now.links
+        ≡ index_in_links tables.now.links
         (link_in text.now tables.now.symbols spot (first_arg args.now)) }
     ensures { result
         ≡ instruction_word text.now tables.now spot operation.code operation.bit27 args.now }
 {
-    inst_in(text, tables, spot, operation, args, value, place).to_word()
+    instruction_of_arg(text, tables, spot, operation, args, value, place).to_word()
 }
 
 // The word with these values in its halves.
@@ -220,7 +220,7 @@ fn word_of(left: Value, right: Value) -> Word
 }
 
 // The word of a `zero` line: the values of its two expressions.
-#[tactic(auto, unfolding(crate::specs::Words::halves_word, alm_lines::specs::Values::evaluated))]
+#[tactic(auto, unfolding(crate::specs::Words::halves_word, alm_lines::specs::Values::value_of_expression))]
 fn halves_word(
     text: &[u8],
     tables: &Tables,
@@ -229,7 +229,7 @@ fn halves_word(
     value: Value,
 ) -> Word
     requires { value
-        ≡ evaluated text.now tables.now.symbols spot (terms_in (first_arg args.now)) }
+        ≡ value_of_expression text.now tables.now.symbols spot (terms_in (first_arg args.now)) }
     ensures { result ≡ halves_word text.now tables.now spot args.now }
 {
     word_of(
@@ -251,12 +251,12 @@ fn push_words(
     words: &mut Words,
 ) -> Result<(), NoMemory>
     requires value { value
-        ≡ evaluated text.now tables.now.symbols spot (terms_in (first_arg args.now)) }
+        ≡ value_of_expression text.now tables.now.symbols spot (terms_in (first_arg args.now)) }
     requires place { place
-        ≡ place_in tables.now.links
+        ≡ index_in_links tables.now.links
         (link_in text.now tables.now.symbols spot (first_arg (operand_args deed args.now))) }
     ensures { OnOk result
-        (words.new ≡ words.old ++ words_by text.now tables.now spot args.now deed) }
+        (words.new ≡ words.old ++ words_of_effect text.now tables.now spot args.now deed) }
 {
     match deed {
         LineEffect::Instruction(code, bit27) => {
@@ -290,9 +290,9 @@ fn take_line(
     words: &mut Words,
 ) -> Result<(), NoMemory>
     requires value { seen.now.value
-        ≡ evaluated text.now tables.now.symbols spot (terms_in (first_arg line.now.args)) }
+        ≡ value_of_expression text.now tables.now.symbols spot (terms_in (first_arg line.now.args)) }
     requires place { seen.now.place
-        ≡ place_in tables.now.links
+        ≡ index_in_links tables.now.links
         (link_in text.now tables.now.symbols spot
         (first_arg (operand_args line.now.deed line.now.args))) }
     ensures { OnOk result
@@ -320,7 +320,7 @@ pub fn words_in(
 ) -> Result<Words, NoMemory>
     requires count { length lines.now < 2 ^ 32 }
     requires seen { seen.now
-        ≡ seen_from text.now tables.now.symbols tables.now.links start lines.now }
+        ≡ values_from text.now tables.now.symbols tables.now.links start lines.now }
     ensures { IfOk result (λ words.
         words ≡ words_from text.now tables.now section [] start lines.now) }
 {
@@ -339,7 +339,7 @@ pub fn words_in(
             left,
         );
         take_line(alloc, text, tables, section, spot, line, &seen, &mut words)?;
-        spot = below(alloc, text, spot, line)?;
+        spot = next_line_spot(alloc, text, spot, line)?;
         rest = more;
         left = later;
     }

@@ -2,16 +2,16 @@
 use Rattle.std.proofs.Common.{◌≡◌, ℕ, ◌+◌, ◌-◌, ◌*◌, ◌^◌, ◌<◌, ◌≤◌, ◌&&◌, not, true, false, List, is_some, leb, arith}
 use Rattle.std.proofs.lemmas.Bool.{and_parts, leb-true}
 use Rattle.alm_tokens.specs.declared.expression.Term.{Term}
-use Rattle.alm_lines.specs.Sums.{no_sum, sum_plus, kind_of, IsAtMost, IsTerm}
-use Rattle.alm_lines.specs.Expressions.{sum_of, place_undefined}
-use Rattle.alm_lines.specs.Layout.{number_of}
-use Rattle.alm_lines.specs.Refusals.{has_room, is_kind_allowed, is_expressible, has_value}
+use Rattle.alm_lines.specs.Sums.{zero_sum, sum_plus, kind_of, IsAtMost, IsTerm}
+use Rattle.alm_lines.specs.Expressions.{sum_of, first_undefined_place}
+use Rattle.alm_lines.specs.Layout.{number_sum}
+use Rattle.alm_lines.specs.Refusals.{fits_field, is_kind_allowed, is_expressible, has_value}
 use Rattle.alm_lines.specs.declared.sum.Sum.{Sum}
 use Rattle.alm_lines.specs.SpotFields.{LocationCounter}
 use Rattle.alm_lines.specs.declared.refusal.ValueField.TheVariants.{Half}
 
 -- of no terms
-pub sum_begun : (terms left : ℕ) → IsAtMost ((terms - left) * (2 ^ 96 - 1)) no_sum
+pub sum_begun : (terms left : ℕ) → IsAtMost ((terms - left) * (2 ^ 96 - 1)) zero_sum
 sum_begun terms left =
     record {
       value_up = omega arith;
@@ -58,15 +58,15 @@ pub ruleset sums = (sum_begun, sum_room, sum_more)
 
 -- the number of an expression with a value fits its field
 pub valued_fits : (text : List ℕ) (symbols : List (List ℕ × Sum)) (spot : LocationCounter) (terms : List Term) → has_value text symbols spot terms Half false ≡ true
-    → has_room Half (sum_of text symbols spot terms).value ≡ true
+    → fits_field Half (sum_of text symbols spot terms).value ≡ true
 unfolding has_value is_expressible
 valued_fits text symbols spot terms e =
     let sum = sum_of text symbols spot terms in
-    let said = and_parts (not (is_some (place_undefined text symbols terms)) && not sum.unknown) (is_expressible Half false sum) e in
-    (and_parts (has_room Half sum.value) (is_kind_allowed false (kind_of sum)) said.1).0
+    let said = and_parts (not (is_some (first_undefined_place text symbols terms)) && not sum.unknown) (is_expressible Half false sum) e in
+    (and_parts (fits_field Half sum.value) (is_kind_allowed false (kind_of sum)) said.1).0
 
 -- and is small
-pub number_small : (s : Sum) → has_room Half s.value ≡ true → IsTerm (number_of s)
+pub number_small : (s : Sum) → fits_field Half s.value ≡ true → IsTerm (number_sum s)
 number_small s e =
     let room = and_parts (leb (s.value.down - s.value.up) 131072) (leb (s.value.up - s.value.down) 262143) e in
     let low : s.value.down - s.value.up ≤ 131072 = leb-true (s.value.down - s.value.up) 131072 room.0 in

@@ -3,10 +3,10 @@ use Rattle.std.proofs.Common.{◌≡◌, ℕ, ◌+◌, Bool, true, false, List, 
 use Rattle.std.specs.Prelude.{not, option_map, if◌then◌else◌}
 use Rattle.alm_tokens.specs.declared.expression.Term.{Term}
 use Rattle.alm_parse.specs.declared.line.Line36.{Line36}
-use Rattle.alm_lines.specs.Sums.{no_sum, sum_plus, half_of, offset_of, kind_of}
-use Rattle.alm_lines.specs.Expressions.{added, sum_of, term_sum, is_defined, is_symbol_atom, is_undefined, place_undefined}
+use Rattle.alm_lines.specs.Sums.{zero_sum, sum_plus, half_of, offset_of, kind_of}
+use Rattle.alm_lines.specs.Expressions.{with_terms, sum_of, term_sum, is_defined, is_symbol_atom, is_undefined, first_undefined_place}
 use Rattle.alm_lines.specs.Refusals.{has_value, is_expressible, expression_refusal}
-use Rattle.alm_lines.specs.Values.{value_by, evaluated, is_value, value_refused}
+use Rattle.alm_lines.specs.Values.{value_by, value_of_expression, is_usable_value, evaluated_refusal}
 use Rattle.alm_lines.specs.declared.sum.Sum.{Sum}
 use Rattle.alm_lines.specs.declared.sum.Kind.TheVariants.{Absolute}
 use Rattle.alm_lines.specs.declared.refusal.ValueField.{ValueField}
@@ -16,7 +16,7 @@ use Rattle.alm_lines.specs.ValueFields.{ValueFields}
 
 -- ---- an expression of one term
 
-begun : (s : Sum) → sum_plus no_sum s ≡ s
+begun : (s : Sum) → sum_plus zero_sum s ≡ s
 unfolding sum_plus
 begun s =
     λ i. record {
@@ -28,7 +28,7 @@ begun s =
     }
 
 pub sum_alone : (text : List ℕ) (symbols : List (List ℕ × Sum)) (spot : LocationCounter) (term : Term) → sum_of text symbols spot (term ∷ []) ≡ term_sum text symbols spot term
-unfolding added
+unfolding with_terms
 sum_alone text symbols spot term = begun (term_sum text symbols spot term)
 
 alone_by : (s d : Bool) (term : Term) → option_map (λ (t : Term). t.span.from) (if (if s then not d else false) then Some term else None)
@@ -38,49 +38,49 @@ alone_by true false term = refl
 alone_by false d term = refl
 
 pub undefined_alone : (text : List ℕ) (symbols : List (List ℕ × Sum)) (term : Term)
-    → place_undefined text symbols (term ∷ []) ≡ (if is_symbol_atom term.what then (if is_defined text symbols term.span then None else Some term.span.from) else None)
-unfolding place_undefined is_undefined
+    → first_undefined_place text symbols (term ∷ []) ≡ (if is_symbol_atom term.what then (if is_defined text symbols term.span then None else Some term.span.from) else None)
+unfolding first_undefined_place is_undefined
 undefined_alone text symbols term = alone_by (is_symbol_atom term.what) (is_defined text symbols term.span) term
 
 -- ---- properties of a value
 
 same_value : (text : List ℕ) (symbols : List (List ℕ × Sum)) (spot : LocationCounter) (terms : List Term) (room : ValueField) (may_move : Bool)
-    → is_value room may_move (evaluated text symbols spot terms) ≡ has_value text symbols spot terms room may_move
-unfolding evaluated has_value is_expressible
+    → is_usable_value room may_move (value_of_expression text symbols spot terms) ≡ has_value text symbols spot terms room may_move
+unfolding value_of_expression has_value is_expressible
 same_value text symbols spot terms Half may_move = refl
 same_value text symbols spot terms Offset may_move = refl
 
 pub value_given : (text : List ℕ) (symbols : List (List ℕ × Sum)) (spot : LocationCounter) (terms : List Term) (room : ValueField) (may_move : Bool) (value : ValueFields)
-    → value ≡ evaluated text symbols spot terms → is_value room may_move value ≡ has_value text symbols spot terms room may_move
+    → value ≡ value_of_expression text symbols spot terms → is_usable_value room may_move value ≡ has_value text symbols spot terms room may_move
 value_given text symbols spot terms room may_move value e =
-    ap (is_value room may_move) e ∙ same_value text symbols spot terms room may_move
+    ap (is_usable_value room may_move) e ∙ same_value text symbols spot terms room may_move
 
 same_refused : (text : List ℕ) (symbols : List (List ℕ × Sum)) (spot : LocationCounter) (line : Line36) (terms : List Term) (place : ℕ) (room : ValueField) (may_move : Bool)
-    → value_refused line (evaluated text symbols spot terms) place room may_move ≡ expression_refusal text symbols spot line terms place room may_move
-unfolding evaluated expression_refusal is_expressible
+    → evaluated_refusal line (value_of_expression text symbols spot terms) place room may_move ≡ expression_refusal text symbols spot line terms place room may_move
+unfolding value_of_expression expression_refusal is_expressible
 same_refused text symbols spot line terms place Half may_move = refl
 same_refused text symbols spot line terms place Offset may_move = refl
 
 pub refused_given : (text : List ℕ) (symbols : List (List ℕ × Sum)) (spot : LocationCounter) (line : Line36) (terms : List Term) (place : ℕ) (room : ValueField) (may_move : Bool) (value : ValueFields)
-    → value ≡ evaluated text symbols spot terms → value_refused line value place room may_move ≡ expression_refusal text symbols spot line terms place room may_move
+    → value ≡ value_of_expression text symbols spot terms → evaluated_refusal line value place room may_move ≡ expression_refusal text symbols spot line terms place room may_move
 refused_given text symbols spot line terms place room may_move value e =
-    ap (λ v. value_refused line v place room may_move) e ∙ same_refused text symbols spot line terms place room may_move
+    ap (λ v. evaluated_refusal line v place room may_move) e ∙ same_refused text symbols spot line terms place room may_move
 
 pub ruleset given_values = (value_given, refused_given)
 
 pub kind_given : (text : List ℕ) (symbols : List (List ℕ × Sum)) (spot : LocationCounter) (terms : List Term) (value : ValueFields)
-    → value ≡ evaluated text symbols spot terms → value.kind ≡ kind_of (sum_of text symbols spot terms)
-unfolding evaluated
+    → value ≡ value_of_expression text symbols spot terms → value.kind ≡ kind_of (sum_of text symbols spot terms)
+unfolding value_of_expression
 kind_given text symbols spot terms value e = ap (λ (v : ValueFields). v.kind) e
 
 -- ---- no terms
 
 pub no_value_is : (value : ValueFields)
     → value ≡ record { half = 0; undefined = None; offset = 0; kind = Absolute; fits_half = true; fits_offset = true; unknown = false }
-    → value ≡ value_by no_sum None
+    → value ≡ value_by zero_sum None
 unfolding half_of offset_of kind_of
 no_value_is value e = e
 
-pub no_terms : (text : List ℕ) (symbols : List (List ℕ × Sum)) (spot : LocationCounter) → evaluated text symbols spot [] ≡ value_by no_sum None
-unfolding evaluated added place_undefined
+pub no_terms : (text : List ℕ) (symbols : List (List ℕ × Sum)) (spot : LocationCounter) → value_of_expression text symbols spot [] ≡ value_by zero_sum None
+unfolding value_of_expression with_terms first_undefined_place
 no_terms text symbols spot = refl

@@ -7,7 +7,7 @@ use Rattle.alm_tokens.specs.declared.expression.Atom.TheVariants.{Number, Symbol
 use Rattle.alm_tokens.specs.declared.expression.Term.{Term}
 use Rattle.alm_tokens.specs.declared.span.Span.{Span}
 use Rattle.alm_lines.specs.Arguments.{name_at}
-use Rattle.alm_lines.specs.Sums.{absolute, no_sum, sum_plus, sum_turned}
+use Rattle.alm_lines.specs.Sums.{absolute, zero_sum, sum_plus, negated_sum}
 use Rattle.alm_lines.specs.Symbols.{sum_named}
 use Rattle.alm_lines.specs.Spots.{here}
 use Rattle.alm_lines.specs.declared.sum.Sum.{Sum}
@@ -15,7 +15,7 @@ use Rattle.alm_lines.specs.SpotFields.{LocationCounter}
 
 -- the sum of a symbol; 0 if it is not defined
 unfoldable pub symbol_sum : List ℕ → List (List ℕ × Sum) → Span → Sum
-symbol_sum text symbols span = unwrap_or (sum_named (name_at text span) symbols) no_sum
+symbol_sum text symbols span = unwrap_or (sum_named (name_at text span) symbols) zero_sum
 
 -- the sum of a term without its sign
 abbrev pub atom_sum : List ℕ → List (List ℕ × Sum) → LocationCounter → Span → Atom → Sum
@@ -27,17 +27,17 @@ atom_sum text symbols spot span Here = here spot
 unfoldable pub term_sum : List ℕ → List (List ℕ × Sum) → LocationCounter → Term → Sum
 term_sum text symbols spot term =
     let sum = atom_sum text symbols spot term.span term.what in
-    if term.minus then sum_turned sum else sum
+    if term.minus then negated_sum sum else sum
 
 -- a sum, to which the sums of terms are added
-unfoldable pub added : List ℕ → List (List ℕ × Sum) → LocationCounter → Sum → List Term → Sum
-added text symbols spot sum [] = sum
-added text symbols spot sum (term ∷ terms) =
-    added text symbols spot (sum_plus sum (term_sum text symbols spot term)) terms
+unfoldable pub with_terms : List ℕ → List (List ℕ × Sum) → LocationCounter → Sum → List Term → Sum
+with_terms text symbols spot sum [] = sum
+with_terms text symbols spot sum (term ∷ terms) =
+    with_terms text symbols spot (sum_plus sum (term_sum text symbols spot term)) terms
 
 -- the sum of an expression
 abbrev pub sum_of : List ℕ → List (List ℕ × Sum) → LocationCounter → List Term → Sum
-sum_of text symbols spot terms = added text symbols spot no_sum terms
+sum_of text symbols spot terms = with_terms text symbols spot zero_sum terms
 
 -- whether a symbol is defined
 unfoldable pub is_defined : List ℕ → List (List ℕ × Sum) → Span → Bool
@@ -55,8 +55,8 @@ is_undefined text symbols term =
     if is_symbol_atom term.what then not (is_defined text symbols term.span) else false
 
 -- the index of the first symbol that is not defined
-unfoldable pub place_undefined : List ℕ → List (List ℕ × Sum) → List Term → Option ℕ
-place_undefined text symbols terms =
+unfoldable pub first_undefined_place : List ℕ → List (List ℕ × Sum) → List Term → Option ℕ
+first_undefined_place text symbols terms =
     option_map (λ term. term.span.from) (find (is_undefined text symbols) terms)
 
 -- the index in the text where an expression begins; a minus may be before its first term

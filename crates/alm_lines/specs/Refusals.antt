@@ -9,7 +9,7 @@ use Rattle.alm_parse.specs.declared.line.Line36.{Line36}
 use Rattle.alm_parse.specs.declared.fault.AlmFault.{AlmFault}
 use Rattle.alm_parse.specs.declared.fault.AlmFault.TheVariants as fault
 use Rattle.alm_lines.specs.Sums.{is_within, kind_of}
-use Rattle.alm_lines.specs.Expressions.{sum_of, place_undefined}
+use Rattle.alm_lines.specs.Expressions.{sum_of, first_undefined_place}
 use Rattle.alm_lines.specs.declared.sum.Balance.{Balance}
 use Rattle.alm_lines.specs.declared.sum.Sum.{Sum}
 use Rattle.alm_lines.specs.declared.sum.Kind.{Kind}
@@ -36,10 +36,10 @@ precedes a b =
     || (nat_eq a.place b.place && nat_lt (code_number a.code) (code_number b.code))
 
 -- the first of two refusals in the order of the text, if there are any
-abbrev pub sooner : Option AlmRefusal → Option AlmRefusal → Option AlmRefusal
-sooner None b = b
-sooner (Some a) None = Some a
-sooner (Some a) (Some b) = Some (if precedes b a then b else a)
+abbrev pub earlier_refusal : Option AlmRefusal → Option AlmRefusal → Option AlmRefusal
+earlier_refusal None b = b
+earlier_refusal (Some a) None = Some a
+earlier_refusal (Some a) (Some b) = Some (if precedes b a then b else a)
 
 -- the refusal with this code at an index of a line
 abbrev pub refusal_at : Line36 → ℕ → AlmCode → AlmRefusal
@@ -64,9 +64,9 @@ fault_of refusal = fault_by refusal.code refusal.line (column_of refusal)
 
 -- Whether a number fits a field: half a word holds -131072 to 262143, the offset after a pointer
 -- register -16384 to 16383.
-abbrev pub has_room : ValueField → Balance → Bool
-has_room Half value = is_within 131072 262143 value
-has_room Offset value = is_within offset_limit (offset_limit - 1) value
+abbrev pub fits_field : ValueField → Balance → Bool
+fits_field Half value = is_within 131072 262143 value
+fits_field Offset value = is_within offset_limit (offset_limit - 1) value
 
 -- whether an object can express a sum in this field; `may_move` says whether it may be a place
 abbrev pub is_kind_allowed : Bool → Kind → Bool
@@ -76,14 +76,14 @@ is_kind_allowed may_move Inexpressible = false
 
 -- whether a sum fits a field and an object can express it there
 unfoldable pub is_expressible : ValueField → Bool → Sum → Bool
-is_expressible room may_move sum = has_room room sum.value && is_kind_allowed may_move (kind_of sum)
+is_expressible room may_move sum = fits_field room sum.value && is_kind_allowed may_move (kind_of sum)
 
 -- The refusal of an expression that begins at `place`: E6 at its first symbol that is not defined,
 -- if there is one, and otherwise E7, unless `said`: an object can express its value.
-abbrev pub refusal_by : Line36 → Option ℕ → ℕ → Bool → Option AlmRefusal
-refusal_by line (Some at) place said = Some (refusal_at line at E6)
-refusal_by line None place true = None
-refusal_by line None place false = Some (refusal_at line place E7)
+abbrev pub refusal_unless_expressible : Line36 → Option ℕ → ℕ → Bool → Option AlmRefusal
+refusal_unless_expressible line (Some at) place said = Some (refusal_at line at E6)
+refusal_unless_expressible line None place true = None
+refusal_unless_expressible line None place false = Some (refusal_at line place E7)
 
 -- The refusal of an expression that begins at `place`: E6 at its first symbol that is not defined,
 -- or otherwise E7 if its value does not fit. A value that depends on a refused `equ` is not
@@ -92,14 +92,14 @@ unfoldable pub expression_refusal : List ℕ → List (List ℕ × Sum) → Loca
     → ValueField → Bool → Option AlmRefusal
 expression_refusal text symbols spot line terms place room may_move =
     let sum = sum_of text symbols spot terms in
-    refusal_by line (place_undefined text symbols terms) place
+    refusal_unless_expressible line (first_undefined_place text symbols terms) place
     (sum.unknown || is_expressible room may_move sum)
 
 -- Whether an expression has a value: it is not refused, and it does not depend on a refused `equ`.
 unfoldable pub has_value : List ℕ → List (List ℕ × Sum) → LocationCounter → List Term → ValueField → Bool → Bool
 has_value text symbols spot terms room may_move =
     let sum = sum_of text symbols spot terms in
-    not (is_some (place_undefined text symbols terms)) && not sum.unknown
+    not (is_some (first_undefined_place text symbols terms)) && not sum.unknown
     && is_expressible room may_move sum
 
 -- The refusal of an expression that must be a number that fits half a word, and not a place of a

@@ -5,7 +5,7 @@ use Rattle.obj36_parts.specs.declared.section.Section.{Section}
 use Rattle.obj36_parts.specs.declared.section.Section.TheVariants.{Text, Linkage, Symbol, Static}
 use Rattle.alm_parse.specs.declared.args.Arg.{Arg}
 use Rattle.alm_parse.specs.declared.line.Line36.{Line36}
-use Rattle.alm_lines.specs.Sums.{balance, nothing, no_sum}
+use Rattle.alm_lines.specs.Sums.{balance, zero_balance, zero_sum}
 use Rattle.alm_lines.specs.Arguments.{first_arg, second_arg, symbol_in, number_in, words_of_args}
 use Rattle.alm_lines.specs.Arguments.{section_in}
 use Rattle.alm_lines.specs.declared.sum.Sum.{Sum}
@@ -38,65 +38,65 @@ count spot = count_in spot.section spot
 
 -- The offset in a section after the words that the lines above place there. The static words of the
 -- linkage section begin after its head.
-abbrev pub place_in : Section → LocationCounter → ℕ
-place_in Text spot = spot.text
-place_in Linkage spot = spot.inner + head_words
-place_in Symbol spot = 0
-place_in Static spot = spot.outer
+abbrev pub offset_in_section : Section → LocationCounter → ℕ
+offset_in_section Text spot = spot.text
+offset_in_section Linkage spot = spot.inner + head_words
+offset_in_section Symbol spot = 0
+offset_in_section Static spot = spot.outer
 
 -- the offset of a line in its section
 abbrev pub place : LocationCounter → ℕ
-place spot = place_in spot.section spot
+place spot = offset_in_section spot.section spot
 
 -- the sum of a label at this place, if the line is in this section
-abbrev pub here_in : Section → LocationCounter → Sum
-here_in Text spot =
+abbrev pub label_sum_in : Section → LocationCounter → Sum
+label_sum_in Text spot =
     record {
-      value = balance (place_in Text spot) 0;
+      value = balance (offset_in_section Text spot) 0;
       text = balance 1 0;
-      inner = nothing;
-      outer = nothing;
+      inner = zero_balance;
+      outer = zero_balance;
       unknown = false;
     }
-here_in Linkage spot =
+label_sum_in Linkage spot =
     record {
-      value = balance (place_in Linkage spot) 0;
-      text = nothing;
+      value = balance (offset_in_section Linkage spot) 0;
+      text = zero_balance;
       inner = balance 1 0;
-      outer = nothing;
+      outer = zero_balance;
       unknown = false;
     }
-here_in Symbol spot = no_sum
-here_in Static spot =
+label_sum_in Symbol spot = zero_sum
+label_sum_in Static spot =
     record {
-      value = balance (place_in Static spot) 0;
-      text = nothing;
-      inner = nothing;
+      value = balance (offset_in_section Static spot) 0;
+      text = zero_balance;
+      inner = zero_balance;
       outer = balance 1 0;
       unknown = false;
     }
 
 -- the sum of the place of a line
 abbrev pub here : LocationCounter → Sum
-here spot = here_in spot.section spot
+here spot = label_sum_in spot.section spot
 
 -- the place after n more words of a section
-abbrev pub grown_in : Section → LocationCounter → ℕ → LocationCounter
-grown_in Text spot n = record spot { text = spot.text + n }
-grown_in Linkage spot n = record spot { inner = spot.inner + n }
-grown_in Symbol spot n = spot
-grown_in Static spot n = record spot { outer = spot.outer + n }
+abbrev pub plus_words_in : Section → LocationCounter → ℕ → LocationCounter
+plus_words_in Text spot n = record spot { text = spot.text + n }
+plus_words_in Linkage spot n = record spot { inner = spot.inner + n }
+plus_words_in Symbol spot n = spot
+plus_words_in Static spot n = record spot { outer = spot.outer + n }
 
 -- the place after n more words of the section of a line
-abbrev pub grown : LocationCounter → ℕ → LocationCounter
-grown spot n = grown_in spot.section spot n
+abbrev pub plus_words : LocationCounter → ℕ → LocationCounter
+plus_words spot n = plus_words_in spot.section spot n
 
 -- the place after a `use` line, which selects a section
-abbrev pub selected : LocationCounter → Section → LocationCounter
-selected spot Text = record spot { section = Text }
-selected spot Linkage = record spot { section = Linkage; uses_inner = true }
-selected spot Symbol = spot
-selected spot Static = record spot { section = Static; uses_outer = true }
+abbrev pub with_section : LocationCounter → Section → LocationCounter
+with_section spot Text = record spot { section = Text }
+with_section spot Linkage = record spot { section = Linkage; uses_inner = true }
+with_section spot Symbol = spot
+with_section spot Static = record spot { section = Static; uses_outer = true }
 
 -- the number of words that a line places; `at` is its offset in its section
 abbrev pub size_of : LineEffect → List Arg → ℕ → ℕ
@@ -113,40 +113,40 @@ size_of deed.Even arguments at = at % 2
 size_of deed.Bound arguments at = 0
 
 -- the place of the next line, by the operation of this one and its arguments
-abbrev pub moved_by : List ℕ → LineEffect → List Arg → LocationCounter → LocationCounter
-moved_by text deed.Use arguments spot =
-    selected spot (section_in text (symbol_in (first_arg arguments)))
-moved_by text deed.Nothing arguments spot = spot
-moved_by text (deed.Instruction code bit27) arguments spot =
-    grown spot (size_of (deed.Instruction code bit27) arguments (place spot))
-moved_by text deed.Entry arguments spot = spot
-moved_by text deed.Segdef arguments spot = spot
-moved_by text deed.Equ arguments spot = spot
-moved_by text deed.Words arguments spot = grown spot (size_of deed.Words arguments (place spot))
-moved_by text deed.Zero arguments spot = grown spot (size_of deed.Zero arguments (place spot))
-moved_by text deed.Block arguments spot = grown spot (size_of deed.Block arguments (place spot))
-moved_by text deed.Even arguments spot = grown spot (size_of deed.Even arguments (place spot))
-moved_by text deed.Bound arguments spot = spot
+abbrev pub next_spot : List ℕ → LineEffect → List Arg → LocationCounter → LocationCounter
+next_spot text deed.Use arguments spot =
+    with_section spot (section_in text (symbol_in (first_arg arguments)))
+next_spot text deed.Nothing arguments spot = spot
+next_spot text (deed.Instruction code bit27) arguments spot =
+    plus_words spot (size_of (deed.Instruction code bit27) arguments (place spot))
+next_spot text deed.Entry arguments spot = spot
+next_spot text deed.Segdef arguments spot = spot
+next_spot text deed.Equ arguments spot = spot
+next_spot text deed.Words arguments spot = plus_words spot (size_of deed.Words arguments (place spot))
+next_spot text deed.Zero arguments spot = plus_words spot (size_of deed.Zero arguments (place spot))
+next_spot text deed.Block arguments spot = plus_words spot (size_of deed.Block arguments (place spot))
+next_spot text deed.Even arguments spot = plus_words spot (size_of deed.Even arguments (place spot))
+next_spot text deed.Bound arguments spot = spot
 
 -- the place of the next line
-unfoldable pub below : List ℕ → LocationCounter → Line36 → LocationCounter
-below text spot line = moved_by text line.deed line.args spot
+unfoldable pub next_line_spot : List ℕ → LocationCounter → Line36 → LocationCounter
+next_line_spot text spot line = next_spot text line.deed line.args spot
 
 -- the place after the last of these lines, the first of which is at `spot`
 unfoldable pub end_of : List ℕ → LocationCounter → List Line36 → LocationCounter
 end_of text spot [] = spot
-end_of text spot (line ∷ lines) = end_of text (below text spot line) lines
+end_of text spot (line ∷ lines) = end_of text (next_line_spot text spot line) lines
 
 -- ---- bounds of the numbers of words
 
 -- The counts leave room for this many more lines, each of fewer than 2^64 words.
-pub record HasRoom (lines : ℕ) (spot : LocationCounter) : Type 0 where
+pub record HasRoomForLines (lines : ℕ) (spot : LocationCounter) : Type 0 where
   pub text : spot.text + lines * 2 ^ 64 ≤ 2 ^ 96 - 2 ^ 64
   pub inner : spot.inner + lines * 2 ^ 64 ≤ 2 ^ 96 - 2 ^ 64
   pub outer : spot.outer + lines * 2 ^ 64 ≤ 2 ^ 96 - 2 ^ 64
 
 -- The place `after` is at most 2^64 words further in each section than `spot`.
-pub record IsNear (spot after : LocationCounter) : Type 0 where
+pub record IsOneLineFurther (spot after : LocationCounter) : Type 0 where
   pub text : after.text ≤ spot.text + 2 ^ 64
   pub inner : after.inner ≤ spot.inner + 2 ^ 64
   pub outer : after.outer ≤ spot.outer + 2 ^ 64

@@ -14,8 +14,8 @@ abbrev pub balance : ℕ → ℕ → Balance
 balance up down = record { up = up; down = down }
 
 -- the integer 0
-abbrev pub nothing : Balance
-nothing = record { up = 0; down = 0 }
+abbrev pub zero_balance : Balance
+zero_balance = record { up = 0; down = 0 }
 
 -- the sum of two integers
 abbrev pub balance_plus : Balance → Balance → Balance
@@ -60,19 +60,19 @@ abbrev pub absolute : ℕ → Sum
 absolute n =
     record {
       value = balance n 0;
-      text = nothing;
-      inner = nothing;
-      outer = nothing;
+      text = zero_balance;
+      inner = zero_balance;
+      outer = zero_balance;
       unknown = false;
     }
 
 -- the sum that is 0
-abbrev pub no_sum : Sum
-no_sum = absolute 0
+abbrev pub zero_sum : Sum
+zero_sum = absolute 0
 
 -- the sum of the symbol of a refused `equ`; a sum that depends on it is unknown too
 abbrev pub unknown_sum : Sum
-unknown_sum = record no_sum { unknown = true }
+unknown_sum = record zero_sum { unknown = true }
 
 -- the sum of two sums
 unfoldable pub sum_plus : Sum → Sum → Sum
@@ -86,8 +86,8 @@ sum_plus a b =
     }
 
 -- the negative of a sum
-unfoldable pub sum_turned : Sum → Sum
-sum_turned a =
+unfoldable pub negated_sum : Sum → Sum
+negated_sum a =
     record {
       value = turned a.value;
       text = turned a.text;

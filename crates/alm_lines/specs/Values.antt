@@ -3,8 +3,8 @@ use Rattle.std.specs.Prelude.{ℕ, Bool, not, ◌&&◌, ◌||◌, is_some, List,
 use Rattle.alm_tokens.specs.declared.expression.Term.{Term}
 use Rattle.alm_parse.specs.declared.line.Line36.{Line36}
 use Rattle.alm_lines.specs.Sums.{half_of, offset_of, kind_of}
-use Rattle.alm_lines.specs.Expressions.{sum_of, place_undefined}
-use Rattle.alm_lines.specs.Refusals.{has_room, is_kind_allowed, refusal_by}
+use Rattle.alm_lines.specs.Expressions.{sum_of, first_undefined_place}
+use Rattle.alm_lines.specs.Refusals.{fits_field, is_kind_allowed, refusal_unless_expressible}
 use Rattle.alm_lines.specs.declared.sum.Sum.{Sum}
 use Rattle.alm_lines.specs.declared.refusal.ValueField.{ValueField}
 use Rattle.alm_lines.specs.declared.refusal.ValueField.TheVariants.{Half, Offset}
@@ -20,15 +20,15 @@ value_by sum undefined =
       undefined = undefined;
       offset = offset_of sum.value;
       kind = kind_of sum;
-      fits_half = has_room Half sum.value;
-      fits_offset = has_room Offset sum.value;
+      fits_half = fits_field Half sum.value;
+      fits_offset = fits_field Offset sum.value;
       unknown = sum.unknown;
     }
 
 -- the value of an expression
-unfoldable pub evaluated : List ℕ → List (List ℕ × Sum) → LocationCounter → List Term → ValueFields
-evaluated text symbols spot terms =
-    value_by (sum_of text symbols spot terms) (place_undefined text symbols terms)
+unfoldable pub value_of_expression : List ℕ → List (List ℕ × Sum) → LocationCounter → List Term → ValueFields
+value_of_expression text symbols spot terms =
+    value_by (sum_of text symbols spot terms) (first_undefined_place text symbols terms)
 
 -- whether a value fits a field
 abbrev pub fits : ValueField → ValueFields → Bool
@@ -40,11 +40,11 @@ abbrev pub value_is_expressible : ValueField → Bool → ValueFields → Bool
 value_is_expressible room may_move value = fits room value && is_kind_allowed may_move value.kind
 
 -- whether an expression with this value is not refused, and does not depend on a refused `equ`
-abbrev pub is_value : ValueField → Bool → ValueFields → Bool
-is_value room may_move value =
+abbrev pub is_usable_value : ValueField → Bool → ValueFields → Bool
+is_usable_value room may_move value =
     not (is_some value.undefined) && not value.unknown && value_is_expressible room may_move value
 
 -- the refusal of an expression that begins at `place` and has this value
-abbrev pub value_refused : Line36 → ValueFields → ℕ → ValueField → Bool → Option AlmRefusal
-value_refused line value place room may_move =
-    refusal_by line value.undefined place (value.unknown || value_is_expressible room may_move value)
+abbrev pub evaluated_refusal : Line36 → ValueFields → ℕ → ValueField → Bool → Option AlmRefusal
+evaluated_refusal line value place room may_move =
+    refusal_unless_expressible line value.undefined place (value.unknown || value_is_expressible room may_move value)

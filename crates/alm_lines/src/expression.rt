@@ -1,10 +1,10 @@
 //! The sums of expressions.
 
 ghost use Rattle.std.specs.Prelude.{ℕ, List, [], ◌∷◌, ◌≡◌, ◌-◌, ◌^◌, ◌≤◌, length, Option};
-ghost use Rattle.alm_lines.specs.Sums.{no_sum, IsTerm};
-ghost use Rattle.alm_lines.specs.Expressions.{symbol_sum, atom_sum, term_sum, added, sum_of};
+ghost use Rattle.alm_lines.specs.Sums.{zero_sum, IsTerm};
+ghost use Rattle.alm_lines.specs.Expressions.{symbol_sum, atom_sum, term_sum, with_terms, sum_of};
 ghost use Rattle.alm_lines.specs.Expressions.{is_defined, is_symbol_atom, is_undefined};
-ghost use Rattle.alm_lines.specs.Expressions.{place_undefined, expression_place};
+ghost use Rattle.alm_lines.specs.Expressions.{first_undefined_place, expression_place};
 
 use crate::arguments::name_at;
 use crate::spot::LocationCounter;
@@ -47,7 +47,7 @@ fn term_sum(text: &[u8], symbols: &Symbols, spot: LocationCounter, term: Term) -
 }
 
 /// The sum of an expression. A symbol that is not defined counts as 0.
-#[tactic(auto, using(crate::proofs::SumLaws::sums), unfolding(crate::specs::Expressions::added))]
+#[tactic(auto, using(crate::proofs::SumLaws::sums), unfolding(crate::specs::Expressions::with_terms))]
 pub fn sum_of(text: &[u8], symbols: &Symbols, spot: LocationCounter, terms: &[Term]) -> Sum
     requires { length terms.now ≤ 2 ^ 32 }
     ensures { result ≡ sum_of text.now symbols.now spot terms.now }
@@ -81,9 +81,9 @@ fn is_undefined(text: &[u8], symbols: &Symbols, term: &Term) -> bool
 }
 
 /// The index in the text of the first symbol that is not defined.
-#[tactic(auto, unfolding(crate::specs::Expressions::place_undefined))]
-pub fn place_undefined(text: &[u8], symbols: &Symbols, terms: &[Term]) -> Option<u32>
-    ensures { result ≡ place_undefined text.now symbols.now terms.now }
+#[tactic(auto, unfolding(crate::specs::Expressions::first_undefined_place))]
+pub fn first_undefined_place(text: &[u8], symbols: &Symbols, terms: &[Term]) -> Option<u32>
+    ensures { result ≡ first_undefined_place text.now symbols.now terms.now }
 {
     match terms.iter().find(|term| is_undefined(text, symbols, *term)) {
         Some(term) => Some(term.span.from),

@@ -5,22 +5,22 @@ ghost use Rattle.std.specs.Prelude.{OnOk, IfOk};
 ghost use Rattle.alm_lines.specs.Sums.{IsTerm};
 ghost use Rattle.alm_lines.specs.Symbols.{with_symbol};
 ghost use Rattle.alm_lines.specs.Arguments.{name_at};
-ghost use Rattle.alm_lines.specs.Spots.{start, below, end_of, HasRoom};
-ghost use Rattle.alm_lines.specs.Refusals.{sooner, has_room};
+ghost use Rattle.alm_lines.specs.Spots.{start, next_line_spot, end_of, HasRoomForLines};
+ghost use Rattle.alm_lines.specs.Refusals.{earlier_refusal, fits_field};
 ghost use Rattle.alm_lines.specs.declared.refusal.ValueField.TheVariants.{Half};
-ghost use Rattle.alm_lines.specs.Layout.{redefinition, with_labels, labels_refused, own_symbol};
-ghost use Rattle.alm_lines.specs.Layout.{own_refusal, value_refusal, number_of, value_by, value_of};
-ghost use Rattle.alm_lines.specs.Layout.{own_sum, with_own, own_redefinition, symbols_with, refused_with};
-ghost use Rattle.alm_lines.specs.Layout.{over, symbols_after, refused_after, symbols_from};
+ghost use Rattle.alm_lines.specs.Layout.{redefinition, with_labels, labels_refusal, defined_symbol};
+ghost use Rattle.alm_lines.specs.Layout.{defined_symbol_refusal, equ_refusal, number_sum, value_by, equ_sum};
+ghost use Rattle.alm_lines.specs.Layout.{defined_symbol_sum, with_defined_symbol, own_redefinition, symbols_with_defined, definition_refusal};
+ghost use Rattle.alm_lines.specs.Layout.{over_limit_refusal, symbols_after, refusal_after, symbols_from};
 ghost use Rattle.alm_lines.specs.Layout.{layout_refusal};
 
 use crate::arguments::{first_symbol, name_at, second_terms};
 use crate::expression::{expression_place, is_defined, sum_of};
 use crate::refusal::{
     AlmCode, AlmRefusal, Requirement, ValueField, expression_refusal, has_value, is_over_limit,
-    refusal_at, sooner,
+    refusal_at, earlier_refusal,
 };
-use crate::spot::{LocationCounter, below};
+use crate::spot::{LocationCounter, next_line_spot};
 use crate::sum::{NOTHING, Sum, unknown};
 use crate::symbols::Symbols;
 use alm_parse::{Arg, Line36, LineEffect, Span};
@@ -50,7 +50,7 @@ fn define(text: &[u8], symbols: &mut Symbols, span: Span, sum: Sum) -> Result<()
 
 // Defines the labels of a line. Returns the first in the text of `refused` and the refusals of
 // those that are defined already.
-#[tactic(auto, unfolding(crate::specs::Layout::with_labels, crate::specs::Layout::labels_refused))]
+#[tactic(auto, unfolding(crate::specs::Layout::with_labels, crate::specs::Layout::labels_refusal))]
 fn define_labels(
     text: &[u8],
     line: &Line36,
@@ -62,12 +62,12 @@ fn define_labels(
     ensures symbols { OnOk result
         (symbols.new ≡ with_labels text.now sum symbols.old line.now.labels) }
     ensures refused { IfOk result (λ r.
-        r ≡ labels_refused text.now line.now sum symbols.old refused line.now.labels) }
+        r ≡ labels_refusal text.now line.now sum symbols.old refused line.now.labels) }
 {
     let mut first = refused;
     let mut rest = line.labels.items();
     while let [span, more @ ..] = rest {
-        first = sooner(first, redefinition(text, line, symbols, *span));
+        first = earlier_refusal(first, redefinition(text, line, symbols, *span));
         define(text, symbols, *span, sum)?;
         rest = more;
     }
@@ -75,8 +75,8 @@ fn define_labels(
 }
 
 // The symbol that an operation defines: the first argument of `equ` and `bss`.
-fn own_symbol(deed: LineEffect, args: &[Arg]) -> Option<Span>
-    ensures { result ≡ own_symbol deed args.now }
+fn defined_symbol(deed: LineEffect, args: &[Arg]) -> Option<Span>
+    ensures { result ≡ defined_symbol deed args.now }
 {
     match deed {
         LineEffect::Equ | LineEffect::Block => first_symbol(args),
@@ -93,13 +93,13 @@ fn own_symbol(deed: LineEffect, args: &[Arg]) -> Option<Span>
 }
 
 // The refusal of an `equ` whose expression is not a number by the symbols above.
-fn value_refusal(
+fn equ_refusal(
     text: &[u8],
     symbols: &Symbols,
     spot: LocationCounter,
     line: &Line36,
 ) -> Option<AlmRefusal>
-    ensures { result ≡ value_refusal text.now symbols.now spot line.now }
+    ensures { result ≡ equ_refusal text.now symbols.now spot line.now }
 {
     let terms = second_terms(line.args.items());
     let wanted = Requirement {
@@ -112,9 +112,9 @@ fn value_refusal(
 
 // The sum that is the number of this sum, and not a place of a section.
 #[tactic(auto, using(crate::proofs::SumLaws::number_small))]
-fn number_of(sum: Sum) -> Sum
-    requires { has_room Half sum.value ≡ true }
-    ensures value { result ≡ number_of sum }
+fn number_sum(sum: Sum) -> Sum
+    requires { fits_field Half sum.value ≡ true }
+    ensures value { result ≡ number_sum sum }
     ensures small { IsTerm result }
 {
     Sum {
@@ -128,31 +128,31 @@ fn number_of(sum: Sum) -> Sum
 
 // The sum of the symbol of an `equ`: the number of its expression; unknown if it is refused or
 // depends on an unknown one.
-#[tactic(auto, using(crate::proofs::SumLaws::valued_fits), unfolding(crate::specs::Layout::value_of))]
-fn value_of(text: &[u8], symbols: &Symbols, spot: LocationCounter, line: &Line36) -> Sum
-    ensures value { result ≡ value_of text.now symbols.now spot line.now }
+#[tactic(auto, using(crate::proofs::SumLaws::valued_fits), unfolding(crate::specs::Layout::equ_sum))]
+fn equ_sum(text: &[u8], symbols: &Symbols, spot: LocationCounter, line: &Line36) -> Sum
+    ensures value { result ≡ equ_sum text.now symbols.now spot line.now }
     ensures small { IsTerm result }
 {
     let terms = second_terms(line.args.items());
     if !has_value(text, symbols, spot, terms, ValueField::Half, false) {
         return unknown();
     }
-    number_of(sum_of(text, symbols, spot, terms))
+    number_sum(sum_of(text, symbols, spot, terms))
 }
 
 // The refusal of the value of the symbol that an operation defines: that of the expression of an
 // `equ`.
-fn own_refusal(
+fn defined_symbol_refusal(
     text: &[u8],
     symbols: &Symbols,
     spot: LocationCounter,
     line: &Line36,
     deed: LineEffect,
 ) -> Option<AlmRefusal>
-    ensures { result ≡ own_refusal text.now symbols.now spot line.now deed }
+    ensures { result ≡ defined_symbol_refusal text.now symbols.now spot line.now deed }
 {
     match deed {
-        LineEffect::Equ => value_refusal(text, symbols, spot, line),
+        LineEffect::Equ => equ_refusal(text, symbols, spot, line),
         LineEffect::Nothing
         | LineEffect::Instruction(_, _)
         | LineEffect::Entry
@@ -168,18 +168,18 @@ fn own_refusal(
 
 // The sum of the symbol that an operation defines: the number of an `equ`, or the place of the
 // line.
-fn own_sum(
+fn defined_symbol_sum(
     text: &[u8],
     symbols: &Symbols,
     spot: LocationCounter,
     line: &Line36,
     deed: LineEffect,
 ) -> Sum
-    ensures value { result ≡ own_sum text.now symbols.now spot line.now deed }
+    ensures value { result ≡ defined_symbol_sum text.now symbols.now spot line.now deed }
     ensures small { IsTerm result }
 {
     match deed {
-        LineEffect::Equ => value_of(text, symbols, spot, line),
+        LineEffect::Equ => equ_sum(text, symbols, spot, line),
         LineEffect::Nothing
         | LineEffect::Instruction(_, _)
         | LineEffect::Entry
@@ -209,14 +209,14 @@ fn own_redefinition(
 }
 
 // Defines the symbol of an operation, if it has one.
-fn define_own(
+fn define_operation_symbol(
     text: &[u8],
     symbols: &mut Symbols,
     own: Option<Span>,
     sum: Sum,
 ) -> Result<(), NoMemory>
     requires { IsTerm sum }
-    ensures { OnOk result (symbols.new ≡ with_own text.now symbols.old own sum) }
+    ensures { OnOk result (symbols.new ≡ with_defined_symbol text.now symbols.old own sum) }
 {
     match own {
         Some(span) => define(text, symbols, span, sum),
@@ -226,41 +226,41 @@ fn define_own(
 
 // The refusal of the symbol that the operation of a line defines: it is defined already, or its
 // value is refused.
-#[tactic(auto, unfolding(crate::specs::Layout::refused_with))]
-fn refused_with(
+#[tactic(auto, unfolding(crate::specs::Layout::definition_refusal))]
+fn definition_refusal(
     text: &[u8],
     symbols: &Symbols,
     spot: LocationCounter,
     line: &Line36,
     deed: LineEffect,
 ) -> Option<AlmRefusal>
-    ensures { result ≡ refused_with text.now symbols.now spot line.now deed }
+    ensures { result ≡ definition_refusal text.now symbols.now spot line.now deed }
 {
-    let own = own_symbol(deed, line.args.items());
-    let refused = own_refusal(text, symbols, spot, line, deed);
-    sooner(own_redefinition(text, line, symbols, own), refused)
+    let own = defined_symbol(deed, line.args.items());
+    let refused = defined_symbol_refusal(text, symbols, spot, line, deed);
+    earlier_refusal(own_redefinition(text, line, symbols, own), refused)
 }
 
 // Defines the symbol that a line with this operation defines, if any.
-#[tactic(auto, unfolding(crate::specs::Layout::symbols_with))]
-fn define_with(
+#[tactic(auto, unfolding(crate::specs::Layout::symbols_with_defined))]
+fn define_symbol_of_line(
     text: &[u8],
     symbols: &mut Symbols,
     spot: LocationCounter,
     line: &Line36,
     deed: LineEffect,
 ) -> Result<(), NoMemory>
-    ensures { OnOk result (symbols.new ≡ symbols_with text.now symbols.old spot line.now deed) }
+    ensures { OnOk result (symbols.new ≡ symbols_with_defined text.now symbols.old spot line.now deed) }
 {
-    let sum = own_sum(text, symbols, spot, line, deed);
-    define_own(text, symbols, own_symbol(deed, line.args.items()), sum)
+    let sum = defined_symbol_sum(text, symbols, spot, line, deed);
+    define_operation_symbol(text, symbols, defined_symbol(deed, line.args.items()), sum)
 }
 
 // The refusal (E8) of a section with more words than it may have, at the line that makes it too
 // long.
-#[tactic(auto, unfolding(crate::specs::Layout::over))]
-fn over(line: &Line36, spot: LocationCounter) -> Option<AlmRefusal>
-    ensures { result ≡ over line.now spot }
+#[tactic(auto, unfolding(crate::specs::Layout::over_limit_refusal))]
+fn over_limit_refusal(line: &Line36, spot: LocationCounter) -> Option<AlmRefusal>
+    ensures { result ≡ over_limit_refusal line.now spot }
 {
     if is_over_limit(spot.count()) {
         Some(refusal_at(line, line.start as u64, AlmCode::E8))
@@ -271,8 +271,8 @@ fn over(line: &Line36, spot: LocationCounter) -> Option<AlmRefusal>
 
 // Defines the symbols of a line. Returns the first in the text of `refused`, the refusals of these
 // symbols, and that of a section that the line makes too long.
-#[tactic(auto, unfolding(crate::specs::Layout::symbols_after, crate::specs::Layout::refused_after))]
-fn take_line(
+#[tactic(auto, unfolding(crate::specs::Layout::symbols_after, crate::specs::Layout::refusal_after))]
+fn add_line_symbols(
     alloc: Global,
     text: &[u8],
     symbols: &mut Symbols,
@@ -280,23 +280,23 @@ fn take_line(
     line: &Line36,
     refused: Option<AlmRefusal>,
 ) -> Result<Option<AlmRefusal>, NoMemory>
-    requires { HasRoom 1 spot }
+    requires { HasRoomForLines 1 spot }
     ensures symbols { OnOk result (symbols.new ≡ symbols_after text.now symbols.old spot line.now) }
     ensures refused { IfOk result (λ r.
-        r ≡ refused_after text.now refused symbols.old spot line.now) }
+        r ≡ refusal_after text.now refused symbols.old spot line.now) }
 {
     let deed = line.deed;
-    let after = below(alloc, text, spot, line)?;
+    let after = next_line_spot(alloc, text, spot, line)?;
     let labels = define_labels(text, line, symbols, spot.here(), refused)?;
-    let own = refused_with(text, symbols, spot, line, deed);
-    define_with(text, symbols, spot, line, deed)?;
-    Ok(sooner(sooner(labels, own), over(line, after)))
+    let own = definition_refusal(text, symbols, spot, line, deed);
+    define_symbol_of_line(text, symbols, spot, line, deed)?;
+    Ok(earlier_refusal(earlier_refusal(labels, own), over_limit_refusal(line, after)))
 }
 
 // Defines the symbols of lines. Returns the first refusal of a definition or of the length of a
 // section.
 #[tactic(auto, using(crate::proofs::Rooms::rooms), unfolding(crate::specs::Layout::symbols_from, crate::specs::Layout::layout_refusal))]
-fn take_lines(
+fn add_symbols_of_lines(
     alloc: Global,
     text: &[u8],
     symbols: &mut Symbols,
@@ -312,8 +312,8 @@ fn take_lines(
     let mut spot = LocationCounter::start();
     let mut rest = lines;
     while let [line, more @ ..] = rest {
-        refused = take_line(alloc, text, symbols, spot, line, refused)?;
-        spot = below(alloc, text, spot, line)?;
+        refused = add_line_symbols(alloc, text, symbols, spot, line, refused)?;
+        spot = next_line_spot(alloc, text, spot, line)?;
         rest = more;
     }
     Ok(refused)
@@ -336,7 +336,7 @@ pub fn layout_of(alloc: Global, text: &[u8], lines: &[Line36]) -> Result<Layout,
         layout.refused ≡ layout_refusal text.now None [] start lines.now) }
 {
     let mut symbols = Symbols::new(alloc, HashSeed::of(text));
-    match take_lines(alloc, text, &mut symbols, lines) {
+    match add_symbols_of_lines(alloc, text, &mut symbols, lines) {
         Ok(refused) => Ok(Layout { symbols, refused }),
         Err(fault) => {
             // Dropped explicitly, so that the drop is proved once for its type.

@@ -1,12 +1,12 @@
 //! Refusals: their order in the text, and how an expression is refused.
 
 ghost use Rattle.std.specs.Prelude.{ℕ, Bool, ◌≡◌, ◌-◌, ◌+◌, ◌%◌, ◌^◌, ◌≤◌, List, length, Option};
-ghost use Rattle.alm_lines.specs.Refusals.{code_number, precedes, sooner, refusal_at, column_of};
-ghost use Rattle.alm_lines.specs.Refusals.{fault_by, fault_of, has_room, is_kind_allowed, is_expressible};
-ghost use Rattle.alm_lines.specs.Refusals.{refusal_by, expression_refusal, has_value};
+ghost use Rattle.alm_lines.specs.Refusals.{code_number, precedes, earlier_refusal, refusal_at, column_of};
+ghost use Rattle.alm_lines.specs.Refusals.{fault_by, fault_of, fits_field, is_kind_allowed, is_expressible};
+ghost use Rattle.alm_lines.specs.Refusals.{refusal_unless_expressible, expression_refusal, has_value};
 ghost use Rattle.alm_lines.specs.Refusals.{is_over_limit};
 
-use crate::expression::{place_undefined, sum_of};
+use crate::expression::{first_undefined_place, sum_of};
 use crate::spot::LocationCounter;
 use crate::sum::{Balance, Kind, Sum};
 use crate::symbols::Symbols;
@@ -68,8 +68,8 @@ fn precedes(a: AlmRefusal, b: AlmRefusal) -> bool
 }
 
 /// The first of two refusals in the order of the text, if there are any.
-pub fn sooner(a: Option<AlmRefusal>, b: Option<AlmRefusal>) -> Option<AlmRefusal>
-    ensures { result ≡ sooner a b }
+pub fn earlier_refusal(a: Option<AlmRefusal>, b: Option<AlmRefusal>) -> Option<AlmRefusal>
+    ensures { result ≡ earlier_refusal a b }
 {
     match (a, b) {
         (None, b) => b,
@@ -119,8 +119,8 @@ pub fn fault_of(refusal: AlmRefusal) -> AlmFault
 }
 
 /// Whether a number fits a field.
-pub fn has_room(room: ValueField, value: Balance) -> bool
-    ensures { result ≡ has_room room value }
+pub fn fits_field(room: ValueField, value: Balance) -> bool
+    ensures { result ≡ fits_field room value }
 {
     match room {
         ValueField::Half => value.is_within(131072, 262143),
@@ -146,18 +146,18 @@ pub(crate) fn is_kind_allowed(may_move: bool, kind: Kind) -> bool
 pub fn is_expressible(room: ValueField, may_move: bool, sum: Sum) -> bool
     ensures { result ≡ is_expressible room may_move sum }
 {
-    has_room(room, sum.value) && is_kind_allowed(may_move, sum.kind())
+    fits_field(room, sum.value) && is_kind_allowed(may_move, sum.kind())
 }
 
 // The refusal of an expression that begins at `place`: E6 at `undefined`, its first symbol that is
 // not defined, if there is one; otherwise E7, unless `said`: an object can express its value.
-pub(crate) fn refusal_by(
+pub(crate) fn refusal_unless_expressible(
     line: &Line36,
     undefined: Option<u32>,
     place: u64,
     said: bool,
 ) -> Option<AlmRefusal>
-    ensures { result ≡ refusal_by line.now undefined place said }
+    ensures { result ≡ refusal_unless_expressible line.now undefined place said }
 {
     match undefined {
         Some(at) => Some(refusal_at(line, at as u64, AlmCode::E6)),
@@ -199,9 +199,9 @@ pub fn expression_refusal(
 {
     let sum = sum_of(text, symbols, spot, terms);
     let said = sum.unknown || is_expressible(wanted.room, wanted.may_move, sum);
-    refusal_by(
+    refusal_unless_expressible(
         line,
-        place_undefined(text, symbols, terms),
+        first_undefined_place(text, symbols, terms),
         wanted.place,
         said,
     )
@@ -221,7 +221,7 @@ pub fn has_value(
     ensures { result ≡ has_value text.now symbols.now spot terms.now room may_move }
 {
     let sum = sum_of(text, symbols, spot, terms);
-    place_undefined(text, symbols, terms).is_none()
+    first_undefined_place(text, symbols, terms).is_none()
         && !sum.unknown
         && is_expressible(room, may_move, sum)
 }

@@ -2,9 +2,9 @@
 
 ghost use Rattle.std.specs.Prelude.{ℕ, List, [], ◌∷◌, ◌++◌, ◌≡◌, ◌^◌, ◌<◌, length, IfOk};
 ghost use Rattle.alm_lines.specs.Sums.{balance, IsTerm};
-ghost use Rattle.alm_lines.specs.Spots.{start, count, count_in, place, place_in, here, here_in};
-ghost use Rattle.alm_lines.specs.Spots.{grown, grown_in, selected, size_of, moved_by, below, end_of};
-ghost use Rattle.alm_lines.specs.Spots.{HasRoom, IsNear};
+ghost use Rattle.alm_lines.specs.Spots.{start, count, count_in, place, offset_in_section, here, label_sum_in};
+ghost use Rattle.alm_lines.specs.Spots.{plus_words, plus_words_in, with_section, size_of, next_spot, next_line_spot, end_of};
+ghost use Rattle.alm_lines.specs.Spots.{HasRoomForLines, IsOneLineFurther};
 
 use crate::arguments::{first_symbol, second_number, section_in, words_of_args};
 use crate::sum::{Balance, NOTHING, Sum, absolute};
@@ -143,10 +143,10 @@ impl LocationCounter {
 
     /// The place after `n` more words in the section.
     #[inline(always)]
-    pub fn grown(self, n: u64) -> LocationCounter
-        requires { HasRoom 1 self }
-        ensures value { result ≡ grown self n }
-        ensures near { IsNear self result }
+    pub fn plus_words(self, n: u64) -> LocationCounter
+        requires { HasRoomForLines 1 self }
+        ensures value { result ≡ plus_words self n }
+        ensures near { IsOneLineFurther self result }
     {
         let section = self.section;
         match section {
@@ -167,9 +167,9 @@ impl LocationCounter {
     }
 
     /// The place after a `use` line that selects this section.
-    pub fn selected(self, section: Section) -> LocationCounter
-        ensures value { result ≡ selected self section }
-        ensures near { IsNear self result }
+    pub fn with_section(self, section: Section) -> LocationCounter
+        ensures value { result ≡ with_section self section }
+        ensures near { IsOneLineFurther self result }
     {
         match section {
             Section::Text => LocationCounter {
@@ -211,19 +211,19 @@ pub fn size_of(alloc: Global, deed: LineEffect, args: &[Arg], at: u128) -> Resul
 }
 
 // The place after the words of a line with this operation.
-fn grown_by(
+fn plus_words_of_line(
     alloc: Global,
     spot: LocationCounter,
     deed: LineEffect,
     args: &[Arg],
 ) -> Result<LocationCounter, NoMemory>
-    requires { HasRoom 1 spot }
+    requires { HasRoomForLines 1 spot }
     ensures value { IfOk result (λ after.
-        after ≡ grown spot (size_of deed args.now (place spot))) }
-    ensures near { IfOk result (IsNear spot) }
+        after ≡ plus_words spot (size_of deed args.now (place spot))) }
+    ensures near { IfOk result (IsOneLineFurther spot) }
 {
     let size = size_of(alloc, deed, args, spot.place())?;
-    Ok(spot.grown(size))
+    Ok(spot.plus_words(size))
 }
 
 // The place of the next line, for an operation that is no instruction. Not inlined, since most
@@ -235,22 +235,22 @@ fn next_line_other(
     spot: LocationCounter,
     line: &Line36,
 ) -> Result<LocationCounter, NoMemory>
-    requires { HasRoom 1 spot }
+    requires { HasRoomForLines 1 spot }
     ensures value { IfOk result (λ after.
-        after ≡ moved_by text.now line.now.deed line.now.args spot) }
-    ensures near { IfOk result (IsNear spot) }
+        after ≡ next_spot text.now line.now.deed line.now.args spot) }
+    ensures near { IfOk result (IsOneLineFurther spot) }
 {
     let deed = line.deed;
     let args = line.args.items();
     match deed {
-        LineEffect::Use => Ok(spot.selected(section_in(text, first_symbol(args)))),
+        LineEffect::Use => Ok(spot.with_section(section_in(text, first_symbol(args)))),
         LineEffect::Nothing
         | LineEffect::Entry
         | LineEffect::Segdef
         | LineEffect::Equ
         | LineEffect::Bound => Ok(spot),
-        LineEffect::Instruction(_, _) | LineEffect::Zero => Ok(spot.grown(1)),
-        LineEffect::Words | LineEffect::Block | LineEffect::Even => grown_by(
+        LineEffect::Instruction(_, _) | LineEffect::Zero => Ok(spot.plus_words(1)),
+        LineEffect::Words | LineEffect::Block | LineEffect::Even => plus_words_of_line(
             alloc, spot, deed, args,
         ),
     }
@@ -258,19 +258,19 @@ fn next_line_other(
 
 /// The place of the next line. Fails only with `NoMemory`.
 #[inline(always)]
-#[tactic(auto, unfolding(crate::specs::Spots::below))]
-pub fn below(
+#[tactic(auto, unfolding(crate::specs::Spots::next_line_spot))]
+pub fn next_line_spot(
     alloc: Global,
     text: &[u8],
     spot: LocationCounter,
     line: &Line36,
 ) -> Result<LocationCounter, NoMemory>
-    requires { HasRoom 1 spot }
-    ensures value { IfOk result (λ after. after ≡ below text.now spot line.now) }
-    ensures near { IfOk result (IsNear spot) }
+    requires { HasRoomForLines 1 spot }
+    ensures value { IfOk result (λ after. after ≡ next_line_spot text.now spot line.now) }
+    ensures near { IfOk result (IsOneLineFurther spot) }
 {
     match line.deed {
-        LineEffect::Instruction(_, _) => Ok(spot.grown(1)),
+        LineEffect::Instruction(_, _) => Ok(spot.plus_words(1)),
         LineEffect::Nothing
         | LineEffect::Entry
         | LineEffect::Segdef
@@ -289,12 +289,12 @@ pub fn below(
 pub fn end_of(alloc: Global, text: &[u8], lines: &[Line36]) -> Result<LocationCounter, NoMemory>
     requires { length lines.now < 2 ^ 32 }
     ensures value { IfOk result (λ spot. spot ≡ end_of text.now start lines.now) }
-    ensures room { IfOk result (HasRoom 0) }
+    ensures room { IfOk result (HasRoomForLines 0) }
 {
     let mut spot = LocationCounter::start();
     let mut rest = lines;
     while let [line, more @ ..] = rest {
-        spot = below(alloc, text, spot, line)?;
+        spot = next_line_spot(alloc, text, spot, line)?;
         rest = more;
     }
     Ok(spot)

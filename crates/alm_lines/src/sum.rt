@@ -3,7 +3,7 @@
 ghost use Rattle.std.specs.Prelude.{ℕ, ◌≡◌, ◌+◌, ◌-◌, ◌%◌, ◌≤◌, ◌<◌, ◌^◌, ◌&&◌};
 ghost use Rattle.alm_lines.specs.Sums.{balance_plus, turned, is_zero, is_one, is_within, half_of};
 ghost use Rattle.alm_lines.specs.Sums.{offset_of, normalized, absolute, unknown_sum, sum_plus};
-ghost use Rattle.alm_lines.specs.Sums.{sum_turned, kind_of, IsAtMost, IsTerm};
+ghost use Rattle.alm_lines.specs.Sums.{negated_sum, kind_of, IsAtMost, IsTerm};
 
 use obj36_parts::Section;
 
@@ -170,10 +170,10 @@ impl Sum {
     }
 
     /// The negated sum.
-    #[tactic(auto, unfolding(crate::specs::Sums::sum_turned))]
+    #[tactic(auto, unfolding(crate::specs::Sums::negated_sum))]
     pub fn turned(self) -> Sum
         requires { IsTerm self }
-        ensures value { result ≡ sum_turned self }
+        ensures value { result ≡ negated_sum self }
         ensures small { IsTerm result }
     {
         Sum {

@@ -51,7 +51,7 @@ impl Symbols {
         ensures value { result ≡ sum_named name.now self.now }
         ensures small { IfSome result IsTerm }
     {
-        found(&self.sums, name)
+        sum_in_table(&self.sums, name)
     }
 
     /// Defines a symbol, unless it is defined already. If memory runs out, nothing changes.
@@ -61,7 +61,7 @@ impl Symbols {
         ensures ok { OnOk result (self.new ≡ with_symbol self.old name sum) }
         ensures err { OnErr result (self.new ≡ self.old) }
     {
-        if found(&self.sums, &name).is_some() {
+        if sum_in_table(&self.sums, &name).is_some() {
             return Ok(());
         }
         self.sums.insert(name, sum)?;
@@ -71,7 +71,7 @@ impl Symbols {
 
 // The sum of a symbol in the table.
 #[tactic(auto, unfolding(crate::specs::Symbols::sum_named))]
-fn found(sums: &IndexMap<Name, Sum, HashSeed>, name: &Name) -> Option<Sum>
+fn sum_in_table(sums: &IndexMap<Name, Sum, HashSeed>, name: &Name) -> Option<Sum>
     ensures { result ≡ sum_named name.now sums.now.entries }
 {
     sums.get(name).copied()

@@ -2,16 +2,16 @@
 
 ghost use Rattle.std.specs.Prelude.{ℕ, [], ◌∷◌, ◌≡◌, ◌^◌, ◌<◌, ◌≤◌, length, Some, None};
 ghost use Rattle.std.specs.Prelude.{if◌then◌else◌};
-ghost use Rattle.alm_lines.specs.Sums.{kind_of, no_sum, IsTerm};
+ghost use Rattle.alm_lines.specs.Sums.{kind_of, zero_sum, IsTerm};
 ghost use Rattle.alm_lines.specs.Refusals.{has_value, expression_refusal};
 ghost use Rattle.alm_lines.specs.Expressions.{symbol_sum, atom_sum, sum_of};
-ghost use Rattle.alm_lines.specs.Expressions.{is_defined, place_undefined};
-ghost use Rattle.alm_lines.specs.Values.{value_by, evaluated, fits, value_is_expressible, is_value};
-ghost use Rattle.alm_lines.specs.Values.{value_refused};
+ghost use Rattle.alm_lines.specs.Expressions.{is_defined, first_undefined_place};
+ghost use Rattle.alm_lines.specs.Values.{value_by, value_of_expression, fits, value_is_expressible, is_usable_value};
+ghost use Rattle.alm_lines.specs.Values.{evaluated_refusal};
 
 use crate::arguments::name_at;
-use crate::expression::{place_undefined, sum_of};
-use crate::refusal::{AlmRefusal, Requirement, ValueField, has_room, is_kind_allowed, refusal_by};
+use crate::expression::{first_undefined_place, sum_of};
+use crate::refusal::{AlmRefusal, Requirement, ValueField, fits_field, is_kind_allowed, refusal_unless_expressible};
 use crate::spot::LocationCounter;
 use crate::sum::{Kind, Sum, absolute};
 use crate::symbols::Symbols;
@@ -72,33 +72,33 @@ fn value_by(sum: Sum, undefined: Option<u32>) -> Value
         undefined,
         offset: sum.value.offset() as u16,
         kind: sum.kind(),
-        fits_half: has_room(ValueField::Half, sum.value),
-        fits_offset: has_room(ValueField::Offset, sum.value),
+        fits_half: fits_field(ValueField::Half, sum.value),
+        fits_offset: fits_field(ValueField::Offset, sum.value),
         unknown: sum.unknown,
     }
 }
 
 /// A sum, and the index in the text of the first symbol that is not defined, which counts as 0.
 #[derive(Clone, Copy)]
-pub struct Sought {
+pub struct SumAndUndefined {
     pub sum: Sum,
     pub undefined: Option<u32>,
 }
 
 // Looks up a symbol, once for both the sum and whether it is defined.
 #[tactic(auto, unfolding(crate::specs::Expressions::symbol_sum, crate::specs::Expressions::is_defined))]
-fn seek_symbol(text: &[u8], symbols: &Symbols, span: Span) -> Sought
+fn symbol_sum_and_undefined(text: &[u8], symbols: &Symbols, span: Span) -> SumAndUndefined
     ensures sum { result.sum ≡ symbol_sum text.now symbols.now span }
     ensures small { IsTerm result.sum }
     ensures undefined { result.undefined
         ≡ (if is_defined text.now symbols.now span then None else Some span.from) }
 {
     match symbols.find(&name_at(text, span)) {
-        Some(sum) => Sought {
+        Some(sum) => SumAndUndefined {
             sum,
             undefined: None,
         },
-        None => Sought {
+        None => SumAndUndefined {
             sum: absolute(0),
             undefined: Some(span.from),
         },
@@ -107,18 +107,18 @@ fn seek_symbol(text: &[u8], symbols: &Symbols, span: Span) -> Sought
 
 // The sum of a term without its sign, and where it is a symbol that is not defined.
 #[tactic(auto, using(crate::proofs::ValueLaws::undefined_alone))]
-fn seek_atom(text: &[u8], symbols: &Symbols, spot: LocationCounter, term: Term) -> Sought
+fn atom_sum_and_undefined(text: &[u8], symbols: &Symbols, spot: LocationCounter, term: Term) -> SumAndUndefined
     ensures sum { result.sum ≡ atom_sum text.now symbols.now spot term.span term.what }
     ensures small { IsTerm result.sum }
-    ensures undefined { result.undefined ≡ place_undefined text.now symbols.now (term ∷ []) }
+    ensures undefined { result.undefined ≡ first_undefined_place text.now symbols.now (term ∷ []) }
 {
     match term.what {
-        Atom::Symbol => seek_symbol(text, symbols, term.span),
-        Atom::Number(n) => Sought {
+        Atom::Symbol => symbol_sum_and_undefined(text, symbols, term.span),
+        Atom::Number(n) => SumAndUndefined {
             sum: absolute(n as u64),
             undefined: None,
         },
-        Atom::Here => Sought {
+        Atom::Here => SumAndUndefined {
             sum: spot.here(),
             undefined: None,
         },
@@ -127,12 +127,12 @@ fn seek_atom(text: &[u8], symbols: &Symbols, spot: LocationCounter, term: Term) 
 
 // The sum of a term, and where it is a symbol that is not defined.
 #[tactic(auto, using(crate::proofs::ValueLaws::sum_alone), unfolding(crate::specs::Expressions::term_sum))]
-fn seek_term(text: &[u8], symbols: &Symbols, spot: LocationCounter, term: Term) -> Sought
+fn term_sum_and_undefined(text: &[u8], symbols: &Symbols, spot: LocationCounter, term: Term) -> SumAndUndefined
     ensures sum { result.sum ≡ sum_of text.now symbols.now spot (term ∷ []) }
-    ensures undefined { result.undefined ≡ place_undefined text.now symbols.now (term ∷ []) }
+    ensures undefined { result.undefined ≡ first_undefined_place text.now symbols.now (term ∷ []) }
 {
-    let atom = seek_atom(text, symbols, spot, term);
-    Sought {
+    let atom = atom_sum_and_undefined(text, symbols, spot, term);
+    SumAndUndefined {
         sum: if term.minus {
             atom.sum.turned()
         } else {
@@ -144,34 +144,34 @@ fn seek_term(text: &[u8], symbols: &Symbols, spot: LocationCounter, term: Term) 
 
 // The sum of an expression, and its first symbol that is not defined. Most expressions have one
 // term, so a symbol in it is looked up only once.
-fn seek(text: &[u8], symbols: &Symbols, spot: LocationCounter, terms: &[Term]) -> Sought
+fn sum_and_undefined(text: &[u8], symbols: &Symbols, spot: LocationCounter, terms: &[Term]) -> SumAndUndefined
     requires { length terms.now ≤ 2 ^ 32 }
     ensures sum { result.sum ≡ sum_of text.now symbols.now spot terms.now }
-    ensures undefined { result.undefined ≡ place_undefined text.now symbols.now terms.now }
+    ensures undefined { result.undefined ≡ first_undefined_place text.now symbols.now terms.now }
 {
     match terms {
-        [term] => seek_term(text, symbols, spot, *term),
-        _ => Sought {
+        [term] => term_sum_and_undefined(text, symbols, spot, *term),
+        _ => SumAndUndefined {
             sum: sum_of(text, symbols, spot, terms),
-            undefined: place_undefined(text, symbols, terms),
+            undefined: first_undefined_place(text, symbols, terms),
         },
     }
 }
 
 /// The value of an expression.
-#[tactic(auto, unfolding(crate::specs::Values::evaluated))]
+#[tactic(auto, unfolding(crate::specs::Values::value_of_expression))]
 pub fn evaluate(text: &[u8], symbols: &Symbols, spot: LocationCounter, terms: &[Term]) -> Value
     requires { length terms.now ≤ 2 ^ 32 }
-    ensures { result ≡ evaluated text.now symbols.now spot terms.now }
+    ensures { result ≡ value_of_expression text.now symbols.now spot terms.now }
 {
-    let sought = seek(text, symbols, spot, terms);
+    let sought = sum_and_undefined(text, symbols, spot, terms);
     value_by(sought.sum, sought.undefined)
 }
 
 /// The value of an expression without terms.
 #[tactic(auto, using(crate::proofs::ValueLaws::no_value_is))]
-pub fn no_value() -> Value
-    ensures { result ≡ value_by no_sum None }
+pub fn empty_expression_value() -> Value
+    ensures { result ≡ value_by zero_sum None }
 {
     Value {
         half: 0,
@@ -202,8 +202,8 @@ fn value_is_expressible(room: ValueField, may_move: bool, value: Value) -> bool
 }
 
 // Whether an expression with this value is not refused, and does not depend on a refused `equ`.
-fn is_value(room: ValueField, may_move: bool, value: Value) -> bool
-    ensures { result ≡ is_value room may_move value }
+fn is_usable_value(room: ValueField, may_move: bool, value: Value) -> bool
+    ensures { result ≡ is_usable_value room may_move value }
 {
     value.undefined.is_none() && !value.unknown && value_is_expressible(room, may_move, value)
 }
@@ -211,7 +211,7 @@ fn is_value(room: ValueField, may_move: bool, value: Value) -> bool
 /// As `has_value`, if `value` is what `evaluate` returned for the expression: whether it is not
 /// refused, and does not depend on a refused `equ`.
 #[tactic(auto, using(crate::proofs::ValueLaws::value_given))]
-pub fn is_valued(
+pub fn evaluated_has_value(
     _text: &[u8],
     _symbols: &Symbols,
     _spot: LocationCounter,
@@ -220,23 +220,23 @@ pub fn is_valued(
     may_move: bool,
     value: Value,
 ) -> bool
-    requires { value ≡ evaluated _text.now _symbols.now _spot _terms.now }
+    requires { value ≡ value_of_expression _text.now _symbols.now _spot _terms.now }
     ensures { result ≡ has_value _text.now _symbols.now _spot _terms.now room may_move }
 {
-    is_value(room, may_move, value)
+    is_usable_value(room, may_move, value)
 }
 
 // The refusal of an expression with this value, if the field may not have it.
-fn refused_by(line: &Line36, value: Value, wanted: Requirement) -> Option<AlmRefusal>
-    ensures { result ≡ value_refused line.now value wanted.place wanted.room wanted.may_move }
+fn refusal_of_value(line: &Line36, value: Value, wanted: Requirement) -> Option<AlmRefusal>
+    ensures { result ≡ evaluated_refusal line.now value wanted.place wanted.room wanted.may_move }
 {
     let said = value.unknown || value_is_expressible(wanted.room, wanted.may_move, value);
-    refusal_by(line, value.undefined, wanted.place, said)
+    refusal_unless_expressible(line, value.undefined, wanted.place, said)
 }
 
 /// As `expression_refusal`, if `value` is what `evaluate` returned for the expression.
 #[tactic(auto, using(crate::proofs::ValueLaws::refused_given))]
-pub fn value_refused(
+pub fn evaluated_refusal(
     _text: &[u8],
     _symbols: &Symbols,
     _spot: LocationCounter,
@@ -245,24 +245,24 @@ pub fn value_refused(
     wanted: Requirement,
     value: Value,
 ) -> Option<AlmRefusal>
-    requires { value ≡ evaluated _text.now _symbols.now _spot _terms.now }
+    requires { value ≡ value_of_expression _text.now _symbols.now _spot _terms.now }
     ensures { result
         ≡ expression_refusal _text.now _symbols.now _spot line.now _terms.now wanted.place
         wanted.room wanted.may_move }
 {
-    refused_by(line, value, wanted)
+    refusal_of_value(line, value, wanted)
 }
 
 /// The kind of the sum of an expression, if `value` is what `evaluate` returned for it.
 #[tactic(auto, using(crate::proofs::ValueLaws::kind_given))]
-pub fn kind_valued(
+pub fn evaluated_kind(
     _text: &[u8],
     _symbols: &Symbols,
     _spot: LocationCounter,
     _terms: &[Term],
     value: Value,
 ) -> Kind
-    requires { value ≡ evaluated _text.now _symbols.now _spot _terms.now }
+    requires { value ≡ value_of_expression _text.now _symbols.now _spot _terms.now }
     ensures { result ≡ kind_of (sum_of _text.now _symbols.now _spot _terms.now) }
 {
     value.kind

@@ -4,7 +4,7 @@ use Rattle.std.proofs.Common.{◌≡◌, ℕ, suc, ◌<◌, ◌≤◌, Bool, tru
 use Rattle.std.specs.List.{find, All}
 use Rattle.std.specs.Option.{option_or, IfSome}
 use Rattle.alm_tokens.specs.declared.span.Span.{Span}
-use Rattle.alm_tokens.specs.Heads.{IsMark}
+use Rattle.alm_tokens.specs.Heads.{IsLabelSpan}
 use Rattle.alm_parse.specs.Lines.{is_no_symbol}
 
 -- the first label that is not a symbol
@@ -22,22 +22,22 @@ found_mark p P (x ∷ marks) y all e =
 
 pub mark_inside :
     (text : List ℕ) (marks : List Span) (y : Span)
-    → All (IsMark (length text)) marks → find (is_no_symbol text) marks ≡ Some y → y.from < length text
+    → All (IsLabelSpan (length text)) marks → find (is_no_symbol text) marks ≡ Some y → y.from < length text
 mark_inside text marks y all e =
-    let is : IsMark (length text) y = found_mark (is_no_symbol text) (IsMark (length text)) marks y all e in
+    let is : IsLabelSpan (length text) y = found_mark (is_no_symbol text) (IsLabelSpan (length text)) marks y all e in
     omega (arith, is.ordered, is.inside)
 
 or_inside :
     (size : ℕ) (first second : Option ℕ)
     → IfSome first (λ place. place < size) → IfSome second (λ place. place < size)
     → IfSome (option_or first second) (λ place. place < size)
-or_inside size None second one two = two
-or_inside size (Some place) second one two = one
+or_inside size None second one_arg two_args = two_args
+or_inside size (Some place) second one_arg two_args = one_arg
 
 -- the first of two indexes in the text
 pub first_inside :
     (size : ℕ) (first second over : Option ℕ)
     → over ≡ option_or first second → IfSome first (λ place. place < size) → IfSome second (λ place. place < size)
     → IfSome over (λ place. place < size)
-first_inside size first second over is one two =
-    subst (λ (o : Option ℕ). IfSome o (λ place. place < size)) (sym is) (or_inside size first second one two)
+first_inside size first second over is one_arg two_args =
+    subst (λ (o : Option ℕ). IfSome o (λ place. place < size)) (sym is) (or_inside size first second one_arg two_args)

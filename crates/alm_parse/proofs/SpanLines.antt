@@ -20,31 +20,31 @@ use Rattle.alm_parse.specs.declared.line.Line36.{Line36}
 use Rattle.alm_parse.specs.declared.fault.AlmFault.{AlmFault}
 use Rattle.alm_tokens.specs.declared.pieces.Separator.TheVariants.{Comma}
 use Rattle.alm_parse.specs.SourceFields.{Source}
-use Rattle.alm_tokens.specs.Bytes.{is_character}
+use Rattle.alm_tokens.specs.Bytes.{is_placeable_character}
 use Rattle.alm_tokens.specs.Tokens.{slice_of, span_at}
-use Rattle.m36_text.specs.Results.{unless}
+use Rattle.m36_text.specs.Results.{value_unless}
 use Rattle.alm_tokens.specs.Expressions.{expression_pieces, term_of}
 use Rattle.alm_parse.specs.Bodies.{place_of, body_of, body_pieces}
-use Rattle.alm_parse.specs.Operands.{body_span, tag_given, operand_of, parse_operand}
+use Rattle.alm_parse.specs.Operands.{body_span, modifier_tag_after_comma, operand_of, parse_operand}
 use Rattle.alm_parse.specs.Members.{symbol_arg, number_arg, parse_symbols, parse_numbers}
 use Rattle.alm_tokens.specs.Lists.{members}
 use Rattle.alm_parse.specs.Pairs.{value_of_members, parse_value, halves_of_members, parse_halves, block_of_members, parse_block, parse_section}
-use Rattle.alm_parse.specs.Characters.{packed, is_ended, place_bad, characters_by, characters_ended, characters_closed, parse_characters}
-use Rattle.alm_tokens.specs.Heads.{head_of, delimited_in}
+use Rattle.alm_parse.specs.Characters.{packed_words, is_blank_or_comment, first_bad_place, characters_unless_bad, characters_if_ended, characters_if_closed, parse_characters}
+use Rattle.alm_tokens.specs.Heads.{head_of, delimited_operand}
 use Rattle.alm_parse.specs.Operations.{operation_of}
-use Rattle.alm_parse.specs.Lines.{missing, args_with, operand_for, args_by, args_of, label_refusal, line_of, line_with, line_by, line_from, line_unless, parse_line}
+use Rattle.alm_parse.specs.Lines.{missing_operand_refusal, args_with, operand_for, args_if_present, args_of, label_refusal, line_of, line_with, line_with_operation, line_from, line_unless_refused, parse_line}
 use Rattle.alm_tokens.specs.Rows.{rows_of}
-use Rattle.alm_parse.specs.Sources.{names_end, continued, read_lines, with_text, parsed, ParseSays}
+use Rattle.alm_parse.specs.Sources.{is_end_operation, lines_after_row, read_lines, source_with_lines, source_of_text, IsResultOf}
 use Rattle.alm_parse.specs.Spans.{IsSpan, TermIn, ArgIn, LineIn}
 use Rattle.alm_tokens.proofs.Widths.{pr_below, tag_below}
 use Rattle.alm_parse.proofs.SpanParts.{all_head, all_rest, all_map, PieceIn, pieces_in, expression_in, terms_in, BodyIn, body_in, body_pieces_in, HeadIn, head_in, operand_span_in, RowIn, rows_in}
 
 -- the result if nothing is refused
-unless_ok : {A : Type 0} (r : Option ParseRefusal) (v a : A) → unless r v ≡ Ok a → v ≡ a
+unless_ok : {A : Type 0} (r : Option ParseRefusal) (v a : A) → value_unless r v ≡ Ok a → v ≡ a
 unless_ok None v a e = cc
 unless_ok (Some refusal) v a e = absurd (cc)
 
-args_ok : (count : ℕ) (r : Option ParseRefusal) (v arguments : List Arg) → All (ArgIn count) v → unless r v ≡ Ok arguments → All (ArgIn count) arguments
+args_ok : (count : ℕ) (r : Option ParseRefusal) (v arguments : List Arg) → All (ArgIn count) v → value_unless r v ≡ Ok arguments → All (ArgIn count) arguments
 args_ok count r v arguments all e = subst (λ more. All (ArgIn count) more) (unless_ok r v arguments e) all
 
 one_in : (count : ℕ) (a : Arg) → ArgIn count a → All (ArgIn count) (a ∷ [])
@@ -68,7 +68,7 @@ operand_of_in text count (External segment entry tail) terms tag is all fits =
 operand_of_in text count (Plain whole) terms tag is all fits =
     record { pointer = tt; tag = fits; segment = tt; entry = tt; terms = all }
 
-tag_given_below : (text : List ℕ) (operand : Span) (comma : Option ℕ) → IfSome (tag_given text operand comma) (λ n. n < 64)
+tag_given_below : (text : List ℕ) (operand : Span) (comma : Option ℕ) → IfSome (modifier_tag_after_comma text operand comma) (λ n. n < 64)
 tag_given_below text operand (Some comma) = tag_below (slice_of text (span_at (comma + 1) operand.to))
 tag_given_below text operand None = omega arith
 
@@ -87,7 +87,7 @@ unfolding parse_operand
 operand_given_in text operand arguments begun e =
     let body = body_of text (body_span operand (place_of text operand 44)) in
     let is : BodyIn (length text) body = body_in text (body_span operand (place_of text operand 44)) (body_begins (length text) operand (place_of text operand 44) begun) in
-    let fits = unwrapped_below (tag_given text operand (place_of text operand 44)) (tag_given_below text operand (place_of text operand 44)) in
+    let fits = unwrapped_below (modifier_tag_after_comma text operand (place_of text operand 44)) (tag_given_below text operand (place_of text operand 44)) in
     let terms : All (TermIn (length text)) (map (term_of text) (body_pieces text body)) = terms_in text (length text) (body_pieces text body) (body_pieces_in text body is) in
     args_ok (length text) _ _ arguments (one_in (length text) _ (operand_of_in text (length text) body (map (term_of text) (body_pieces text body)) _ is terms fits)) e
 
@@ -176,17 +176,17 @@ chars_in count words arguments e =
     let same : arg.Chars words ∷ [] ≡ arguments = cc in
     subst (λ more. All (ArgIn count) more) same (one_in count (arg.Chars words) tt)
 
-characters_by_in : (text : List ℕ) (span : Span) (o : Option ℕ) (arguments : List Arg) → characters_by text span o ≡ Ok arguments → All (ArgIn (length text)) arguments
+characters_by_in : (text : List ℕ) (span : Span) (o : Option ℕ) (arguments : List Arg) → characters_unless_bad text span o ≡ Ok arguments → All (ArgIn (length text)) arguments
 characters_by_in text span (Some place) arguments e = absurd (cc)
-characters_by_in text span None arguments e = chars_in (length text) (packed (slice_of text span)) arguments e
+characters_by_in text span None arguments e = chars_in (length text) (packed_words (slice_of text span)) arguments e
 
-characters_ended_in : (text : List ℕ) (rest span : Span) (b : Bool) (arguments : List Arg) → characters_ended text rest span b ≡ Ok arguments → All (ArgIn (length text)) arguments
-characters_ended_in text rest span true arguments e = characters_by_in text span (place_bad text span) arguments e
+characters_ended_in : (text : List ℕ) (rest span : Span) (b : Bool) (arguments : List Arg) → characters_if_ended text rest span b ≡ Ok arguments → All (ArgIn (length text)) arguments
+characters_ended_in text rest span true arguments e = characters_by_in text span (first_bad_place text span) arguments e
 characters_ended_in text rest span false arguments e = absurd (cc)
 
-characters_closed_in : (text : List ℕ) (rest : Span) (o : Option ℕ) (arguments : List Arg) → characters_closed text rest o ≡ Ok arguments → All (ArgIn (length text)) arguments
+characters_closed_in : (text : List ℕ) (rest : Span) (o : Option ℕ) (arguments : List Arg) → characters_if_closed text rest o ≡ Ok arguments → All (ArgIn (length text)) arguments
 characters_closed_in text rest (Some close) arguments e =
-    characters_ended_in text rest (span_at (rest.from + 1) close) (is_ended (slice_of text (span_at (close + 1) rest.to))) arguments e
+    characters_ended_in text rest (span_at (rest.from + 1) close) (is_blank_or_comment (slice_of text (span_at (close + 1) rest.to))) arguments e
 characters_closed_in text rest None arguments e = absurd (cc)
 
 chosen_ok : (b : Bool) (given : Result (List Arg) ParseRefusal) (refusal : ParseRefusal) (arguments : List Arg) → cond b given (Err refusal) ≡ Ok arguments → given ≡ Ok arguments
@@ -196,7 +196,7 @@ chosen_ok false given refusal arguments e = absurd (cc)
 characters_given_in : (text : List ℕ) (rest : Span) (arguments : List Arg) → parse_characters text rest ≡ Ok arguments → All (ArgIn (length text)) arguments
 unfolding parse_characters
 characters_given_in text rest arguments e =
-    characters_closed_in text rest (place_of text (span_at (rest.from + 1) rest.to) (slice_index text rest.from)) arguments (chosen_ok (is_character (slice_index text rest.from)) _ _ arguments e)
+    characters_closed_in text rest (place_of text (span_at (rest.from + 1) rest.to) (slice_index text rest.from)) arguments (chosen_ok (is_placeable_character (slice_index text rest.from)) _ _ arguments e)
 
 -- arguments, by the operation; no span is taken from the operand of characters, which extends to
 -- the end of the line
@@ -224,7 +224,7 @@ operand_for_in Value text rest = operand_span_in text rest
 operand_for_in Section text rest = operand_span_in text rest
 operand_for_in Decimal text rest = operand_span_in text rest
 operand_for_in Octal text rest = operand_span_in text rest
-operand_for_in Characters text rest = any_in (delimited_in text rest)
+operand_for_in Characters text rest = any_in (delimited_operand text rest)
 operand_for_in Halves text rest = operand_span_in text rest
 operand_for_in Block text rest = operand_span_in text rest
 operand_for_in Bare text rest = operand_span_in text rest
@@ -250,9 +250,9 @@ args_with_in End text operand arguments is e = args_ok (length text) None [] arg
 
 args_by_in :
     (operation : Operation) (text : List ℕ) (op : ℕ) (o : Option Span) (arguments : List Arg) → IfSome o (IsFor operation (length text))
-    → args_by operation text op o ≡ Ok arguments → All (ArgIn (length text)) arguments
+    → args_if_present operation text op o ≡ Ok arguments → All (ArgIn (length text)) arguments
 args_by_in operation text op (Some operand) arguments is e = args_with_in operation text operand arguments is e
-args_by_in operation text op None arguments is e = args_ok (length text) (missing operation op) [] arguments (All-nil (ArgIn (length text))) e
+args_by_in operation text op None arguments is e = args_ok (length text) (missing_operand_refusal operation op) [] arguments (All-nil (ArgIn (length text))) e
 
 args_of_in :
     (operation : Operation) (text : List ℕ) (op : ℕ) (rest : Span) (arguments : List Arg)
@@ -280,7 +280,7 @@ line_with_in count text row head (Err refusal) line is all e = absurd (cc)
 
 line_by_in :
     (text : List ℕ) (row : Row) (head : Head) (op : Span) (o : Option Operation) (line : Line36) → HeadIn (length text) head
-    → line_by text row head op o ≡ Ok line → LineIn (length text) line
+    → line_with_operation text row head op o ≡ Ok line → LineIn (length text) line
 line_by_in text row head op (Some operation) line is e =
     line_with_in (length text) text row head (args_of operation text op.from (span_at op.to row.span.to)) line is (λ arguments f. args_of_in operation text op.from (span_at op.to row.span.to) arguments f) e
 line_by_in text row head op None line is e = absurd (cc)
@@ -294,7 +294,7 @@ line_from_in text row head None line is e =
 
 line_unless_in :
     (text : List ℕ) (row : Row) (head : Head) (o : Option ParseRefusal) (line : Line36) → HeadIn (length text) head
-    → line_unless o text row head ≡ Ok line → LineIn (length text) line
+    → line_unless_refused o text row head ≡ Ok line → LineIn (length text) line
 line_unless_in text row head (Some refusal) line is e = absurd (cc)
 line_unless_in text row head None line is e = line_from_in text row head head.op line is e
 
@@ -317,10 +317,10 @@ continued_in :
     (text : List ℕ) (row : Row) (before : List Line36) (further : List Line36 → Result (List Line36) AlmFault) (r : Result Line36 ParseRefusal) (lines : List Line36)
     → All (LineIn (length text)) before → ((line : Line36) → r ≡ Ok line → LineIn (length text) line)
     → ((more : List Line36) → All (LineIn (length text)) more → further more ≡ Ok lines → All (LineIn (length text)) lines)
-    → continued text row before further r ≡ Ok lines → All (LineIn (length text)) lines
+    → lines_after_row text row before further r ≡ Ok lines → All (LineIn (length text)) lines
 continued_in text row before further (Ok line) lines all is later e =
     let more : All (LineIn (length text)) (before ++ line ∷ []) = All-append (LineIn (length text)) before (line ∷ []) all (All-cons (LineIn (length text)) line [] (is line refl) (All-nil (LineIn (length text)))) in
-    ends_in (length text) (names_end text line.op) (before ++ line ∷ []) (further (before ++ line ∷ [])) lines more (λ f. later (before ++ line ∷ []) more f) e
+    ends_in (length text) (is_end_operation text line.op) (before ++ line ∷ []) (further (before ++ line ∷ [])) lines more (λ f. later (before ++ line ∷ []) more f) e
 continued_in text row before further (Err refusal) lines all is later e = absurd (cc)
 
 read_lines_in :
@@ -333,20 +333,20 @@ read_lines_in text before (row ∷ rows) lines all begun e =
 
 with_text_in :
     (text : List ℕ) (r : Result (List Line36) AlmFault) (source : Source) → ((lines : List Line36) → r ≡ Ok lines → All (LineIn (length text)) lines)
-    → with_text text r ≡ Ok source → All (LineIn (length text)) source.lines
+    → source_with_lines text r ≡ Ok source → All (LineIn (length text)) source.lines
 with_text_in text (Ok lines) source all e =
     let same : record { text = text; lines = lines } ≡ source = cc in
     subst (λ s. All (LineIn (length text)) s.lines) same (all lines refl)
 with_text_in text (Err fault) source all e = absurd (cc)
 
 -- the spans of a source that was parsed are within its text
-pub spans_in : (text : List ℕ) (source : Source) → parsed text ≡ Ok source → All (LineIn (length text)) source.lines
-unfolding parsed
+pub spans_in : (text : List ℕ) (source : Source) → source_of_text text ≡ Ok source → All (LineIn (length text)) source.lines
+unfolding source_of_text
 spans_in text source e =
     with_text_in text (read_lines text [] (rows_of text)) source (λ lines f. read_lines_in text [] (rows_of text) lines (All-nil (LineIn (length text))) (rows_in text) f) e
 
 -- so are those of a source that is returned
 pub spans_say :
-    (text : List ℕ) (r : Result Source AlmFault) → ParseSays r (parsed text) → IfOk r (λ source. All (LineIn (length text)) source.lines)
+    (text : List ℕ) (r : Result Source AlmFault) → IsResultOf r (source_of_text text) → IfOk r (λ source. All (LineIn (length text)) source.lines)
 spans_say text (Ok source) says = spans_in text source says
 spans_say text (Err fault) says = tt

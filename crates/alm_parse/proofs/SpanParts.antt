@@ -17,11 +17,11 @@ use Rattle.alm_tokens.specs.declared.rows.Row.{Row}
 use Rattle.m36_text.specs.Texts.{is_name_character}
 use Rattle.alm_tokens.specs.Bytes.{is_blank}
 use Rattle.alm_tokens.specs.Tokens.{slice_of, span_at}
-use Rattle.alm_tokens.specs.Pieces.{parts, piece_at, split_at, pieces_of}
+use Rattle.alm_tokens.specs.Pieces.{separates, piece_at, split_at, pieces_of}
 use Rattle.alm_tokens.specs.declared.pieces.Separator.TheVariants.{Sign}
-use Rattle.alm_tokens.specs.Expressions.{signed_start, expression_pieces, term_of}
-use Rattle.alm_parse.specs.Bodies.{place_of, end_by, symbol_end, external, body_without_bar, body_by, body_of, tail_pieces, body_pieces}
-use Rattle.alm_tokens.specs.Heads.{turn_of, token, head_at, head_by, head_from, head_of, operand_start, end_from, operand_end, operand_by, operand_in}
+use Rattle.alm_tokens.specs.Expressions.{without_first_minus, expression_pieces, term_of}
+use Rattle.alm_parse.specs.Bodies.{place_of, end_of_match, symbol_end, external_operand, body_without_bar, body_with_bar, body_of, tail_pieces, body_pieces}
+use Rattle.alm_tokens.specs.Heads.{token_step, token, head_at, head_for_step, head_from, head_of, operand_start, operand_end_from, operand_end, operand_from, operand_in}
 use Rattle.alm_tokens.specs.Rows.{row_at, rows_from, rows_of}
 use Rattle.alm_parse.specs.Spans.{IsSpan, TermIn}
 use Rattle.alm_tokens.proofs.Widths.{atom_small}
@@ -71,7 +71,7 @@ unfolding split_at
 cut_in count parter minus from at [] order fits =
     All-cons (PieceIn count) (piece_at minus from at) [] (span_in count from at order (omega (arith, fits))) (All-nil (PieceIn count))
 cut_in count parter minus from at (b ∷ rest) order fits =
-    all_cond (PieceIn count) (parts parter b) (piece_at minus from at ∷ split_at parter (b == 45) (at + 1) (at + 1) rest) (split_at parter minus from (at + 1) rest) (All-cons (PieceIn count) (piece_at minus from at) (split_at parter (b == 45) (at + 1) (at + 1) rest) (span_in count from at order (omega (arith, fits))) (cut_in count parter (b == 45) (at + 1) (at + 1) rest (omega arith) (omega (arith, fits)))) (cut_in count parter minus from (at + 1) rest (omega (arith, order)) (omega (arith, fits)))
+    all_cond (PieceIn count) (separates parter b) (piece_at minus from at ∷ split_at parter (b == 45) (at + 1) (at + 1) rest) (split_at parter minus from (at + 1) rest) (All-cons (PieceIn count) (piece_at minus from at) (split_at parter (b == 45) (at + 1) (at + 1) rest) (span_in count from at order (omega (arith, fits))) (cut_in count parter (b == 45) (at + 1) (at + 1) rest (omega arith) (omega (arith, fits)))) (cut_in count parter minus from (at + 1) rest (omega (arith, order)) (omega (arith, fits)))
 
 pub pieces_in :
     (text : List ℕ) (parter : Separator) (whole : TextPiece) → whole.span.from ≤ length text
@@ -94,9 +94,9 @@ signed_by count (b ∷ bytes) whole fits =
 pub expression_in :
     (text : List ℕ) (whole : TextPiece) → whole.span.from ≤ length text
     → All (PieceIn (length text)) (expression_pieces text whole)
-unfolding expression_pieces signed_start
+unfolding expression_pieces without_first_minus
 expression_in text whole begun =
-    pieces_in text Sign (signed_start text whole) (signed_by (length text) (slice_of text whole.span) whole (slice_ends text whole.span begun))
+    pieces_in text Sign (without_first_minus text whole) (signed_by (length text) (slice_of text whole.span) whole (slice_ends text whole.span begun))
 
 pub terms_in :
     (text : List ℕ) (count : ℕ) (pieces : List TextPiece) → All (PieceIn count) pieces → All (TermIn count) (map (term_of text) pieces)
@@ -121,7 +121,7 @@ place_in text span byte = place_by text (slice_of text span) span (λ b. b == by
 
 pub end_in :
     (text bytes : List ℕ) (span : Span) (p : ℕ → Bool) → span.from + length bytes ≤ length text
-    → (span.from ≤ end_by (position p bytes) span.from (length bytes)) × (end_by (position p bytes) span.from (length bytes) ≤ length text)
+    → (span.from ≤ end_of_match (position p bytes) span.from (length bytes)) × (end_of_match (position p bytes) span.from (length bytes) ≤ length text)
 end_in text bytes span p ends =
     elim (cases_lt (position_or_len p bytes) (length bytes)) [
       | inl before ↦ rw (lt-ltb (position_or_len p bytes) (length bytes) before) (omega arith, omega (arith, before, ends))
@@ -139,7 +139,7 @@ BodyIn count (Through pr offset) = offset.from ≤ count
 BodyIn count (External segment entry tail) = IsSpan count segment × IsSpan count entry × (tail.from ≤ count)
 BodyIn count (Plain whole) = whole.from ≤ count
 
-external_in : (text : List ℕ) (whole : Span) (dollar : ℕ) → PlaceIn text whole dollar → BodyIn (length text) (external text whole dollar)
+external_in : (text : List ℕ) (whole : Span) (dollar : ℕ) → PlaceIn text whole dollar → BodyIn (length text) (external_operand text whole dollar)
 external_in text whole dollar at =
     let end = symbol_end_in text (span_at (dollar + 1) whole.to) (omega (arith, at.1)) in
     (span_in (length text) whole.from dollar at.0 (omega (arith, at.1)), span_in (length text) (dollar + 1) (symbol_end text (span_at (dollar + 1) whole.to)) end.0 end.1, end.1)
@@ -152,7 +152,7 @@ without_bar_in text whole None begun at = begun
 
 body_by_in :
     (text : List ℕ) (whole : Span) (place : Option ℕ) → whole.from ≤ length text → IfSome place (PlaceIn text whole)
-    → BodyIn (length text) (body_by text whole place)
+    → BodyIn (length text) (body_with_bar text whole place)
 body_by_in text whole (Some bar) begun at = omega (arith, at.1)
 body_by_in text whole None begun at = without_bar_in text whole (place_of text whole 36) begun (place_in text whole 36)
 
@@ -192,7 +192,7 @@ token_in count from to order fits = token_by count from to (from == to) order fi
 head_at_in : (count : ℕ) (marks : List Span) (from at : ℕ) → All (IsSpan count) marks → from ≤ at → at ≤ count → HeadIn count (head_at marks from at)
 head_at_in count marks from at all order fits = record { labels = all; op = token_in count from at order fits }
 
-head_by_in : (count : ℕ) (turn : TokenStep) (label skip stop go : Head) → HeadIn count label → HeadIn count skip → HeadIn count stop → HeadIn count go → HeadIn count (head_by turn label skip stop go)
+head_by_in : (count : ℕ) (turn : TokenStep) (label skip stop go : Head) → HeadIn count label → HeadIn count skip → HeadIn count stop → HeadIn count go → HeadIn count (head_for_step turn label skip stop go)
 head_by_in count Label label skip stop go a b c d = a
 head_by_in count Skip label skip stop go a b c d = b
 head_by_in count Stop label skip stop go a b c d = c
@@ -204,7 +204,7 @@ head_from_in :
 unfolding head_from
 head_from_in count marks from at [] all order fits = head_at_in count marks from at all order (omega (arith, fits))
 head_from_in count marks from at (b ∷ rest) all order fits =
-    head_by_in count (turn_of b (from == at)) (head_from (marks ++ span_at from at ∷ []) (at + 1) (at + 1) rest) (head_from marks (at + 1) (at + 1) rest) (head_at marks from at) (head_from marks from (at + 1) rest) (head_from_in count (marks ++ span_at from at ∷ []) (at + 1) (at + 1) rest (All-append (IsSpan count) marks (span_at from at ∷ []) all (All-cons (IsSpan count) (span_at from at) [] (span_in count from at order (omega (arith, fits))) (All-nil (IsSpan count)))) (omega arith) (omega (arith, fits))) (head_from_in count marks (at + 1) (at + 1) rest all (omega arith) (omega (arith, fits))) (head_at_in count marks from at all order (omega (arith, fits))) (head_from_in count marks from (at + 1) rest all (omega (arith, order)) (omega (arith, fits)))
+    head_by_in count (token_step b (from == at)) (head_from (marks ++ span_at from at ∷ []) (at + 1) (at + 1) rest) (head_from marks (at + 1) (at + 1) rest) (head_at marks from at) (head_from marks from (at + 1) rest) (head_from_in count (marks ++ span_at from at ∷ []) (at + 1) (at + 1) rest (All-append (IsSpan count) marks (span_at from at ∷ []) all (All-cons (IsSpan count) (span_at from at) [] (span_in count from at order (omega (arith, fits))) (All-nil (IsSpan count)))) (omega arith) (omega (arith, fits))) (head_from_in count marks (at + 1) (at + 1) rest all (omega arith) (omega (arith, fits))) (head_at_in count marks from at all order (omega (arith, fits))) (head_from_in count marks from (at + 1) rest all (omega (arith, order)) (omega (arith, fits)))
 
 pub head_in : (text : List ℕ) (line : Span) → line.from ≤ length text → HeadIn (length text) (head_of text line)
 unfolding head_of
@@ -216,19 +216,19 @@ end_cond : (b : Bool) (x y lo hi : ℕ) → lo ≤ x → x ≤ hi → lo ≤ y �
 end_cond true x y lo hi a b c d = (a, b)
 end_cond false x y lo hi a b c d = (c, d)
 
-end_from_in : (lo hi end at : ℕ) (bytes : List ℕ) → lo ≤ end → end ≤ at → at + length bytes ≤ hi → (lo ≤ end_from end at bytes) × (end_from end at bytes ≤ hi)
-unfolding end_from
+end_from_in : (lo hi end at : ℕ) (bytes : List ℕ) → lo ≤ end → end ≤ at → at + length bytes ≤ hi → (lo ≤ operand_end_from end at bytes) × (operand_end_from end at bytes ≤ hi)
+unfolding operand_end_from
 end_from_in lo hi end at [] a b fits = (a, omega (arith, b, fits))
 end_from_in lo hi end at (x ∷ bytes) a b fits =
     let inner = end_cond (is_blank x) end (at + 1) lo (at + 1) a (omega (arith, b)) (omega (arith, a, b)) (omega arith) in
     let later = end_from_in lo hi (cond (is_blank x) end (at + 1)) (at + 1) bytes inner.0 inner.1 (omega (arith, fits)) in
-    end_cond (x == 34) end (end_from (cond (is_blank x) end (at + 1)) (at + 1) bytes) lo hi a (omega (arith, b, fits)) later.0 later.1
+    end_cond (x == 34) end (operand_end_from (cond (is_blank x) end (at + 1)) (at + 1) bytes) lo hi a (omega (arith, b, fits)) later.0 later.1
 
 start_in : (text : List ℕ) (rest : Span) → IfSome (operand_start text rest) (PlaceIn text rest)
 unfolding operand_start
 start_in text rest = place_by text (slice_of text rest) rest (λ b. not (is_blank b)) (slice_some text rest)
 
-operand_by_in : (text : List ℕ) (rest : Span) (start : Option ℕ) → IfSome start (PlaceIn text rest) → IfSome (operand_by text rest start) (IsSpan (length text))
+operand_by_in : (text : List ℕ) (rest : Span) (start : Option ℕ) → IfSome start (PlaceIn text rest) → IfSome (operand_from text rest start) (IsSpan (length text))
 operand_by_in text rest None at = tt
 operand_by_in text rest (Some from) at =
     let begun : from ≤ length text = omega (arith, at.1) in

@@ -4,7 +4,7 @@ use Rattle.std.specs.Prelude.{All}
 use Rattle.std.specs.List.{flat_map}
 use Rattle.std.proofs.lemmas.List.Elements.{All-head, All-tail}
 use Rattle.obj36_parts.specs.Halves.{quarter, quarters_of, quarter_words}
-use Rattle.alm_parse.specs.Characters.{packed, TextsComeBack}
+use Rattle.alm_parse.specs.Characters.{packed_words, UnpackingYieldsText}
 
 -- ---- the quarters of a word of four
 
@@ -26,8 +26,8 @@ fourth_part a b c d p q r s = omega arith
 
 -- ---- texts
 
-count_of : (bytes : List ℕ) → length (packed bytes) ≡ quarter_words (length bytes)
-unfolding packed
+count_of : (bytes : List ℕ) → length (packed_words bytes) ≡ quarter_words (length bytes)
+unfolding packed_words
 count_of [] = refl
 count_of (a ∷ []) = refl
 count_of (a ∷ b ∷ []) = refl
@@ -43,8 +43,8 @@ head_of c rest all = All-head (λ x. x < 2 ^ 9) c rest all
 tail_of : (c : ℕ) (rest : List ℕ) → AreCharacters (c ∷ rest) → AreCharacters rest
 tail_of c rest all = All-tail (λ x. x < 2 ^ 9) c rest all
 
-text_of : (bytes : List ℕ) → AreCharacters bytes → take (length bytes) (flat_map quarters_of (packed bytes)) ≡ bytes
-unfolding packed
+text_of : (bytes : List ℕ) → AreCharacters bytes → take (length bytes) (flat_map quarters_of (packed_words bytes)) ≡ bytes
+unfolding packed_words
 text_of [] all = refl
 text_of (a ∷ []) all =
     let pa = head_of a [] all in
@@ -72,18 +72,18 @@ text_of (a ∷ b ∷ c ∷ []) all =
     λ i. first i ∷ second i ∷ third i ∷ []
 text_of (a ∷ b ∷ c ∷ d ∷ rest) all =
     let three = tail_of a (b ∷ c ∷ d ∷ rest) all in
-    let two = tail_of b (c ∷ d ∷ rest) three in
-    let one = tail_of c (d ∷ rest) two in
+    let two_args = tail_of b (c ∷ d ∷ rest) three in
+    let one_arg = tail_of c (d ∷ rest) two_args in
     let pa = head_of a (b ∷ c ∷ d ∷ rest) all in
     let pb = head_of b (c ∷ d ∷ rest) three in
-    let pc = head_of c (d ∷ rest) two in
-    let pd = head_of d rest one in
+    let pc = head_of c (d ∷ rest) two_args in
+    let pd = head_of d rest one_arg in
     let first = first_part a b c d pa pb pc pd in
     let second = second_part a b c d pa pb pc pd in
     let third = third_part a b c d pa pb pc pd in
     let fourth = fourth_part a b c d pa pb pc pd in
-    let others = text_of rest (tail_of d rest one) in
+    let others = text_of rest (tail_of d rest one_arg) in
     λ i. first i ∷ second i ∷ third i ∷ fourth i ∷ others i
 
-pub texts_back : TextsComeBack
+pub texts_back : UnpackingYieldsText
 texts_back = record { count = count_of; text = text_of }

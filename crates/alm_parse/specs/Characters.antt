@@ -9,23 +9,23 @@ use Rattle.alm_parse.specs.declared.args.Arg.{Arg}
 use Rattle.alm_parse.specs.declared.args.Arg.TheVariants.{Chars}
 use Rattle.alm_parse.specs.declared.refusal.ParseCode.TheVariants.{E1, E2}
 use Rattle.alm_parse.specs.declared.refusal.ParseRefusal.{ParseRefusal}
-use Rattle.alm_tokens.specs.Bytes.{is_blank, begins_comment, is_character}
+use Rattle.alm_tokens.specs.Bytes.{is_blank, begins_comment, is_placeable_character}
 use Rattle.alm_tokens.specs.Tokens.{slice_of, span_at, first_in}
 use Rattle.alm_parse.specs.Bodies.{place_of}
 
 -- The words of characters, four in each word with nine bits each. Zeros follow the last character.
-unfoldable pub packed : List ℕ → List ℕ
-packed [] = []
-packed (a ∷ []) = of_quarters a 0 0 0 ∷ []
-packed (a ∷ b ∷ []) = of_quarters a b 0 0 ∷ []
-packed (a ∷ b ∷ c ∷ []) = of_quarters a b c 0 ∷ []
-packed (a ∷ b ∷ c ∷ d ∷ rest) = of_quarters a b c d ∷ packed rest
+unfoldable pub packed_words : List ℕ → List ℕ
+packed_words [] = []
+packed_words (a ∷ []) = of_quarters a 0 0 0 ∷ []
+packed_words (a ∷ b ∷ []) = of_quarters a b 0 0 ∷ []
+packed_words (a ∷ b ∷ c ∷ []) = of_quarters a b c 0 ∷ []
+packed_words (a ∷ b ∷ c ∷ d ∷ rest) = of_quarters a b c d ∷ packed_words rest
 
 -- The quarters of the words of placed characters are these characters in order.
-pub record TextsComeBack : Type 0 where
-  pub count : (bytes : List ℕ) → length (packed bytes) ≡ quarter_words (length bytes)
+pub record UnpackingYieldsText : Type 0 where
+  pub count : (bytes : List ℕ) → length (packed_words bytes) ≡ quarter_words (length bytes)
   pub text : (bytes : List ℕ) → All (λ c. c < 2 ^ 9) bytes
-      → take (length bytes) (flat_map quarters_of (packed bytes)) ≡ bytes
+      → take (length bytes) (flat_map quarters_of (packed_words bytes)) ≡ bytes
 
 -- the word of the first four characters, or of all if there are fewer
 unfoldable pub first_word : List ℕ → ℕ
@@ -34,43 +34,43 @@ first_word bytes =
     (slice_index bytes 3)
 
 -- whether the first byte that is not blank begins a comment, or there is no such byte
-abbrev pub ended_by : Option ℕ → Bool
-ended_by None = true
-ended_by (Some b) = begins_comment b
+abbrev pub is_end_or_comment : Option ℕ → Bool
+is_end_or_comment None = true
+is_end_or_comment (Some b) = begins_comment b
 
 -- whether a text has only blanks, and perhaps a comment, as it must after the closing delimiter
-abbrev pub is_ended : List ℕ → Bool
-is_ended bytes = ended_by (find (λ b. not (is_blank b)) bytes)
+abbrev pub is_blank_or_comment : List ℕ → Bool
+is_blank_or_comment bytes = is_end_or_comment (find (λ b. not (is_blank b)) bytes)
 
 -- the index of the first byte that cannot be placed
-unfoldable pub place_bad : List ℕ → Span → Option ℕ
-place_bad text span = first_in (λ b. not (is_character b)) text span
+unfoldable pub first_bad_place : List ℕ → Span → Option ℕ
+first_bad_place text span = first_in (λ b. not (is_placeable_character b)) text span
 
 -- the characters of a span, or E1 at the first byte that cannot be placed
-abbrev pub characters_by : List ℕ → Span → Option ℕ → Result (List Arg) ParseRefusal
-characters_by text span (Some place) = Err (record { place = place; code = E1 })
-characters_by text span None = Ok (Chars (packed (slice_of text span)) ∷ [])
+abbrev pub characters_unless_bad : List ℕ → Span → Option ℕ → Result (List Arg) ParseRefusal
+characters_unless_bad text span (Some place) = Err (record { place = place; code = E1 })
+characters_unless_bad text span None = Ok (Chars (packed_words (slice_of text span)) ∷ [])
 
 -- The characters in `span`, or E2 at the operand `rest` unless only blanks or a comment are after
 -- the closing delimiter, which the last argument says.
-abbrev pub characters_ended : List ℕ → Span → Span → Bool → Result (List Arg) ParseRefusal
-characters_ended text rest span true = characters_by text span (place_bad text span)
-characters_ended text rest span false = Err (record { place = rest.from; code = E2 })
+abbrev pub characters_if_ended : List ℕ → Span → Span → Bool → Result (List Arg) ParseRefusal
+characters_if_ended text rest span true = characters_unless_bad text span (first_bad_place text span)
+characters_if_ended text rest span false = Err (record { place = rest.from; code = E2 })
 
 -- The characters, given the index of the closing delimiter, or E2 at the operand `rest` if there is
 -- none.
-abbrev pub characters_closed : List ℕ → Span → Option ℕ → Result (List Arg) ParseRefusal
-characters_closed text rest (Some close) =
-    characters_ended text rest (span_at (rest.from + 1) close)
-    (is_ended (slice_of text (span_at (close + 1) rest.to)))
-characters_closed text rest None = Err (record { place = rest.from; code = E2 })
+abbrev pub characters_if_closed : List ℕ → Span → Option ℕ → Result (List Arg) ParseRefusal
+characters_if_closed text rest (Some close) =
+    characters_if_ended text rest (span_at (rest.from + 1) close)
+    (is_blank_or_comment (slice_of text (span_at (close + 1) rest.to)))
+characters_if_closed text rest None = Err (record { place = rest.from; code = E2 })
 
 -- The characters between two bytes that are `delimiter`, the first of which begins the operand, or
 -- E1 if this byte cannot be a delimiter.
 abbrev pub characters_from : List ℕ → Span → ℕ → Result (List Arg) ParseRefusal
 characters_from text rest delimiter =
-    if is_character delimiter
-    then characters_closed text rest (place_of text (span_at (rest.from + 1) rest.to) delimiter)
+    if is_placeable_character delimiter
+    then characters_if_closed text rest (place_of text (span_at (rest.from + 1) rest.to) delimiter)
     else Err (record { place = rest.from; code = E1 })
 
 -- The argument of an `aci` line, or its refusal. The operand begins with the delimiter.

@@ -9,20 +9,20 @@ use Rattle.alm_parse.specs.declared.deed.LineEffect.{LineEffect}
 use Rattle.alm_parse.specs.declared.deed.LineEffect.TheVariants as deed
 
 -- the effect of an instruction with this code
-abbrev pub instruction_of : Option (ℕ × Bool) → LineEffect
-instruction_of (Some code) = deed.Instruction code.0 code.1
-instruction_of None = deed.Nothing
+abbrev pub effect_of_instruction : Option (ℕ × Bool) → LineEffect
+effect_of_instruction (Some code) = deed.Instruction code.0 code.1
+effect_of_instruction None = deed.Nothing
 
 -- the effect of a directive, or of the instruction with this name
-abbrev pub deed_by : Option (Operation × LineEffect) → List ℕ → LineEffect
-deed_by (Some directed) name = directed.1
-deed_by None name = instruction_of (code_named name)
+abbrev pub effect_by_directive : Option (Operation × LineEffect) → List ℕ → LineEffect
+effect_by_directive (Some directed) name = directed.1
+effect_by_directive None name = effect_of_instruction (code_named name)
 
 -- the effect of the operation with this name
-unfoldable pub deed_named : List ℕ → LineEffect
-deed_named name = deed_by (directive name) name
+unfoldable pub effect_named : List ℕ → LineEffect
+effect_named name = effect_by_directive (directive name) name
 
 -- the effect of the operation of a line, if it has one
-abbrev pub deed_of : List ℕ → Option Span → LineEffect
-deed_of text (Some op) = deed_named (slice_of text op)
-deed_of text None = deed.Nothing
+abbrev pub effect_of_line : List ℕ → Option Span → LineEffect
+effect_of_line text (Some op) = effect_named (slice_of text op)
+effect_of_line text None = deed.Nothing

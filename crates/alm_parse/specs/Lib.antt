@@ -1,4 +1,4 @@
--- Read first: `Sources`, where `parsed` is the lines of a text or its first refusal, and `Lines`,
+-- Read first: `Sources`, where `source_of_text` is the lines of a text or its first refusal, and `Lines`,
 -- which defines one line by its head, its operation and its operand. The other modules define the
 -- tokens and the forms of operands from bytes up. `Deeds` has the effects of operations, and
 -- `Spans` the properties of each line that was parsed.

@@ -17,30 +17,30 @@ use Rattle.alm_tokens.specs.declared.head.Head.{Head}
 use Rattle.alm_tokens.specs.declared.rows.Row.{Row}
 use Rattle.alm_parse.specs.declared.line.Line36.{Line36}
 use Rattle.alm_tokens.specs.Tokens.{slice_of, is_symbol, span_at}
-use Rattle.m36_text.specs.Results.{unless}
+use Rattle.m36_text.specs.Results.{value_unless}
 use Rattle.alm_parse.specs.Refusals.{refusal_at_token}
 use Rattle.alm_parse.specs.Operands.{parse_operand}
 use Rattle.alm_parse.specs.Members.{parse_symbols, parse_numbers}
 use Rattle.alm_parse.specs.Pairs.{parse_value, parse_halves, parse_block, parse_section}
 use Rattle.alm_parse.specs.Characters.{parse_characters}
-use Rattle.alm_tokens.specs.Heads.{head_of, operand_in, delimited_in}
+use Rattle.alm_tokens.specs.Heads.{head_of, operand_in, delimited_operand}
 use Rattle.alm_parse.specs.Operations.{operation_of}
-use Rattle.alm_parse.specs.Deeds.{deed_of}
+use Rattle.alm_parse.specs.Deeds.{effect_of_line}
 
 -- The refusal of a missing operand, which is reported at the operation. The operand of an
 -- instruction may be missing and is then 0. Some operations have no operand.
-abbrev pub missing : Operation → ℕ → Option ParseRefusal
-missing Instruction at = None
-missing Bare at = None
-missing End at = None
-missing Names at = Some (record { place = at; code = E2 })
-missing Value at = Some (record { place = at; code = E2 })
-missing Section at = Some (record { place = at; code = E2 })
-missing Decimal at = Some (record { place = at; code = E2 })
-missing Octal at = Some (record { place = at; code = E2 })
-missing Characters at = Some (record { place = at; code = E2 })
-missing Halves at = Some (record { place = at; code = E2 })
-missing Block at = Some (record { place = at; code = E2 })
+abbrev pub missing_operand_refusal : Operation → ℕ → Option ParseRefusal
+missing_operand_refusal Instruction at = None
+missing_operand_refusal Bare at = None
+missing_operand_refusal End at = None
+missing_operand_refusal Names at = Some (record { place = at; code = E2 })
+missing_operand_refusal Value at = Some (record { place = at; code = E2 })
+missing_operand_refusal Section at = Some (record { place = at; code = E2 })
+missing_operand_refusal Decimal at = Some (record { place = at; code = E2 })
+missing_operand_refusal Octal at = Some (record { place = at; code = E2 })
+missing_operand_refusal Characters at = Some (record { place = at; code = E2 })
+missing_operand_refusal Halves at = Some (record { place = at; code = E2 })
+missing_operand_refusal Block at = Some (record { place = at; code = E2 })
 
 -- the arguments in an operand, which depend on the operation
 abbrev pub args_with : Operation → List ℕ → Span → Result (List Arg) ParseRefusal
@@ -65,20 +65,20 @@ operand_for Value text rest = operand_in text rest
 operand_for Section text rest = operand_in text rest
 operand_for Decimal text rest = operand_in text rest
 operand_for Octal text rest = operand_in text rest
-operand_for Characters text rest = delimited_in text rest
+operand_for Characters text rest = delimited_operand text rest
 operand_for Halves text rest = operand_in text rest
 operand_for Block text rest = operand_in text rest
 operand_for Bare text rest = operand_in text rest
 operand_for End text rest = operand_in text rest
 
 -- the arguments in an operand, or the refusal of one that is missing
-abbrev pub args_by : Operation → List ℕ → ℕ → Option Span → Result (List Arg) ParseRefusal
-args_by operation text op (Some operand) = args_with operation text operand
-args_by operation text op None = unless (missing operation op) []
+abbrev pub args_if_present : Operation → List ℕ → ℕ → Option Span → Result (List Arg) ParseRefusal
+args_if_present operation text op (Some operand) = args_with operation text operand
+args_if_present operation text op None = value_unless (missing_operand_refusal operation op) []
 
 -- the arguments of an operation, given the text after it
 unfoldable pub args_of : Operation → List ℕ → ℕ → Span → Result (List Arg) ParseRefusal
-args_of operation text op rest = args_by operation text op (operand_for operation text rest)
+args_of operation text op rest = args_if_present operation text op (operand_for operation text rest)
 
 -- whether a label is not a symbol
 abbrev pub is_no_symbol : List ℕ → Span → Bool
@@ -97,7 +97,7 @@ line_of text row head arguments =
       labels = head.labels;
       args = arguments;
       op = head.op;
-      deed = deed_of text head.op;
+      deed = effect_of_line text head.op;
       start = row.span.from;
       line = row.number;
     }
@@ -108,25 +108,25 @@ line_with text row head given = and_then given (λ arguments. Ok (line_of text r
 
 -- the line with this operation, or its refusal if there is none of this name: E3, or E1 if it
 -- begins with a byte that no source can have
-abbrev pub line_by : List ℕ → Row → Head → Span → Option Operation → Result Line36 ParseRefusal
-line_by text row head op (Some operation) =
+abbrev pub line_with_operation : List ℕ → Row → Head → Span → Option Operation → Result Line36 ParseRefusal
+line_with_operation text row head op (Some operation) =
     line_with text row head (args_of operation text op.from (span_at op.to row.span.to))
-line_by text row head op None = Err (refusal_at_token text op.from E3)
+line_with_operation text row head op None = Err (refusal_at_token text op.from E3)
 
 -- the line with this operation, if it has one, given its labels
 abbrev pub line_from : List ℕ → Row → Head → Option Span → Result Line36 ParseRefusal
-line_from text row head (Some op) = line_by text row head op (operation_of (slice_of text op))
+line_from text row head (Some op) = line_with_operation text row head op (operation_of (slice_of text op))
 line_from text row head None = Ok (line_of text row head [])
 
 -- the line, unless a label is refused
-abbrev pub line_unless : Option ParseRefusal → List ℕ → Row → Head → Result Line36 ParseRefusal
-line_unless (Some refusal) text row head = Err refusal
-line_unless None text row head = line_from text row head head.op
+abbrev pub line_unless_refused : Option ParseRefusal → List ℕ → Row → Head → Result Line36 ParseRefusal
+line_unless_refused (Some refusal) text row head = Err refusal
+line_unless_refused None text row head = line_from text row head head.op
 
 -- the line with these labels and this operation, or its refusal
-abbrev pub line_headed : List ℕ → Row → Head → Result Line36 ParseRefusal
-line_headed text row head = line_unless (label_refusal text head.labels) text row head
+abbrev pub line_with_head : List ℕ → Row → Head → Result Line36 ParseRefusal
+line_with_head text row head = line_unless_refused (label_refusal text head.labels) text row head
 
 -- a line parsed by itself, or its refusal
 unfoldable pub parse_line : List ℕ → Row → Result Line36 ParseRefusal
-parse_line text row = line_headed text row (head_of text row.span)
+parse_line text row = line_with_head text row (head_of text row.span)

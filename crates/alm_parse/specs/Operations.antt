@@ -42,15 +42,15 @@ directive name =
     else (if is_text end_name name then Some (End, deed.Nothing) else None)))))))))))
 
 -- the kind of operand of an instruction, if there is one of this name
-abbrev pub instruction_by : {A : Type 0} → Option A → Option Operation
-instruction_by (Some code) = Some Instruction
-instruction_by None = None
+abbrev pub instruction_if_any : {A : Type 0} → Option A → Option Operation
+instruction_if_any (Some code) = Some Instruction
+instruction_if_any None = None
 
 -- the kind of operand of a directive, or of the instruction with this name
-abbrev pub operation_by : Option (Operation × LineEffect) → List ℕ → Option Operation
-operation_by (Some directed) name = Some directed.0
-operation_by None name = instruction_by (code_named name)
+abbrev pub operation_of_directive : Option (Operation × LineEffect) → List ℕ → Option Operation
+operation_of_directive (Some directed) name = Some directed.0
+operation_of_directive None name = instruction_if_any (code_named name)
 
 -- the kind of operand of the operation with this name; None if there is none
 unfoldable pub operation_of : List ℕ → Option Operation
-operation_of name = operation_by (directive name) name
+operation_of name = operation_of_directive (directive name) name

@@ -15,48 +15,48 @@ use Rattle.alm_parse.specs.declared.refusal.ParseRefusal.{ParseRefusal}
 use Rattle.alm_tokens.specs.Tokens.{slice_of}
 use Rattle.alm_tokens.specs.Expressions.{is_term_at, expression_pieces, term_of}
 use Rattle.alm_parse.specs.Members.{number_arg}
-use Rattle.alm_tokens.specs.Lists.{members, is_symbol_at, is_written_at, place_out}
-use Rattle.m36_text.specs.Results.{unless}
-use Rattle.alm_parse.specs.Refusals.{refusal_at_token, refused}
-use Rattle.alm_parse.specs.Bodies.{section_by}
+use Rattle.alm_tokens.specs.Lists.{members, is_symbol_at, member_has_form_of, first_out_of_range_place}
+use Rattle.m36_text.specs.Results.{value_unless}
+use Rattle.alm_parse.specs.Refusals.{refusal_at_token, operand_form_refusal}
+use Rattle.alm_parse.specs.Bodies.{section_with_name}
 
 -- The arguments of an operand of two members, parsed by `read`. An operand with fewer or more
 -- members is refused at the index `at` of the operand.
-abbrev pub by_two :
+abbrev pub parse_two_members :
     (TextPiece → TextPiece → Result (List Arg) ParseRefusal) → List ℕ → ℕ → List TextPiece
     → Result (List Arg) ParseRefusal
-by_two read text at (first ∷ second ∷ []) = read first second
-by_two read text at _ = Err (refusal_at_token text at E2)
+parse_two_members read text at (first ∷ second ∷ []) = read first second
+parse_two_members read text at _ = Err (refusal_at_token text at E2)
 
 -- the arguments of an `equ` line, from its two members
-abbrev pub value_by : List ℕ → ℕ → TextPiece → List TextPiece → Result (List Arg) ParseRefusal
-value_by text at name pieces =
-    unless
-    (refused text at (is_symbol_at text name && list_all (is_term_at text) pieces)
-    (place_out Small text pieces)) (Symbol name.span ∷ Plain (map (term_of text) pieces) ∷ [])
+abbrev pub value_of_terms : List ℕ → ℕ → TextPiece → List TextPiece → Result (List Arg) ParseRefusal
+value_of_terms text at name pieces =
+    value_unless
+    (operand_form_refusal text at (is_symbol_at text name && list_all (is_term_at text) pieces)
+    (first_out_of_range_place Small text pieces)) (Symbol name.span ∷ Plain (map (term_of text) pieces) ∷ [])
 
 -- the arguments of an `equ` line, from the members of its operand
 abbrev pub value_of_members : List ℕ → ℕ → List TextPiece → Result (List Arg) ParseRefusal
 value_of_members text at pieces =
-    by_two (λ name value. value_by text at name (expression_pieces text value)) text at pieces
+    parse_two_members (λ name value. value_of_terms text at name (expression_pieces text value)) text at pieces
 
 -- the arguments of an `equ` line, or its refusal
 unfoldable pub parse_value : List ℕ → Span → Result (List Arg) ParseRefusal
 parse_value text operand = value_of_members text operand.from (members text operand)
 
 -- the arguments of a `zero` line, from the terms of its two expressions
-abbrev pub halves_by : List ℕ → ℕ → List TextPiece → List TextPiece → Result (List Arg) ParseRefusal
-halves_by text at left right =
-    unless
-    (refused text at (list_all (is_term_at text) left && list_all (is_term_at text) right)
-    (option_or (place_out Small text left) (place_out Small text right)))
+abbrev pub halves_of_terms : List ℕ → ℕ → List TextPiece → List TextPiece → Result (List Arg) ParseRefusal
+halves_of_terms text at left right =
+    value_unless
+    (operand_form_refusal text at (list_all (is_term_at text) left && list_all (is_term_at text) right)
+    (option_or (first_out_of_range_place Small text left) (first_out_of_range_place Small text right)))
     (Plain (map (term_of text) left) ∷ Plain (map (term_of text) right) ∷ [])
 
 -- the arguments of a `zero` line, from the members of its operand
 abbrev pub halves_of_members : List ℕ → ℕ → List TextPiece → Result (List Arg) ParseRefusal
 halves_of_members text at pieces =
-    by_two
-    (λ left right. halves_by text at (expression_pieces text left) (expression_pieces text right))
+    parse_two_members
+    (λ left right. halves_of_terms text at (expression_pieces text left) (expression_pieces text right))
     text at pieces
 
 -- the arguments of a `zero` line, or its refusal
@@ -64,15 +64,15 @@ unfoldable pub parse_halves : List ℕ → Span → Result (List Arg) ParseRefus
 parse_halves text operand = halves_of_members text operand.from (members text operand)
 
 -- the arguments of a `bss` line, from its two members
-abbrev pub block_by : List ℕ → ℕ → TextPiece → TextPiece → Result (List Arg) ParseRefusal
-block_by text at name count =
-    unless
-    (refused text at (is_symbol_at text name && is_written_at Small text count)
-    (place_out Small text (count ∷ []))) (Symbol name.span ∷ number_arg Small text count ∷ [])
+abbrev pub block_of_pair : List ℕ → ℕ → TextPiece → TextPiece → Result (List Arg) ParseRefusal
+block_of_pair text at name count =
+    value_unless
+    (operand_form_refusal text at (is_symbol_at text name && member_has_form_of Small text count)
+    (first_out_of_range_place Small text (count ∷ []))) (Symbol name.span ∷ number_arg Small text count ∷ [])
 
 -- the arguments of a `bss` line, from the members of its operand
 abbrev pub block_of_members : List ℕ → ℕ → List TextPiece → Result (List Arg) ParseRefusal
-block_of_members text at pieces = by_two (block_by text at) text at pieces
+block_of_members text at pieces = parse_two_members (block_of_pair text at) text at pieces
 
 -- the arguments of a `bss` line, or its refusal
 unfoldable pub parse_block : List ℕ → Span → Result (List Arg) ParseRefusal
@@ -80,7 +80,7 @@ parse_block text operand = block_of_members text operand.from (members text oper
 
 -- the section that is selected by a name after `use`
 unfoldable pub used_section : List ℕ → Option Section
-used_section name = section_by section_name name
+used_section name = section_with_name section_name name
 
 -- whether a name selects a section
 abbrev pub is_section : List ℕ → Bool
@@ -89,5 +89,5 @@ is_section name = is_some (used_section name)
 -- the argument of a `use` line, or its refusal
 unfoldable pub parse_section : List ℕ → Span → Result (List Arg) ParseRefusal
 parse_section text operand =
-    unless (refused text operand.from (is_section (slice_of text operand)) None)
+    value_unless (operand_form_refusal text operand.from (is_section (slice_of text operand)) None)
     (Symbol operand ∷ [])

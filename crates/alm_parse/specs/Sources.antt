@@ -22,56 +22,56 @@ abbrev pub column_at : ℕ → ℕ → ℕ
 column_at start place = place - start + 1
 
 -- The fault with the code of a refusal, at a line and a column.
-abbrev pub fault_by : ParseCode → ℕ → ℕ → AlmFault
-fault_by code.E1 line column = E1 line column
-fault_by code.E2 line column = E2 line column
-fault_by code.E3 line column = E3 line column
-fault_by code.E4 line column = E4 line column
+abbrev pub fault_with_code : ParseCode → ℕ → ℕ → AlmFault
+fault_with_code code.E1 line column = E1 line column
+fault_with_code code.E2 line column = E2 line column
+fault_with_code code.E3 line column = E3 line column
+fault_with_code code.E4 line column = E4 line column
 
 -- the fault of a refusal in a line
 abbrev pub fault_of : Row → ParseRefusal → AlmFault
-fault_of row refusal = fault_by refusal.code row.number (column_at row.span.from refusal.place)
+fault_of row refusal = fault_with_code refusal.code row.number (column_at row.span.from refusal.place)
 
 -- whether the operation of a line is `end`, after which the text is ignored
-abbrev pub names_end : List ℕ → Option Span → Bool
-names_end text (Some op) = is_text end_name (slice_of text op)
-names_end text None = false
+abbrev pub is_end_operation : List ℕ → Option Span → Bool
+is_end_operation text (Some op) = is_text end_name (slice_of text op)
+is_end_operation text None = false
 
 -- The lines of a source, given what parsing the line `row` yielded. If it is refused, so is the
 -- source. It is the last if its operation is `end`; otherwise `further` parses the lines after it.
-abbrev pub continued : List ℕ → Row → List Line36 → (List Line36 → Result (List Line36) AlmFault)
+abbrev pub lines_after_row : List ℕ → Row → List Line36 → (List Line36 → Result (List Line36) AlmFault)
     → Result Line36 ParseRefusal → Result (List Line36) AlmFault
-continued text row before further (Ok line) =
-    if names_end text line.op then Ok (before ++ line ∷ []) else further (before ++ line ∷ [])
-continued text row before further (Err refusal) = Err (fault_of row refusal)
+lines_after_row text row before further (Ok line) =
+    if is_end_operation text line.op then Ok (before ++ line ∷ []) else further (before ++ line ∷ [])
+lines_after_row text row before further (Err refusal) = Err (fault_of row refusal)
 
 -- the lines of a text, after those before them, or the first refusal
 unfoldable pub read_lines : List ℕ → List Line36 → List Row → Result (List Line36) AlmFault
 read_lines text before [] = Ok before
 read_lines text before (row ∷ rows) =
-    continued text row before (λ more. read_lines text more rows) (parse_line text row)
+    lines_after_row text row before (λ more. read_lines text more rows) (parse_line text row)
 
 -- the source with these lines and this text, or the fault
-abbrev pub with_text : List ℕ → Result (List Line36) AlmFault → Result Source AlmFault
-with_text text read = and_then read (λ lines. Ok (record { text = text; lines = lines }))
+abbrev pub source_with_lines : List ℕ → Result (List Line36) AlmFault → Result Source AlmFault
+source_with_lines text read = and_then read (λ lines. Ok (record { text = text; lines = lines }))
 
 -- the source that a text is, with its lines, or its first refusal
-unfoldable pub parsed : List ℕ → Result Source AlmFault
-parsed text = with_text text (read_lines text [] (rows_of text))
+unfoldable pub source_of_text : List ℕ → Result Source AlmFault
+source_of_text text = source_with_lines text (read_lines text [] (rows_of text))
 
 -- The result of a call is that of the definition. It may be NoMemory whatever the text is.
-abbrev pub Refuses : {A : Type 0} → AlmFault → Result A AlmFault → Type 0
-Refuses NoMemory definition = ⊤
-Refuses (E1 line column) definition = definition ≡ Err (E1 line column)
-Refuses (E2 line column) definition = definition ≡ Err (E2 line column)
-Refuses (E3 line column) definition = definition ≡ Err (E3 line column)
-Refuses (E4 line column) definition = definition ≡ Err (E4 line column)
-Refuses (E5 line column) definition = definition ≡ Err (E5 line column)
-Refuses (E6 line column) definition = definition ≡ Err (E6 line column)
-Refuses (E7 line column) definition = definition ≡ Err (E7 line column)
-Refuses (E8 line column) definition = definition ≡ Err (E8 line column)
+abbrev pub IsFaultOf : {A : Type 0} → AlmFault → Result A AlmFault → Type 0
+IsFaultOf NoMemory definition = ⊤
+IsFaultOf (E1 line column) definition = definition ≡ Err (E1 line column)
+IsFaultOf (E2 line column) definition = definition ≡ Err (E2 line column)
+IsFaultOf (E3 line column) definition = definition ≡ Err (E3 line column)
+IsFaultOf (E4 line column) definition = definition ≡ Err (E4 line column)
+IsFaultOf (E5 line column) definition = definition ≡ Err (E5 line column)
+IsFaultOf (E6 line column) definition = definition ≡ Err (E6 line column)
+IsFaultOf (E7 line column) definition = definition ≡ Err (E7 line column)
+IsFaultOf (E8 line column) definition = definition ≡ Err (E8 line column)
 
 -- The result of a call is that of the definition, or `NoMemory`.
-abbrev pub ParseSays : {A : Type 0} → Result A AlmFault → Result A AlmFault → Type 0
-ParseSays (Ok value) definition = definition ≡ Ok value
-ParseSays (Err fault) definition = Refuses fault definition
+abbrev pub IsResultOf : {A : Type 0} → Result A AlmFault → Result A AlmFault → Type 0
+IsResultOf (Ok value) definition = definition ≡ Ok value
+IsResultOf (Err fault) definition = IsFaultOf fault definition

@@ -110,14 +110,14 @@ fn begun(alloc: Global, room: usize, arg: Arg) -> Result<Args, NoMemory>
 }
 
 /// A list of one argument. Fails only with `NoMemory`.
-pub fn one(alloc: Global, arg: Arg) -> Result<Args, NoMemory>
+pub fn one_arg(alloc: Global, arg: Arg) -> Result<Args, NoMemory>
     ensures { IfOk result (λ args. args ≡ arg ∷ []) }
 {
     begun(alloc, 1, arg)
 }
 
 /// A list of two arguments. Fails only with `NoMemory`.
-pub fn two(alloc: Global, first: Arg, second: Arg) -> Result<Args, NoMemory>
+pub fn two_args(alloc: Global, first: Arg, second: Arg) -> Result<Args, NoMemory>
     ensures { IfOk result (λ args. args ≡ first ∷ second ∷ []) }
 {
     match begun(alloc, 2, first) {

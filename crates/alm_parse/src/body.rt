@@ -4,7 +4,7 @@ ghost use Rattle.std.specs.Prelude.{ℕ, ◌≡◌, ◌^◌, ◌<◌, ◌≤◌,
 ghost use Rattle.std.specs.List.{position};
 ghost use Rattle.m36_text.specs.Texts.{is_name_character};
 ghost use Rattle.alm_tokens.specs.Tokens.{slice_of};
-ghost use Rattle.alm_parse.specs.Bodies.{place_of, symbol_end, external, body_of, own_section, is_segment, is_entry, is_tail, is_body, tail_pieces, body_pieces};
+ghost use Rattle.alm_parse.specs.Bodies.{place_of, symbol_end, external_operand, body_of, own_section, is_segment_text, is_entry_text, is_text_after_entry, has_valid_parts, tail_pieces, body_pieces};
 
 use alm_tokens::bytes::is_sign;
 use alm_tokens::expression::expression_pieces;
@@ -63,10 +63,10 @@ fn symbol_end(text: &[u8], span: Span) -> u32
 
 // Divides an operand with a dollar sign at the index `dollar` into its segment, its entry and the
 // text after the entry.
-fn external(text: &[u8], whole: Span, dollar: u32) -> Body
+fn external_operand(text: &[u8], whole: Span, dollar: u32) -> Body
     requires text { length text.now < 2 ^ 32 }
     requires dollar { dollar < length text.now }
-    ensures { result ≡ external text.now whole dollar }
+    ensures { result ≡ external_operand text.now whole dollar }
 {
     let rest = Span {
         from: dollar + 1,
@@ -108,7 +108,7 @@ pub fn body_of(text: &[u8], whole: Span) -> Body
         );
     }
     match place_of(text, whole, b'$') {
-        Some(dollar) => external(text, whole, dollar),
+        Some(dollar) => external_operand(text, whole, dollar),
         None => Body::Plain(whole),
     }
 }
@@ -141,36 +141,36 @@ pub fn own_section(text: &[u8], segment: Span) -> Option<Section>
 }
 
 // Whether a text can be the segment of an external operand: a symbol, or a section such as `*text`.
-fn is_segment(bytes: &[u8]) -> bool
-    ensures { result ≡ is_segment bytes.now }
+fn is_segment_text(bytes: &[u8]) -> bool
+    ensures { result ≡ is_segment_text bytes.now }
 {
     is_symbol(bytes) || section_named(bytes).is_some()
 }
 
 // Whether a text can be the entry of an external operand: a symbol, or nothing.
-fn is_entry(bytes: &[u8]) -> bool
-    ensures { result ≡ is_entry bytes.now }
+fn is_entry_text(bytes: &[u8]) -> bool
+    ensures { result ≡ is_entry_text bytes.now }
 {
     bytes.is_empty() || is_symbol(bytes)
 }
 
 // Whether a text can follow the entry of an external operand: a sign and more, or nothing.
-fn is_tail(bytes: &[u8]) -> bool
-    ensures { result ≡ is_tail bytes.now }
+fn is_text_after_entry(bytes: &[u8]) -> bool
+    ensures { result ≡ is_text_after_entry bytes.now }
 {
     bytes.is_empty() || is_sign(first_byte(bytes))
 }
 
 /// Whether the parts of an operand have their forms. The terms of its expression are not checked.
-pub fn is_body(text: &[u8], body: Body) -> bool
-    ensures { result ≡ is_body text.now body }
+pub fn has_valid_parts(text: &[u8], body: Body) -> bool
+    ensures { result ≡ has_valid_parts text.now body }
 {
     match body {
         Body::Through(pr, _) => pr_number(bytes_of(text, pr)).is_some(),
         Body::External(segment, entry, tail) => {
-            is_segment(bytes_of(text, segment))
-                && is_entry(bytes_of(text, entry))
-                && is_tail(bytes_of(text, tail))
+            is_segment_text(bytes_of(text, segment))
+                && is_entry_text(bytes_of(text, entry))
+                && is_text_after_entry(bytes_of(text, tail))
         }
         Body::Plain(_) => true,
     }

@@ -3,14 +3,14 @@
 ghost use Rattle.std.specs.Prelude.{ℕ, ◌∷◌, ◌≡◌, ◌^◌, ◌<◌, ◌+◌, ◌==◌, not, slice_index, drop, length, Option, IfSome, IfOk, IfErr};
 ghost use Rattle.std.specs.List.{find, position};
 ghost use Rattle.std.specs.Option.{option_copied};
-ghost use Rattle.alm_tokens.specs.Bytes.{is_blank, is_character};
-ghost use Rattle.alm_parse.specs.Characters.{first_word, packed, is_ended, place_bad, parse_characters};
-ghost use Rattle.alm_parse.specs.Refusals.{Reads, HaltsInside};
+ghost use Rattle.alm_tokens.specs.Bytes.{is_blank, is_placeable_character};
+ghost use Rattle.alm_parse.specs.Characters.{first_word, packed_words, is_blank_or_comment, first_bad_place, parse_characters};
+ghost use Rattle.alm_parse.specs.Refusals.{IsParserResultOf, ErrorIsInside};
 
-use crate::args::{Arg, Args, one};
+use crate::args::{Arg, Args, one_arg};
 use crate::body::place_of;
 use crate::refusal::{ParseCode, ParseError, ParseRefusal, byte_at};
-use alm_tokens::bytes::{is_blank, is_character};
+use alm_tokens::bytes::{is_blank, is_placeable_character};
 use alm_tokens::span::{Span, bytes_of};
 use m36_word::{NoMemory, Word, Words};
 use std::alloc::Global;
@@ -40,7 +40,7 @@ fn word_of_four(bytes: &[u8]) -> Word
 #[tactic(auto, using(crate::proofs::Packed::packed_first))]
 fn first_word(bytes: &[u8]) -> Word
     requires { 0 < length bytes.now }
-    ensures { packed bytes.now ≡ result ∷ packed (drop 4 bytes.now) }
+    ensures { packed_words bytes.now ≡ result ∷ packed_words (drop 4 bytes.now) }
 {
     word_of_four(bytes)
 }
@@ -58,8 +58,8 @@ fn after_four(bytes: &[u8]) -> &[u8]
 
 // The words of characters, four in each word with nine bits each. Zeros follow the last character.
 #[tactic(auto, using(crate::proofs::Packed::packed_none))]
-fn packed(alloc: Global, bytes: &[u8]) -> Result<Words, NoMemory>
-    ensures { IfOk result (λ words. words ≡ packed bytes.now) }
+fn packed_words(alloc: Global, bytes: &[u8]) -> Result<Words, NoMemory>
+    ensures { IfOk result (λ words. words ≡ packed_words bytes.now) }
 {
     let mut words = Words::new(alloc);
     let mut rest = bytes;
@@ -78,8 +78,8 @@ fn first_no_blank(bytes: &[u8]) -> Option<&u8>
 }
 
 // Whether a text has only blanks, and perhaps a comment, as it must after the closing delimiter.
-fn is_ended(bytes: &[u8]) -> bool
-    ensures { result ≡ is_ended bytes.now }
+fn is_blank_or_comment(bytes: &[u8]) -> bool
+    ensures { result ≡ is_blank_or_comment bytes.now }
 {
     match first_no_blank(bytes) {
         Some(byte) => *byte == b'"',
@@ -89,17 +89,17 @@ fn is_ended(bytes: &[u8]) -> bool
 
 // The index of the first byte that cannot be placed.
 fn first_no_character(bytes: &[u8]) -> Option<usize>
-    ensures value { result ≡ position (λ b. not (is_character b)) bytes.now }
+    ensures value { result ≡ position (λ b. not (is_placeable_character b)) bytes.now }
     ensures within { IfSome result (λ i. i < length bytes.now) }
 {
-    bytes.iter().position(|b| !is_character(*b))
+    bytes.iter().position(|b| !is_placeable_character(*b))
 }
 
 // The index in the text of the first byte of a span that cannot be placed.
-#[tactic(auto, unfolding(crate::specs::Characters::place_bad))]
-fn place_bad(text: &[u8], span: Span) -> Option<u32>
+#[tactic(auto, unfolding(crate::specs::Characters::first_bad_place))]
+fn first_bad_place(text: &[u8], span: Span) -> Option<u32>
     requires { length text.now < 2 ^ 32 }
-    ensures value { result ≡ place_bad text.now span }
+    ensures value { result ≡ first_bad_place text.now span }
     ensures within { IfSome result (λ i. i < length text.now) }
 {
     let place = first_no_character(bytes_of(text, span))?;
@@ -112,11 +112,11 @@ fn place_bad(text: &[u8], span: Span) -> Option<u32>
 pub fn characters_args(alloc: Global, text: &[u8], rest: Span) -> Result<Args, ParseError>
     requires text { length text.now < 2 ^ 32 }
     requires inside { rest.from < length text.now }
-    ensures value { Reads result (parse_characters text.now rest) }
-    ensures inside { IfErr result (HaltsInside (length text.now)) }
+    ensures value { IsParserResultOf result (parse_characters text.now rest) }
+    ensures inside { IfErr result (ErrorIsInside (length text.now)) }
 {
     let delimiter = byte_at(text, rest.from);
-    if !is_character(delimiter) {
+    if !is_placeable_character(delimiter) {
         return Err(ParseError::Refused(ParseRefusal {
             place: rest.from,
             code: ParseCode::E1,
@@ -133,19 +133,19 @@ pub fn characters_args(alloc: Global, text: &[u8], rest: Span) -> Result<Args, P
         from: close + 1,
         to: rest.to,
     };
-    if !is_ended(bytes_of(text, behind)) {
+    if !is_blank_or_comment(bytes_of(text, behind)) {
         return Err(ParseError::Refused(ParseRefusal {
             place: rest.from,
             code: ParseCode::E2,
         }));
     }
     let span = Span { from, to: close };
-    if let Some(place) = place_bad(text, span) {
+    if let Some(place) = first_bad_place(text, span) {
         return Err(ParseError::Refused(ParseRefusal {
             place,
             code: ParseCode::E1,
         }));
     }
-    let words = packed(alloc, bytes_of(text, span))?;
-    Ok(one(alloc, Arg::Chars(words))?)
+    let words = packed_words(alloc, bytes_of(text, span))?;
+    Ok(one_arg(alloc, Arg::Chars(words))?)
 }

@@ -3,7 +3,7 @@
 ghost use Rattle.std.specs.Prelude.{◌≡◌, Option, option_map, IfSome};
 ghost use Rattle.alm_tokens.specs.Tokens.{is_text};
 ghost use Rattle.alm_parse.specs.Operations.{directive, operation_of};
-ghost use Rattle.alm_parse.specs.Deeds.{deed_named};
+ghost use Rattle.alm_parse.specs.Deeds.{effect_named};
 
 use crate::deed::LineEffect;
 use crate::operation::Operation;
@@ -69,10 +69,10 @@ pub struct Meaning {
 }
 
 /// The meaning of the name of an operation. None if there is no operation of this name.
-#[tactic(auto, unfolding(crate::specs::Operations::operation_of, crate::specs::Deeds::deed_named))]
+#[tactic(auto, unfolding(crate::specs::Operations::operation_of, crate::specs::Deeds::effect_named))]
 pub fn meaning_of(bytes: &[u8]) -> Option<Meaning>
     ensures operation { option_map (λ meaning. meaning.operation) result ≡ operation_of bytes.now }
-    ensures deed { IfSome result (λ meaning. meaning.deed ≡ deed_named bytes.now) }
+    ensures deed { IfSome result (λ meaning. meaning.deed ≡ effect_named bytes.now) }
 {
     if let Some((operation, deed)) = directive(bytes) {
         return Some(Meaning { operation, deed });

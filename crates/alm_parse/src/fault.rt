@@ -1,7 +1,7 @@
 //! Why a source cannot be assembled.
 
 ghost use Rattle.std.specs.Prelude.{ℕ, ◌≡◌, ◌-◌, ◌^◌, ◌<◌, ◌+◌};
-ghost use Rattle.alm_parse.specs.Sources.{fault_by, fault_of};
+ghost use Rattle.alm_parse.specs.Sources.{fault_with_code, fault_of};
 ghost use Rattle.alm_parse.specs.declared.fault.AlmFault.TheVariants as fault;
 
 use crate::refusal::{ParseCode, ParseRefusal};
@@ -54,8 +54,8 @@ impl From<NoMemory> for AlmFault {
 }
 
 // The fault with this code at a line and a column, both counted from 1.
-fn fault_by(code: ParseCode, line: u32, column: u32) -> AlmFault
-    ensures { result ≡ fault_by code line column }
+fn fault_with_code(code: ParseCode, line: u32, column: u32) -> AlmFault
+    ensures { result ≡ fault_with_code code line column }
 {
     match code {
         ParseCode::E1 => AlmFault::E1(line, column),
@@ -71,5 +71,5 @@ pub fn fault_of(row: Row, refusal: ParseRefusal) -> AlmFault
     ensures { result ≡ fault_of row refusal }
 {
     let column = refusal.place.saturating_sub(row.span.from) + 1;
-    fault_by(refusal.code, row.number, column)
+    fault_with_code(refusal.code, row.number, column)
 }

@@ -3,10 +3,10 @@
 ghost use Rattle.std.specs.Prelude.{ℕ, ◌≡◌, ◌^◌, ◌<◌, Option, Result, Ok, IfSome, IfOk, IfErr, length};
 ghost use Rattle.m36_text.specs.Results.{and_then};
 ghost use Rattle.std.specs.List.{All};
-ghost use Rattle.alm_tokens.specs.Heads.{IsMark, IsToken};
-ghost use Rattle.alm_parse.specs.Lines.{missing, args_with, operand_for, args_of, is_no_symbol, label_refusal, line_of, line_headed, parse_line};
-ghost use Rattle.alm_parse.specs.Deeds.{deed_of};
-ghost use Rattle.alm_parse.specs.Refusals.{Reads, IsInside, HaltsInside};
+ghost use Rattle.alm_tokens.specs.Heads.{IsLabelSpan, IsTokenSpan};
+ghost use Rattle.alm_parse.specs.Lines.{missing_operand_refusal, args_with, operand_for, args_of, is_no_symbol, label_refusal, line_of, line_with_head, parse_line};
+ghost use Rattle.alm_parse.specs.Deeds.{effect_of_line};
+ghost use Rattle.alm_parse.specs.Refusals.{IsParserResultOf, IsRefusedInside, ErrorIsInside};
 
 use crate::args::Args;
 use crate::characters::characters_args;
@@ -18,7 +18,7 @@ use crate::operand::operand_args;
 use crate::operation::Operation;
 use crate::pairs::{block_args, halves_args, section_args, value_args};
 use crate::refusal::{ParseCode, ParseError, ParseRefusal, refusal_at_token};
-use alm_tokens::head::{Head, delimited_in, head_of, operand_in};
+use alm_tokens::head::{Head, delimited_operand, head_of, operand_in};
 use alm_tokens::numerals::Numeral;
 use alm_tokens::rows::Row;
 use alm_tokens::span::{Span, bytes_of};
@@ -27,8 +27,8 @@ use std::alloc::Global;
 
 // The refusal of an operation that lacks its operand, if it must have one. `at` is the index of the
 // operation.
-fn missing(operation: Operation, at: u32) -> Option<ParseRefusal>
-    ensures value { result ≡ missing operation at }
+fn missing_operand_refusal(operation: Operation, at: u32) -> Option<ParseRefusal>
+    ensures value { result ≡ missing_operand_refusal operation at }
     ensures place { IfSome result (λ refusal. refusal.place ≡ at) }
 {
     match operation {
@@ -56,8 +56,8 @@ fn args_with(
 ) -> Result<Args, ParseError>
     requires text { length text.now < 2 ^ 32 }
     requires inside { operand.from < length text.now }
-    ensures value { Reads result (args_with operation text.now operand) }
-    ensures inside { IfErr result (HaltsInside (length text.now)) }
+    ensures value { IsParserResultOf result (args_with operation text.now operand) }
+    ensures inside { IfErr result (ErrorIsInside (length text.now)) }
 {
     match operation {
         Operation::Instruction => operand_args(alloc, text, operand),
@@ -85,7 +85,7 @@ fn operand_for(operation: Operation, text: &[u8], rest: Span) -> Option<Span>
     ensures within { IfSome result (λ span. span.from < length text.now) }
 {
     match operation {
-        Operation::Characters => delimited_in(text, rest),
+        Operation::Characters => delimited_operand(text, rest),
         _ => operand_in(text, rest),
     }
 }
@@ -102,12 +102,12 @@ fn args_of(
 ) -> Result<Args, ParseError>
     requires text { length text.now < 2 ^ 32 }
     requires inside { op < length text.now }
-    ensures value { Reads result (args_of operation text.now op rest) }
-    ensures inside { IfErr result (HaltsInside (length text.now)) }
+    ensures value { IsParserResultOf result (args_of operation text.now op rest) }
+    ensures inside { IfErr result (ErrorIsInside (length text.now)) }
 {
     match operand_for(operation, text, rest) {
         Some(operand) => args_with(alloc, operation, text, operand),
-        None => match missing(operation, op) {
+        None => match missing_operand_refusal(operation, op) {
             Some(refusal) => Err(ParseError::Refused(refusal)),
             None => Ok(Args::new(alloc)),
         },
@@ -124,9 +124,9 @@ fn is_no_symbol(text: &[u8], span: Span) -> bool
 // The refusal of the first label that is not a symbol.
 #[tactic(auto, using(crate::proofs::Inside::mark_inside), unfolding(crate::specs::Lines::label_refusal))]
 fn label_refusal(text: &[u8], labels: &[Span]) -> Option<ParseRefusal>
-    requires { All (IsMark (length text.now)) labels.now }
+    requires { All (IsLabelSpan (length text.now)) labels.now }
     ensures value { result ≡ label_refusal text.now labels.now }
-    ensures inside { IfSome result (IsInside (length text.now)) }
+    ensures inside { IfSome result (IsRefusedInside (length text.now)) }
 {
     match labels.iter().find(|label| is_no_symbol(text, **label)) {
         Some(label) => Some(refusal_at_token(text, label.from, ParseCode::E2)),
@@ -136,7 +136,7 @@ fn label_refusal(text: &[u8], labels: &[Span]) -> Option<ParseRefusal>
 
 // The line with these labels, this operation, and these arguments and effect.
 fn line_of(text: &[u8], row: Row, head: Head, given: Given) -> Line36
-    requires { given.deed ≡ deed_of text.now head.op }
+    requires { given.deed ≡ effect_of_line text.now head.op }
     ensures { result ≡ line_of text.now row head given.args }
 {
     let Head { labels, op } = head;
@@ -159,14 +159,14 @@ struct Given {
 }
 
 // The arguments and the effect of the operation of a line, or the refusal of the line.
-fn line_parts(alloc: Global, text: &[u8], row: Row, head: &Head) -> Result<Given, ParseError>
+fn parse_line_parts(alloc: Global, text: &[u8], row: Row, head: &Head) -> Result<Given, ParseError>
     requires text { length text.now < 2 ^ 32 }
-    requires marks { All (IsMark (length text.now)) head.now.labels }
-    requires op { IfSome head.now.op (IsToken (length text.now)) }
-    ensures value { Reads (and_then result (λ given. Ok (line_of text.now row head.now given.args)))
-        (line_headed text.now row head.now) }
-    ensures deed { IfOk result (λ given. given.deed ≡ deed_of text.now head.now.op) }
-    ensures inside { IfErr result (HaltsInside (length text.now)) }
+    requires marks { All (IsLabelSpan (length text.now)) head.now.labels }
+    requires op { IfSome head.now.op (IsTokenSpan (length text.now)) }
+    ensures value { IsParserResultOf (and_then result (λ given. Ok (line_of text.now row head.now given.args)))
+        (line_with_head text.now row head.now) }
+    ensures deed { IfOk result (λ given. given.deed ≡ effect_of_line text.now head.now.op) }
+    ensures inside { IfErr result (ErrorIsInside (length text.now)) }
 {
     if let Some(refusal) = label_refusal(text, head.labels.items()) {
         return Err(ParseError::Refused(refusal));
@@ -195,11 +195,11 @@ fn line_parts(alloc: Global, text: &[u8], row: Row, head: &Head) -> Result<Given
 #[tactic(auto, unfolding(crate::specs::Lines::parse_line))]
 pub fn read_line(alloc: Global, text: &[u8], row: Row) -> Result<Line36, ParseError>
     requires { length text.now < 2 ^ 32 }
-    ensures value { Reads result (parse_line text.now row) }
-    ensures inside { IfErr result (HaltsInside (length text.now)) }
+    ensures value { IsParserResultOf result (parse_line text.now row) }
+    ensures inside { IfErr result (ErrorIsInside (length text.now)) }
 {
     let head = head_of(alloc, text, row.span)?;
-    match line_parts(alloc, text, row, &head) {
+    match parse_line_parts(alloc, text, row, &head) {
         Ok(given) => Ok(line_of(text, row, head, given)),
         Err(ParseError::Refused(refusal)) => {
             // Dropped explicitly, so that the drop is proved once for its type. Likewise below.

@@ -2,15 +2,15 @@
 
 ghost use Rattle.std.specs.Prelude.{ℕ, ◌≡◌, ◌^◌, ◌<◌, None, IfOk, IfErr, length, map};
 ghost use Rattle.std.specs.List.{list_all};
-ghost use Rattle.m36_text.specs.Results.{unless};
+ghost use Rattle.m36_text.specs.Results.{value_unless};
 ghost use Rattle.alm_tokens.specs.Lists.{is_symbol_at};
-ghost use Rattle.alm_parse.specs.Members.{symbol_arg, number_arg, parse_symbols, numbers_by, parse_numbers};
-ghost use Rattle.alm_parse.specs.Refusals.{refused, Reads, HaltsInside};
+ghost use Rattle.alm_parse.specs.Members.{symbol_arg, number_arg, parse_symbols, numbers_of_members, parse_numbers};
+ghost use Rattle.alm_parse.specs.Refusals.{operand_form_refusal, IsParserResultOf, ErrorIsInside};
 
 use crate::args::{Arg, Args};
-use crate::refusal::{ParseError, refused};
-use alm_tokens::lists::{are_symbols, are_written, members, place_out};
-use alm_tokens::numerals::{Numeral, word_as};
+use crate::refusal::{ParseError, operand_form_refusal};
+use alm_tokens::lists::{are_symbols, members_have_form_of, members, first_out_of_range_place};
+use alm_tokens::numerals::{Numeral, number_word};
 use alm_tokens::pieces::TextPiece;
 use alm_tokens::span::{Span, bytes_of};
 use m36_word::NoMemory;
@@ -35,13 +35,13 @@ fn symbols_of(
     members: &[TextPiece],
 ) -> Result<Args, ParseError>
     requires { at < length text.now }
-    ensures value { Reads result
-        (unless (refused text.now at (list_all (is_symbol_at text.now) members.now) None)
+    ensures value { IsParserResultOf result
+        (value_unless (operand_form_refusal text.now at (list_all (is_symbol_at text.now) members.now) None)
         (map symbol_arg members.now)) }
-    ensures inside { IfErr result (HaltsInside (length text.now)) }
+    ensures inside { IfErr result (ErrorIsInside (length text.now)) }
 {
     let form = are_symbols(text, members);
-    if let Some(refusal) = refused(text, at, form, None) {
+    if let Some(refusal) = operand_form_refusal(text, at, form, None) {
         return Err(ParseError::Refused(refusal));
     }
     Ok(symbol_args(alloc, members)?)
@@ -52,8 +52,8 @@ fn symbols_of(
 pub fn symbols_args(alloc: Global, text: &[u8], operand: Span) -> Result<Args, ParseError>
     requires text { length text.now < 2 ^ 32 }
     requires inside { operand.from < length text.now }
-    ensures value { Reads result (parse_symbols text.now operand) }
-    ensures inside { IfErr result (HaltsInside (length text.now)) }
+    ensures value { IsParserResultOf result (parse_symbols text.now operand) }
+    ensures inside { IfErr result (ErrorIsInside (length text.now)) }
 {
     let members = members(alloc, text, operand)?;
     let given = symbols_of(alloc, text, operand.from, members.items());
@@ -66,7 +66,7 @@ pub fn symbols_args(alloc: Global, text: &[u8], operand: Span) -> Result<Args, P
 pub fn number_arg(numeral: Numeral, text: &[u8], member: &TextPiece) -> Arg
     ensures { result ≡ number_arg numeral text.now member.now }
 {
-    Arg::Number(word_as(numeral, bytes_of(text, member.span)))
+    Arg::Number(number_word(numeral, bytes_of(text, member.span)))
 }
 
 // The arguments that are the words of the numbers of these members.
@@ -86,7 +86,7 @@ fn number_args(
 }
 
 // The arguments of these members, which must be numbers. `at` is the index of the operand.
-fn numbers_by(
+fn numbers_of_members(
     alloc: Global,
     numeral: Numeral,
     text: &[u8],
@@ -94,12 +94,12 @@ fn numbers_by(
     members: &[TextPiece],
 ) -> Result<Args, ParseError>
     requires { at < length text.now }
-    ensures value { Reads result (numbers_by numeral text.now at members.now) }
-    ensures inside { IfErr result (HaltsInside (length text.now)) }
+    ensures value { IsParserResultOf result (numbers_of_members numeral text.now at members.now) }
+    ensures inside { IfErr result (ErrorIsInside (length text.now)) }
 {
-    let form = are_written(numeral, text, members);
-    let over = place_out(numeral, text, members);
-    if let Some(refusal) = refused(text, at, form, over) {
+    let form = members_have_form_of(numeral, text, members);
+    let over = first_out_of_range_place(numeral, text, members);
+    if let Some(refusal) = operand_form_refusal(text, at, form, over) {
         return Err(ParseError::Refused(refusal));
     }
     Ok(number_args(alloc, numeral, text, members)?)
@@ -115,11 +115,11 @@ pub fn numbers_args(
 ) -> Result<Args, ParseError>
     requires text { length text.now < 2 ^ 32 }
     requires inside { operand.from < length text.now }
-    ensures value { Reads result (parse_numbers numeral text.now operand) }
-    ensures inside { IfErr result (HaltsInside (length text.now)) }
+    ensures value { IsParserResultOf result (parse_numbers numeral text.now operand) }
+    ensures inside { IfErr result (ErrorIsInside (length text.now)) }
 {
     let members = members(alloc, text, operand)?;
-    let given = numbers_by(alloc, numeral, text, operand.from, members.items());
+    let given = numbers_of_members(alloc, numeral, text, operand.from, members.items());
     drop(members);
     given
 }

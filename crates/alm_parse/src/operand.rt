@@ -2,14 +2,14 @@
 
 ghost use Rattle.std.specs.Prelude.{ℕ, ◌≡◌, ◌^◌, ◌<◌, Option, IfSome, IfOk, IfErr, length, map};
 ghost use Rattle.alm_tokens.specs.Expressions.{term_of};
-ghost use Rattle.alm_parse.specs.Operands.{body_span, tag_given, entry_given, operand_of, parse_operand};
-ghost use Rattle.alm_parse.specs.Refusals.{Reads, HaltsInside};
+ghost use Rattle.alm_parse.specs.Operands.{body_span, modifier_tag_after_comma, entry_if_any, operand_of, parse_operand};
+ghost use Rattle.alm_parse.specs.Refusals.{IsParserResultOf, ErrorIsInside};
 
-use crate::args::{Arg, Args, one};
-use crate::body::{Body, body_of, body_pieces, is_body, place_of};
-use crate::refusal::{ParseError, refused};
+use crate::args::{Arg, Args, one_arg};
+use crate::body::{Body, body_of, body_pieces, has_valid_parts, place_of};
+use crate::refusal::{ParseError, operand_form_refusal};
 use alm_tokens::expression::{Expr, are_terms, expr_of};
-use alm_tokens::lists::place_out;
+use alm_tokens::lists::first_out_of_range_place;
 use alm_tokens::modifiers::{pr_number, tag_of};
 use alm_tokens::numerals::Numeral;
 use alm_tokens::span::{Span, bytes_of};
@@ -30,10 +30,10 @@ fn body_span(operand: Span, comma: Option<u32>) -> Span
 
 // The tag of the modifier after the comma, and 0 if there is no comma. None if no modifier has this
 // text.
-fn tag_given(text: &[u8], operand: Span, comma: Option<u32>) -> Option<u8>
+fn modifier_tag_after_comma(text: &[u8], operand: Span, comma: Option<u32>) -> Option<u8>
     requires text { length text.now < 2 ^ 32 }
     requires comma { IfSome comma (λ i. i < length text.now) }
-    ensures value { result ≡ tag_given text.now operand comma }
+    ensures value { result ≡ modifier_tag_after_comma text.now operand comma }
     ensures below { IfSome result (λ n. n < 64) }
 {
     match comma {
@@ -49,8 +49,8 @@ fn tag_given(text: &[u8], operand: Span, comma: Option<u32>) -> Option<u8>
 }
 
 // The entry of an external operand. None if it is empty.
-fn entry_given(text: &[u8], span: Span) -> Option<Span>
-    ensures { result ≡ entry_given text.now span }
+fn entry_if_any(text: &[u8], span: Span) -> Option<Span>
+    ensures { result ≡ entry_if_any text.now span }
 {
     if bytes_of(text, span).is_empty() {
         None
@@ -74,7 +74,7 @@ fn operand_of(text: &[u8], body: Body, expr: Expr, tag: u8) -> Arg
         Body::External(segment, entry, _) => Arg::Operand {
             pr: None,
             seg: Some(segment),
-            entry: entry_given(text, entry),
+            entry: entry_if_any(text, entry),
             expr,
             tag,
         },
@@ -93,19 +93,19 @@ fn operand_of(text: &[u8], body: Body, expr: Expr, tag: u8) -> Arg
 pub fn operand_args(alloc: Global, text: &[u8], operand: Span) -> Result<Args, ParseError>
     requires text { length text.now < 2 ^ 32 }
     requires inside { operand.from < length text.now }
-    ensures value { Reads result (parse_operand text.now operand) }
-    ensures inside { IfErr result (HaltsInside (length text.now)) }
+    ensures value { IsParserResultOf result (parse_operand text.now operand) }
+    ensures inside { IfErr result (ErrorIsInside (length text.now)) }
 {
     let comma = place_of(text, operand, b',');
-    let tag = tag_given(text, operand, comma);
+    let tag = modifier_tag_after_comma(text, operand, comma);
     let body = body_of(text, body_span(operand, comma));
     let pieces = body_pieces(alloc, text, body)?;
-    let form = is_body(text, body) && are_terms(text, pieces.items()) && tag.is_some();
-    let over = place_out(Numeral::Small, text, pieces.items());
-    if let Some(refusal) = refused(text, operand.from, form, over) {
+    let form = has_valid_parts(text, body) && are_terms(text, pieces.items()) && tag.is_some();
+    let over = first_out_of_range_place(Numeral::Small, text, pieces.items());
+    if let Some(refusal) = operand_form_refusal(text, operand.from, form, over) {
         return Err(ParseError::Refused(refusal));
     }
     let expr = expr_of(alloc, text, pieces.items())?;
     let arg = operand_of(text, body, expr, tag.unwrap_or(0));
-    Ok(one(alloc, arg)?)
+    Ok(one_arg(alloc, arg)?)
 }

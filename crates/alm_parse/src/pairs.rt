@@ -3,15 +3,15 @@
 ghost use Rattle.std.specs.Prelude.{ℕ, [], ◌∷◌, ◌≡◌, ◌≤◌, ◌^◌, ◌<◌, Option, IfSome, IfOk, IfErr, length, map};
 ghost use Rattle.alm_tokens.specs.Expressions.{expression_pieces, term_of};
 ghost use Rattle.alm_parse.specs.declared.args.Arg.TheVariants as arg;
-ghost use Rattle.alm_parse.specs.Pairs.{value_by, value_of_members, parse_value, halves_by, halves_of_members, parse_halves};
+ghost use Rattle.alm_parse.specs.Pairs.{value_of_terms, value_of_members, parse_value, halves_of_terms, halves_of_members, parse_halves};
 ghost use Rattle.alm_parse.specs.Pairs.{block_of_members, parse_block, used_section, parse_section};
-ghost use Rattle.alm_parse.specs.Refusals.{Reads, HaltsInside};
+ghost use Rattle.alm_parse.specs.Refusals.{IsParserResultOf, ErrorIsInside};
 
-use crate::args::{Arg, Args, one, two};
+use crate::args::{Arg, Args, one_arg, two_args};
 use crate::members::number_arg;
-use crate::refusal::{ParseCode, ParseError, refusal_at_token, refused};
+use crate::refusal::{ParseCode, ParseError, refusal_at_token, operand_form_refusal};
 use alm_tokens::expression::{are_terms, expr_of, expression_pieces};
-use alm_tokens::lists::{is_symbol_at, is_written_at, members, place_out};
+use alm_tokens::lists::{is_symbol_at, member_has_form_of, members, first_out_of_range_place};
 use alm_tokens::numerals::Numeral;
 use alm_tokens::pieces::TextPiece;
 use alm_tokens::span::{Span, bytes_of};
@@ -29,7 +29,7 @@ fn plain_arg(alloc: Global, text: &[u8], pieces: &[TextPiece]) -> Result<Arg, No
 }
 
 // A symbol, and the expression with these terms. `at` is the index of the operand.
-fn value_by(
+fn value_of_terms(
     alloc: Global,
     text: &[u8],
     at: u32,
@@ -38,20 +38,20 @@ fn value_by(
 ) -> Result<Args, ParseError>
     requires inside { at < length text.now }
     requires count { length pieces.now ≤ 2 ^ 32 }
-    ensures value { Reads result (value_by text.now at name.now pieces.now) }
-    ensures inside { IfErr result (HaltsInside (length text.now)) }
+    ensures value { IsParserResultOf result (value_of_terms text.now at name.now pieces.now) }
+    ensures inside { IfErr result (ErrorIsInside (length text.now)) }
 {
     let form = is_symbol_at(text, name) && are_terms(text, pieces);
-    let over = place_out(Numeral::Small, text, pieces);
-    if let Some(refusal) = refused(text, at, form, over) {
+    let over = first_out_of_range_place(Numeral::Small, text, pieces);
+    if let Some(refusal) = operand_form_refusal(text, at, form, over) {
         return Err(ParseError::Refused(refusal));
     }
     let value = plain_arg(alloc, text, pieces)?;
-    Ok(two(alloc, Arg::Symbol(name.span), value)?)
+    Ok(two_args(alloc, Arg::Symbol(name.span), value)?)
 }
 
 // A symbol and the expression in a piece. `at` is the index of the operand.
-fn value_with(
+fn value_of_piece(
     alloc: Global,
     text: &[u8],
     at: u32,
@@ -60,12 +60,12 @@ fn value_with(
 ) -> Result<Args, ParseError>
     requires text { length text.now < 2 ^ 32 }
     requires inside { at < length text.now }
-    ensures value { Reads result
-        (value_by text.now at name.now (expression_pieces text.now value)) }
-    ensures inside { IfErr result (HaltsInside (length text.now)) }
+    ensures value { IsParserResultOf result
+        (value_of_terms text.now at name.now (expression_pieces text.now value)) }
+    ensures inside { IfErr result (ErrorIsInside (length text.now)) }
 {
     let pieces = expression_pieces(alloc, text, value)?;
-    let given = value_by(alloc, text, at, name, pieces.items());
+    let given = value_of_terms(alloc, text, at, name, pieces.items());
     // Dropped explicitly, so that the drop is proved once for its type. Likewise below.
     drop(pieces);
     given
@@ -80,13 +80,13 @@ fn value_of_members(
 ) -> Result<Args, ParseError>
     requires text { length text.now < 2 ^ 32 }
     requires inside { at < length text.now }
-    ensures value { Reads result (value_of_members text.now at members.now) }
-    ensures inside { IfErr result (HaltsInside (length text.now)) }
+    ensures value { IsParserResultOf result (value_of_members text.now at members.now) }
+    ensures inside { IfErr result (ErrorIsInside (length text.now)) }
 {
     let [name, value] = members else {
         return Err(ParseError::Refused(refusal_at_token(text, at, ParseCode::E2)));
     };
-    value_with(alloc, text, at, name, *value)
+    value_of_piece(alloc, text, at, name, *value)
 }
 
 /// Parses a symbol and an expression.
@@ -94,8 +94,8 @@ fn value_of_members(
 pub fn value_args(alloc: Global, text: &[u8], operand: Span) -> Result<Args, ParseError>
     requires text { length text.now < 2 ^ 32 }
     requires inside { operand.from < length text.now }
-    ensures value { Reads result (parse_value text.now operand) }
-    ensures inside { IfErr result (HaltsInside (length text.now)) }
+    ensures value { IsParserResultOf result (parse_value text.now operand) }
+    ensures inside { IfErr result (ErrorIsInside (length text.now)) }
 {
     let members = members(alloc, text, operand)?;
     let given = value_of_members(alloc, text, operand.from, members.items());
@@ -119,7 +119,7 @@ fn plain_args(
 {
     let left = plain_arg(alloc, text, left)?;
     match plain_arg(alloc, text, right) {
-        Ok(right) => two(alloc, left, right),
+        Ok(right) => two_args(alloc, left, right),
         Err(fault) => {
             drop(left);
             Err(fault)
@@ -129,7 +129,7 @@ fn plain_args(
 
 // Two expressions with these terms. `at` is the index of the operand.
 #[tactic(auto, using(crate::proofs::Inside::first_inside))]
-fn halves_by(
+fn halves_of_terms(
     alloc: Global,
     text: &[u8],
     at: u32,
@@ -139,14 +139,14 @@ fn halves_by(
     requires inside { at < length text.now }
     requires left { length left.now ≤ 2 ^ 32 }
     requires right { length right.now ≤ 2 ^ 32 }
-    ensures value { Reads result (halves_by text.now at left.now right.now) }
-    ensures inside { IfErr result (HaltsInside (length text.now)) }
+    ensures value { IsParserResultOf result (halves_of_terms text.now at left.now right.now) }
+    ensures inside { IfErr result (ErrorIsInside (length text.now)) }
 {
     let form = are_terms(text, left) && are_terms(text, right);
-    let first = place_out(Numeral::Small, text, left);
-    let second = place_out(Numeral::Small, text, right);
+    let first = first_out_of_range_place(Numeral::Small, text, left);
+    let second = first_out_of_range_place(Numeral::Small, text, right);
     let over = first.or(second);
-    if let Some(refusal) = refused(text, at, form, over) {
+    if let Some(refusal) = operand_form_refusal(text, at, form, over) {
         return Err(ParseError::Refused(refusal));
     }
     Ok(plain_args(alloc, text, left, right)?)
@@ -163,18 +163,18 @@ fn halves_after(
     requires text { length text.now < 2 ^ 32 }
     requires inside { at < length text.now }
     requires left { length left.now ≤ 2 ^ 32 }
-    ensures value { Reads result
-        (halves_by text.now at left.now (expression_pieces text.now right)) }
-    ensures inside { IfErr result (HaltsInside (length text.now)) }
+    ensures value { IsParserResultOf result
+        (halves_of_terms text.now at left.now (expression_pieces text.now right)) }
+    ensures inside { IfErr result (ErrorIsInside (length text.now)) }
 {
     let right = expression_pieces(alloc, text, right)?;
-    let given = halves_by(alloc, text, at, left, right.items());
+    let given = halves_of_terms(alloc, text, at, left, right.items());
     drop(right);
     given
 }
 
 // Two expressions in pieces.
-fn halves_with(
+fn halves_of_pieces(
     alloc: Global,
     text: &[u8],
     at: u32,
@@ -183,10 +183,10 @@ fn halves_with(
 ) -> Result<Args, ParseError>
     requires text { length text.now < 2 ^ 32 }
     requires inside { at < length text.now }
-    ensures value { Reads result
-        (halves_by text.now at (expression_pieces text.now left)
+    ensures value { IsParserResultOf result
+        (halves_of_terms text.now at (expression_pieces text.now left)
         (expression_pieces text.now right)) }
-    ensures inside { IfErr result (HaltsInside (length text.now)) }
+    ensures inside { IfErr result (ErrorIsInside (length text.now)) }
 {
     let left = expression_pieces(alloc, text, left)?;
     let given = halves_after(alloc, text, at, left.items(), right);
@@ -203,13 +203,13 @@ fn halves_of_members(
 ) -> Result<Args, ParseError>
     requires text { length text.now < 2 ^ 32 }
     requires inside { at < length text.now }
-    ensures value { Reads result (halves_of_members text.now at members.now) }
-    ensures inside { IfErr result (HaltsInside (length text.now)) }
+    ensures value { IsParserResultOf result (halves_of_members text.now at members.now) }
+    ensures inside { IfErr result (ErrorIsInside (length text.now)) }
 {
     let [left, right] = members else {
         return Err(ParseError::Refused(refusal_at_token(text, at, ParseCode::E2)));
     };
-    halves_with(alloc, text, at, *left, *right)
+    halves_of_pieces(alloc, text, at, *left, *right)
 }
 
 /// Parses two expressions.
@@ -217,8 +217,8 @@ fn halves_of_members(
 pub fn halves_args(alloc: Global, text: &[u8], operand: Span) -> Result<Args, ParseError>
     requires text { length text.now < 2 ^ 32 }
     requires inside { operand.from < length text.now }
-    ensures value { Reads result (parse_halves text.now operand) }
-    ensures inside { IfErr result (HaltsInside (length text.now)) }
+    ensures value { IsParserResultOf result (parse_halves text.now operand) }
+    ensures inside { IfErr result (ErrorIsInside (length text.now)) }
 {
     let members = members(alloc, text, operand)?;
     let given = halves_of_members(alloc, text, operand.from, members.items());
@@ -234,19 +234,19 @@ fn block_of_members(
     members: &[TextPiece],
 ) -> Result<Args, ParseError>
     requires { at < length text.now }
-    ensures value { Reads result (block_of_members text.now at members.now) }
-    ensures inside { IfErr result (HaltsInside (length text.now)) }
+    ensures value { IsParserResultOf result (block_of_members text.now at members.now) }
+    ensures inside { IfErr result (ErrorIsInside (length text.now)) }
 {
     let [name, count] = members else {
         return Err(ParseError::Refused(refusal_at_token(text, at, ParseCode::E2)));
     };
-    let form = is_symbol_at(text, name) && is_written_at(Numeral::Small, text, count);
-    let over = place_out(Numeral::Small, text, &[*count]);
-    if let Some(refusal) = refused(text, at, form, over) {
+    let form = is_symbol_at(text, name) && member_has_form_of(Numeral::Small, text, count);
+    let over = first_out_of_range_place(Numeral::Small, text, &[*count]);
+    if let Some(refusal) = operand_form_refusal(text, at, form, over) {
         return Err(ParseError::Refused(refusal));
     }
     let count = number_arg(Numeral::Small, text, count);
-    Ok(two(alloc, Arg::Symbol(name.span), count)?)
+    Ok(two_args(alloc, Arg::Symbol(name.span), count)?)
 }
 
 /// Parses a symbol and a number.
@@ -254,8 +254,8 @@ fn block_of_members(
 pub fn block_args(alloc: Global, text: &[u8], operand: Span) -> Result<Args, ParseError>
     requires text { length text.now < 2 ^ 32 }
     requires inside { operand.from < length text.now }
-    ensures value { Reads result (parse_block text.now operand) }
-    ensures inside { IfErr result (HaltsInside (length text.now)) }
+    ensures value { IsParserResultOf result (parse_block text.now operand) }
+    ensures inside { IfErr result (ErrorIsInside (length text.now)) }
 {
     let members = members(alloc, text, operand)?;
     let given = block_of_members(alloc, text, operand.from, members.items());
@@ -284,12 +284,12 @@ pub fn used_section(bytes: &[u8]) -> Option<Section>
 #[tactic(auto, unfolding(crate::specs::Pairs::parse_section))]
 pub fn section_args(alloc: Global, text: &[u8], operand: Span) -> Result<Args, ParseError>
     requires { operand.from < length text.now }
-    ensures value { Reads result (parse_section text.now operand) }
-    ensures inside { IfErr result (HaltsInside (length text.now)) }
+    ensures value { IsParserResultOf result (parse_section text.now operand) }
+    ensures inside { IfErr result (ErrorIsInside (length text.now)) }
 {
     let form = used_section(bytes_of(text, operand)).is_some();
-    if let Some(refusal) = refused(text, operand.from, form, None) {
+    if let Some(refusal) = operand_form_refusal(text, operand.from, form, None) {
         return Err(ParseError::Refused(refusal));
     }
-    Ok(one(alloc, Arg::Symbol(operand))?)
+    Ok(one_arg(alloc, Arg::Symbol(operand))?)
 }

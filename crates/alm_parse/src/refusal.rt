@@ -1,10 +1,10 @@
 //! Why a source is refused, and where.
 
 ghost use Rattle.std.specs.Prelude.{ℕ, ◌≡◌, ◌^◌, ◌<◌, length, slice_index, IfSome};
-ghost use Rattle.alm_parse.specs.Refusals.{refusal_at_token, refused, IsInside};
+ghost use Rattle.alm_parse.specs.Refusals.{refusal_at_token, operand_form_refusal, IsRefusedInside};
 ghost use Rattle.alm_parse.specs.declared.refusal.ParseError.TheVariants as halt;
 
-use alm_tokens::bytes::is_legal;
+use alm_tokens::bytes::is_source_byte;
 use m36_word::NoMemory;
 
 /// What is wrong with a source that is not in the language.
@@ -66,7 +66,7 @@ pub fn refusal_at_token(text: &[u8], place: u32, code: ParseCode) -> ParseRefusa
     ensures value { result ≡ refusal_at_token text.now place code }
     ensures place { result.place ≡ place }
 {
-    if is_legal(byte_at(text, place)) {
+    if is_source_byte(byte_at(text, place)) {
         ParseRefusal { place, code }
     } else {
         ParseRefusal {
@@ -78,11 +78,11 @@ pub fn refusal_at_token(text: &[u8], place: u32, code: ParseCode) -> ParseRefusa
 
 /// The refusal of an operand: E2 if it does not have its form, and otherwise E4 at its first number
 /// out of range, if it has one.
-pub fn refused(text: &[u8], operand: u32, form: bool, over: Option<u32>) -> Option<ParseRefusal>
+pub fn operand_form_refusal(text: &[u8], operand: u32, form: bool, over: Option<u32>) -> Option<ParseRefusal>
     requires inside { operand < length text.now }
     requires over { IfSome over (λ place. place < length text.now) }
-    ensures value { result ≡ refused text.now operand form over }
-    ensures inside { IfSome result (IsInside (length text.now)) }
+    ensures value { result ≡ operand_form_refusal text.now operand form over }
+    ensures inside { IfSome result (IsRefusedInside (length text.now)) }
 {
     if !form {
         return Some(refusal_at_token(text, operand, ParseCode::E2));

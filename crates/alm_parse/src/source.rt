@@ -2,7 +2,7 @@
 
 ghost use Rattle.std.specs.Prelude.{ℕ, List, [], ◌∷◌, ◌++◌, ◌≡◌, ◌^◌, ◌<◌, ◌≤◌, length, OnOk, OnErr, IfOk, All};
 ghost use Rattle.alm_parse.specs.Spans.{LineIn};
-ghost use Rattle.alm_parse.specs.Sources.{names_end, read_lines, parsed, ParseSays};
+ghost use Rattle.alm_parse.specs.Sources.{is_end_operation, read_lines, source_of_text, IsResultOf};
 
 use crate::fault::{AlmFault, fault_of};
 use crate::line::Line36;
@@ -95,8 +95,8 @@ impl Lines36 {
 }
 
 // Whether the operation of a line is `end`, after which the text is ignored.
-fn names_end(text: &[u8], op: Option<Span>) -> bool
-    ensures { result ≡ names_end text.now op }
+fn is_end_operation(text: &[u8], op: Option<Span>) -> bool
+    ensures { result ≡ is_end_operation text.now op }
 {
     match op {
         Some(op) => bytes_of(text, op) == b"end".as_slice(),
@@ -108,14 +108,14 @@ fn names_end(text: &[u8], op: Option<Span>) -> bool
 #[tactic(auto, using(crate::proofs::SourceLaws::read_all))]
 fn read_lines(alloc: Global, text: &[u8], rows: &[Row]) -> Result<Lines, AlmFault>
     requires { length text.now < 2 ^ 32 }
-    ensures says { ParseSays result (read_lines text.now [] rows.now) }
+    ensures says { IsResultOf result (read_lines text.now [] rows.now) }
     ensures count { IfOk result (λ lines. length lines ≤ length rows.now) }
 {
     let mut lines = Lines::new(alloc);
     for row in rows {
         match read_line(alloc, text, *row) {
             Ok(line) => {
-                let last = names_end(text, line.op);
+                let last = is_end_operation(text, line.op);
                 lines.push(line)?;
                 if last {
                     return Ok(lines);
@@ -129,10 +129,10 @@ fn read_lines(alloc: Global, text: &[u8], rows: &[Row]) -> Result<Lines, AlmFaul
 }
 
 // The lines of a text, with the text, or its first refusal.
-#[tactic(auto, using(crate::proofs::SourceLaws::refuses_all), unfolding(crate::specs::Sources::parsed))]
+#[tactic(auto, using(crate::proofs::SourceLaws::refuses_all), unfolding(crate::specs::Sources::source_of_text))]
 fn read_source(alloc: Global, text: &[u8]) -> Result<Lines36, AlmFault>
     requires { length text.now < 2 ^ 32 }
-    ensures { ParseSays result (parsed text.now) }
+    ensures { IsResultOf result (source_of_text text.now) }
 {
     let rows = rows_of(alloc, text)?;
     let lines = match read_lines(alloc, text, rows.items()) {
@@ -149,7 +149,7 @@ fn read_source(alloc: Global, text: &[u8]) -> Result<Lines36, AlmFault>
 #[tactic(auto, using(crate::proofs::SpanLines::spans_say))]
 pub fn parse(alloc: Global, text: &[u8]) -> Result<Lines36, AlmFault>
     requires { length text.now < 2 ^ 32 }
-    ensures says { ParseSays result (parsed text.now) }
+    ensures says { IsResultOf result (source_of_text text.now) }
     ensures fits { IfOk result (λ source. All (LineIn (length text.now)) source.lines) }
 {
     read_source(alloc, text)

@@ -4,20 +4,20 @@ use Rattle.std.proofs.lemmas.List.{length-append}
 use Rattle.std.proofs.Math.ListN.{drop_of_length-le}
 use Rattle.alm_tokens.specs.declared.pieces.Separator.{Separator}
 use Rattle.alm_tokens.specs.declared.pieces.TextPiece.{TextPiece}
-use Rattle.alm_tokens.specs.Pieces.{parts, piece_at, split_at}
+use Rattle.alm_tokens.specs.Pieces.{separates, piece_at, split_at}
 
 -- the cases of whether the next byte separates pieces
 cut_step :
     (parter : Separator) (minus : Bool) (from at : ℕ) (bytes : List ℕ) (i : ℕ) → i < length bytes
     → split_at parter minus from at (drop i bytes)
-    ≡ cond (parts parter (get_or bytes i 0)) (piece_at minus from at ∷ split_at parter (get_or bytes i 0 == 45) (at + 1) (at + 1) (drop (i + 1) bytes)) (split_at parter minus from (at + 1) (drop (i + 1) bytes))
+    ≡ cond (separates parter (get_or bytes i 0)) (piece_at minus from at ∷ split_at parter (get_or bytes i 0 == 45) (at + 1) (at + 1) (drop (i + 1) bytes)) (split_at parter minus from (at + 1) (drop (i + 1) bytes))
 unfolding split_at
 cut_step parter minus from at bytes i within = rw (add-one i, drop-cons bytes i 0) refl
 
 -- at a byte that separates, a piece ends
 pub cut_ends :
     (parter : Separator) (minus : Bool) (from at : ℕ) (bytes : List ℕ) (i : ℕ) → i < length bytes
-    → parts parter (get_or bytes i 0) ≡ true
+    → separates parter (get_or bytes i 0) ≡ true
     → split_at parter minus from at (drop i bytes) ≡ piece_at minus from at ∷ split_at parter (get_or bytes i 0 == 45) (at + 1) (at + 1) (drop (i + 1) bytes)
 cut_ends parter minus from at bytes i within e =
     cut_step parter minus from at bytes i within ∙ ap (λ parted. cond parted (piece_at minus from at ∷ split_at parter (get_or bytes i 0 == 45) (at + 1) (at + 1) (drop (i + 1) bytes)) (split_at parter minus from (at + 1) (drop (i + 1) bytes))) e
@@ -25,7 +25,7 @@ cut_ends parter minus from at bytes i within e =
 -- at any other byte the piece goes on
 pub cut_goes_on :
     (parter : Separator) (minus : Bool) (from at : ℕ) (bytes : List ℕ) (i : ℕ) → i < length bytes
-    → parts parter (get_or bytes i 0) ≡ false
+    → separates parter (get_or bytes i 0) ≡ false
     → split_at parter minus from at (drop i bytes) ≡ split_at parter minus from (at + 1) (drop (i + 1) bytes)
 cut_goes_on parter minus from at bytes i within e =
     cut_step parter minus from at bytes i within ∙ ap (λ parted. cond parted (piece_at minus from at ∷ split_at parter (get_or bytes i 0 == 45) (at + 1) (at + 1) (drop (i + 1) bytes)) (split_at parter minus from (at + 1) (drop (i + 1) bytes))) e

@@ -8,8 +8,8 @@ use Rattle.alm_tokens.specs.declared.span.Span.{Span}
 use Rattle.alm_tokens.specs.declared.pieces.TextPiece.{TextPiece}
 use Rattle.alm_tokens.specs.declared.numerals.Numeral.{Numeral}
 use Rattle.alm_tokens.specs.declared.numerals.Numeral.TheVariants.{Decimal, Octal, Small}
-use Rattle.alm_tokens.specs.Tokens.{slice_of, is_over}
-use Rattle.alm_tokens.specs.Numerals.{read_as}
+use Rattle.alm_tokens.specs.Tokens.{slice_of, is_over_number_limit}
+use Rattle.alm_tokens.specs.Numerals.{number_magnitude}
 use Rattle.alm_tokens.specs.Lists.{is_out_of_range}
 
 -- an item that is found passes the test
@@ -29,7 +29,7 @@ slice_inside text span some =
     omega (arith, some, count)
 
 -- an empty text is not a number
-pub out_some : (numeral : Numeral) (bytes : List ℕ) → is_over (read_as numeral bytes) ≡ true → 0 < length bytes
+pub out_some : (numeral : Numeral) (bytes : List ℕ) → is_over_number_limit (number_magnitude numeral bytes) ≡ true → 0 < length bytes
 unfolding number_read
 out_some Decimal [] e = absurd (false≢true e)
 out_some Octal [] e = absurd (false≢true e)

@@ -23,15 +23,15 @@ abbrev pub begins_comment : ℕ → Bool
 begins_comment b = b == 34
 
 -- whether `aci` can place a byte: octal 40 to 176
-abbrev pub is_character : ℕ → Bool
-is_character b = nat_le 32 b && nat_le b 126
+abbrev pub is_placeable_character : ℕ → Bool
+is_placeable_character b = nat_le 32 b && nat_le b 126
 
 -- whether a byte is one of | : * $ , or the quotation mark
-abbrev pub is_mark : ℕ → Bool
-is_mark b =
+abbrev pub is_punctuation : ℕ → Bool
+is_punctuation b =
     (b == 124) || (b == 58) || (b == 42) || (b == 36) || (b == 44) || begins_comment b
 
 -- Whether a source can have a byte outside comments and outside the characters of `aci`, up to its
 -- operation `end`.
-unfoldable pub is_legal : ℕ → Bool
-is_legal b = is_blank b || is_name_character b || (b == 10) || is_sign b || is_mark b
+unfoldable pub is_source_byte : ℕ → Bool
+is_source_byte b = is_blank b || is_name_character b || (b == 10) || is_sign b || is_punctuation b

@@ -19,15 +19,15 @@ abbrev pub numbered : List ℕ → ℕ → NumberedName
 numbered name number = record { name = name; number = number }
 
 -- the number of the first row that has a name
-abbrev pub number_beside : List NumberedName → List ℕ → Option ℕ
-number_beside [] bytes = None
-number_beside (row ∷ rows) bytes =
-    if is_text row.name bytes then Some row.number else number_beside rows bytes
+abbrev pub number_of_name : List NumberedName → List ℕ → Option ℕ
+number_of_name [] bytes = None
+number_of_name (row ∷ rows) bytes =
+    if is_text row.name bytes then Some row.number else number_of_name rows bytes
 
 -- a text without the `x` that may be at its beginning, as in the names of index registers
-abbrev pub after_x : List ℕ → List ℕ
-after_x [] = []
-after_x (b ∷ rest) = if b == 120 then rest else b ∷ rest
+abbrev pub without_x : List ℕ → List ℕ
+without_x [] = []
+without_x (b ∷ rest) = if b == 120 then rest else b ∷ rest
 
 -- the registers by which an address is modified, with their tags
 abbrev pub registers : List NumberedName
@@ -43,14 +43,14 @@ registers =
     ∷ []
 
 -- the tag of a register: 0 to 7 by its name, or 8 to 15 for X0 to X7
-unfoldable pub register_of : List ℕ → Option ℕ
-register_of bytes =
-    option_or (number_beside registers bytes) (option_map (λ n. 8 + n) (octal_in 1 (after_x bytes)))
+unfoldable pub register_tag : List ℕ → Option ℕ
+register_tag bytes =
+    option_or (number_of_name registers bytes) (option_map (λ n. 8 + n) (octal_in 1 (without_x bytes)))
 
 -- the number of a pointer register that is written `pr0` to `pr7`
-abbrev pub pr_digit : List ℕ → Option ℕ
-pr_digit (p ∷ r ∷ rest) = if (p == 112) && (r == 114) then octal_in 1 rest else None
-pr_digit _ = None
+abbrev pub pr_number_by_digit : List ℕ → Option ℕ
+pr_number_by_digit (p ∷ r ∷ rest) = if (p == 112) && (r == 114) then octal_in 1 rest else None
+pr_number_by_digit _ = None
 
 -- the names of the pointer registers, with their numbers
 abbrev pub pointer_registers : List NumberedName
@@ -66,24 +66,24 @@ pointer_registers =
     ∷ []
 
 -- the number of a pointer register that is written by its name
-unfoldable pub pr_name : List ℕ → Option ℕ
-pr_name bytes = number_beside pointer_registers bytes
+unfoldable pub pr_number_by_name : List ℕ → Option ℕ
+pr_number_by_name bytes = number_of_name pointer_registers bytes
 
 -- the number of a pointer register that is written in either way
 unfoldable pub pr_number : List ℕ → Option ℕ
-pr_number bytes = option_or (pr_digit bytes) (pr_name bytes)
+pr_number bytes = option_or (pr_number_by_digit bytes) (pr_number_by_name bytes)
 
 -- the tag of *, indirect modification without a register
 abbrev pub star_tag : ℕ
 star_tag = 0x10
 
 -- the tag of * before a register, without the number of the register
-abbrev pub first_tag : ℕ
-first_tag = 0x30
+abbrev pub indirect_first_tag : ℕ
+indirect_first_tag = 0x30
 
 -- the modifiers that are a name alone, `*` and the tally modifiers, with their tags
-abbrev pub single_tags : List NumberedName
-single_tags =
+abbrev pub single_name_tags : List NumberedName
+single_name_tags =
     numbered (codes "*") star_tag
     ∷ numbered (codes "sd") 0x24
     ∷ numbered (codes "i") 0x29
@@ -94,23 +94,23 @@ single_tags =
 
 -- the tag of `*` or a tally modifier
 unfoldable pub single_tag : List ℕ → Option ℕ
-single_tag bytes = number_beside single_tags bytes
+single_tag bytes = number_of_name single_name_tags bytes
 
 -- the tag of `*` before a register
-abbrev pub indirect_first : List ℕ → Option ℕ
-indirect_first [] = None
-indirect_first (b ∷ rest) =
-    if b == 42 then option_map (λ n. first_tag + n) (register_of rest) else None
+abbrev pub indirect_first_modifier : List ℕ → Option ℕ
+indirect_first_modifier [] = None
+indirect_first_modifier (b ∷ rest) =
+    if b == 42 then option_map (λ n. indirect_first_tag + n) (register_tag rest) else None
 
 -- the tag of `*` after a register
-abbrev pub indirect_last : List ℕ → Option ℕ
-indirect_last bytes =
+abbrev pub indirect_last_modifier : List ℕ → Option ℕ
+indirect_last_modifier bytes =
     if slice_index bytes (length bytes - 1) == 42
-    then option_map (λ n. star_tag + n) (register_of (take (length bytes - 1) bytes))
+    then option_map (λ n. star_tag + n) (register_tag (take (length bytes - 1) bytes))
     else None
 
 -- the tag of a modifier
 unfoldable pub tag_of : List ℕ → Option ℕ
 tag_of bytes =
     option_or (single_tag bytes)
-    (option_or (register_of bytes) (option_or (indirect_first bytes) (indirect_last bytes)))
+    (option_or (register_tag bytes) (option_or (indirect_first_modifier bytes) (indirect_last_modifier bytes)))

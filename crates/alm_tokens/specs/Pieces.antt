@@ -7,9 +7,9 @@ use Rattle.alm_tokens.specs.Tokens.{slice_of}
 use Rattle.alm_tokens.specs.Bytes.{is_minus, is_sign}
 
 -- whether a byte separates pieces
-abbrev pub parts : Separator → ℕ → Bool
-parts Comma b = b == 44
-parts Sign b = is_sign b
+abbrev pub separates : Separator → ℕ → Bool
+separates Comma b = b == 44
+separates Sign b = is_sign b
 
 -- the piece between two indexes, with its sign
 abbrev pub piece_at : Bool → ℕ → ℕ → TextPiece
@@ -20,7 +20,7 @@ piece_at minus from at = record { span = record { from = from; to = at }; minus 
 unfoldable pub split_at : Separator → Bool → ℕ → ℕ → List ℕ → List TextPiece
 split_at parter minus from at [] = piece_at minus from at ∷ []
 split_at parter minus from at (b ∷ rest) =
-    if parts parter b
+    if separates parter b
     then piece_at minus from at ∷ split_at parter (is_minus b) (at + 1) (at + 1) rest
     else split_at parter minus from (at + 1) rest
 

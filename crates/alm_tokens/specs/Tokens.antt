@@ -35,19 +35,19 @@ has_digits (Err T2) = true
 has_digits (Err (T1 place)) = false
 
 -- whether a text is a number over the limit, by the result of parsing it as a number
-abbrev pub is_over : Result ℕ NumberFault → Bool
-is_over (Ok v) = false
-is_over (Err T2) = true
-is_over (Err (T1 place)) = false
+abbrev pub is_over_number_limit : Result ℕ NumberFault → Bool
+is_over_number_limit (Ok v) = false
+is_over_number_limit (Err T2) = true
+is_over_number_limit (Err (T1 place)) = false
 
 -- the number that parsing a text as a number yields; 0 if it yields none
-abbrev pub value_of : Result ℕ NumberFault → ℕ
-value_of read = result_unwrap_or read 0
+abbrev pub number_or_zero : Result ℕ NumberFault → ℕ
+number_or_zero read = result_unwrap_or read 0
 
 -- the greatest number in an expression, and of the words of `bss`
-abbrev pub most_number : ℕ
-most_number = 262143
+abbrev pub greatest_number : ℕ
+greatest_number = 262143
 
 -- a text parsed as a number of an expression, or as the number of words of `bss`
-abbrev pub small_read : List ℕ → Result ℕ NumberFault
-small_read bytes = number_read 10 bytes most_number
+abbrev pub parsed_expression_number : List ℕ → Result ℕ NumberFault
+parsed_expression_number bytes = number_read 10 bytes greatest_number

@@ -1,7 +1,7 @@
 //! Classes of bytes.
 
 ghost use Rattle.std.specs.Prelude.{◌≡◌};
-ghost use Rattle.alm_tokens.specs.Bytes.{is_blank, begins_symbol, is_sign, is_character, is_legal};
+ghost use Rattle.alm_tokens.specs.Bytes.{is_blank, begins_symbol, is_sign, is_placeable_character, is_source_byte};
 
 use m36_text::{is_letter, is_name_character};
 
@@ -27,17 +27,17 @@ pub fn is_sign(byte: u8) -> bool
 }
 
 /// Whether a byte can be placed by `aci`: octal 40 to 176.
-pub fn is_character(byte: u8) -> bool
-    ensures { result ≡ is_character byte }
+pub fn is_placeable_character(byte: u8) -> bool
+    ensures { result ≡ is_placeable_character byte }
 {
     matches!(byte, 0o40..=0o176)
 }
 
 /// Whether a source can have this byte outside comments and outside the characters of `aci`, up to
 /// its operation `end`.
-#[tactic(auto, unfolding(crate::specs::Bytes::is_legal))]
-pub fn is_legal(byte: u8) -> bool
-    ensures { result ≡ is_legal byte }
+#[tactic(auto, unfolding(crate::specs::Bytes::is_source_byte))]
+pub fn is_source_byte(byte: u8) -> bool
+    ensures { result ≡ is_source_byte byte }
 {
     is_blank(byte)
         || is_name_character(byte)

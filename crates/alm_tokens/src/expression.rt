@@ -2,12 +2,12 @@
 
 ghost use Rattle.std.specs.Prelude.{ℕ, List, [], ◌∷◌, ◌++◌, ◌≡◌, ◌^◌, ◌<◌, ◌≤◌, length, map, OnOk, OnErr, IfOk};
 ghost use Rattle.std.specs.List.{list_all};
-ghost use Rattle.alm_tokens.specs.Expressions.{is_here, is_term, is_term_at, signed_start, expression_pieces, atom_of, term_of, IsSmall};
+ghost use Rattle.alm_tokens.specs.Expressions.{is_current_place, is_term, is_term_at, without_first_minus, expression_pieces, atom_of, term_of, IsSmall};
 
 use crate::numerals::is_number;
 use crate::pieces::{Pieces, Separator, TextPiece, pieces_of};
 use crate::span::{Span, bytes_of, first_byte};
-use crate::tokens::{is_symbol, read_small};
+use crate::tokens::{is_symbol, parse_expression_number};
 use m36_word::NoMemory;
 use std::alloc::Global;
 use std::marker::Model;
@@ -87,8 +87,8 @@ impl Expr {
 }
 
 // Whether a term is `*`, the current place.
-fn is_here(bytes: &[u8]) -> bool
-    ensures { result ≡ is_here bytes.now }
+fn is_current_place(bytes: &[u8]) -> bool
+    ensures { result ≡ is_current_place bytes.now }
 {
     bytes == b"*".as_slice()
 }
@@ -98,7 +98,7 @@ fn is_here(bytes: &[u8]) -> bool
 fn is_term(bytes: &[u8]) -> bool
     ensures { result ≡ is_term bytes.now }
 {
-    is_here(bytes) || is_number(bytes) || is_symbol(bytes)
+    is_current_place(bytes) || is_number(bytes) || is_symbol(bytes)
 }
 
 // Whether a piece is a term.
@@ -116,10 +116,10 @@ pub fn are_terms(text: &[u8], pieces: &[TextPiece]) -> bool
 }
 
 // The piece of a whole expression without the minus at its beginning, which negates the first term.
-#[tactic(auto, unfolding(crate::specs::Expressions::signed_start))]
-fn signed_start(text: &[u8], whole: TextPiece) -> TextPiece
+#[tactic(auto, unfolding(crate::specs::Expressions::without_first_minus))]
+fn without_first_minus(text: &[u8], whole: TextPiece) -> TextPiece
     requires { length text.now < 2 ^ 32 }
-    ensures { result ≡ signed_start text.now whole }
+    ensures { result ≡ without_first_minus text.now whole }
 {
     let span = whole.span;
     if first_byte(bytes_of(text, span)) != b'-' {
@@ -141,7 +141,7 @@ pub fn expression_pieces(alloc: Global, text: &[u8], whole: TextPiece) -> Result
     ensures value { IfOk result (λ p. p ≡ expression_pieces text.now whole) }
     ensures count { IfOk result (λ p. length p ≤ 2 ^ 32) }
 {
-    pieces_of(alloc, Separator::Sign, text, signed_start(text, whole))
+    pieces_of(alloc, Separator::Sign, text, without_first_minus(text, whole))
 }
 
 // The kind of a term, with its number if it is one; 0 if that is over the limit.
@@ -150,13 +150,13 @@ fn atom_of(bytes: &[u8]) -> Atom
     ensures value { result ≡ atom_of bytes.now }
     ensures bound { IsSmall result }
 {
-    if is_here(bytes) {
+    if is_current_place(bytes) {
         return Atom::Here;
     }
     if !is_number(bytes) {
         return Atom::Symbol;
     }
-    match read_small(bytes) {
+    match parse_expression_number(bytes) {
         Ok(value) => Atom::Number(value as u32),
         Err(_) => Atom::Number(0),
     }

@@ -3,7 +3,7 @@
 ghost use Rattle.std.specs.Prelude.{ℕ, ◌≡◌, ◌^◌, ◌<◌, ◌≤◌, ◌==◌, not, Bool, Option, Some, None, option_map, IfSome, IfOk, length};
 ghost use Rattle.std.specs.List.{All, position};
 ghost use Rattle.alm_tokens.specs.Bytes.{is_blank};
-ghost use Rattle.alm_tokens.specs.Heads.{IsMark, IsToken, turn_of, token, head_of, operand_start, operand_end, operand_in, delimited_in};
+ghost use Rattle.alm_tokens.specs.Heads.{IsLabelSpan, IsTokenSpan, token_step, token, head_of, operand_start, operand_end, operand_in, delimited_operand};
 
 use crate::bytes::is_blank;
 use crate::span::{Span, Spans, bytes_of, first_byte};
@@ -31,8 +31,8 @@ pub struct Head {
 }
 
 // The effect of a byte. `fresh` is true if the token has no byte yet.
-fn turn_of(byte: u8, fresh: bool) -> TokenStep
-    ensures { result ≡ turn_of byte fresh }
+fn token_step(byte: u8, fresh: bool) -> TokenStep
+    ensures { result ≡ token_step byte fresh }
 {
     if byte == b':' {
         return TokenStep::Label;
@@ -53,7 +53,7 @@ fn turn_of(byte: u8, fresh: bool) -> TokenStep
 // The token between two indexes. None if it has no byte.
 fn token(from: u32, to: u32) -> Option<Span>
     ensures value { result ≡ token from to }
-    ensures begun { from ≤ to → IfSome result (IsToken to) }
+    ensures begun { from ≤ to → IfSome result (IsTokenSpan to) }
 {
     if from == to {
         None
@@ -67,14 +67,14 @@ fn token(from: u32, to: u32) -> Option<Span>
 pub fn head_of(alloc: Global, text: &[u8], line: Span) -> Result<Head, NoMemory>
     requires { length text.now < 2 ^ 32 }
     ensures value { IfOk result (λ head. head ≡ head_of text.now line) }
-    ensures marks { IfOk result (λ head. All (IsMark (length text.now)) head.labels) }
-    ensures op { IfOk result (λ head. IfSome head.op (IsToken (length text.now))) }
+    ensures marks { IfOk result (λ head. All (IsLabelSpan (length text.now)) head.labels) }
+    ensures op { IfOk result (λ head. IfSome head.op (IsTokenSpan (length text.now))) }
 {
     let mut labels = Spans::new(alloc);
     let mut from = line.from;
     let mut at = line.from;
     for byte in bytes_of(text, line) {
-        match turn_of(*byte, from == at) {
+        match token_step(*byte, from == at) {
             TokenStep::Label => {
                 labels.push(Span { from, to: at })?;
                 from = at + 1;
@@ -146,10 +146,10 @@ pub fn operand_in(text: &[u8], rest: Span) -> Option<Span>
 
 /// The delimited characters in the rest of a line, with their delimiters, up to the end of the
 /// line. None if the rest has only blanks, or begins with a quotation mark, which begins a comment.
-#[tactic(auto, unfolding(crate::specs::Heads::delimited_in))]
-pub fn delimited_in(text: &[u8], rest: Span) -> Option<Span>
+#[tactic(auto, unfolding(crate::specs::Heads::delimited_operand))]
+pub fn delimited_operand(text: &[u8], rest: Span) -> Option<Span>
     requires { length text.now < 2 ^ 32 }
-    ensures value { result ≡ delimited_in text.now rest }
+    ensures value { result ≡ delimited_operand text.now rest }
     ensures within { IfSome result (λ span. span.from < length text.now) }
 {
     if first_byte(bytes_of(text, rest)) == b'"' {

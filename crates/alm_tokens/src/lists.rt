@@ -3,9 +3,9 @@
 ghost use Rattle.std.specs.Prelude.{ℕ, ◌≡◌, ◌^◌, ◌<◌, IfSome, IfOk, length};
 ghost use Rattle.std.specs.List.{list_all, find};
 ghost use Rattle.std.specs.Option.{option_copied};
-ghost use Rattle.alm_tokens.specs.Lists.{members, is_symbol_at, is_written_at, is_out_of_range, place_out};
+ghost use Rattle.alm_tokens.specs.Lists.{members, is_symbol_at, member_has_form_of, is_out_of_range, first_out_of_range_place};
 
-use crate::numerals::{Numeral, is_out, is_written};
+use crate::numerals::{Numeral, is_number_out_of_range, has_form_of};
 use crate::pieces::{Pieces, Separator, TextPiece, pieces_of};
 use crate::span::{Span, bytes_of};
 use crate::tokens::is_symbol;
@@ -40,30 +40,30 @@ pub fn are_symbols(text: &[u8], members: &[TextPiece]) -> bool
 }
 
 /// Whether a member has the form of this kind of number.
-pub fn is_written_at(numeral: Numeral, text: &[u8], member: &TextPiece) -> bool
-    ensures { result ≡ is_written_at numeral text.now member.now }
+pub fn member_has_form_of(numeral: Numeral, text: &[u8], member: &TextPiece) -> bool
+    ensures { result ≡ member_has_form_of numeral text.now member.now }
 {
-    is_written(numeral, bytes_of(text, member.span))
+    has_form_of(numeral, bytes_of(text, member.span))
 }
 
 /// Whether each member has the form of this kind of number.
-pub fn are_written(numeral: Numeral, text: &[u8], members: &[TextPiece]) -> bool
-    ensures { result ≡ list_all (is_written_at numeral text.now) members.now }
+pub fn members_have_form_of(numeral: Numeral, text: &[u8], members: &[TextPiece]) -> bool
+    ensures { result ≡ list_all (member_has_form_of numeral text.now) members.now }
 {
     members
         .iter()
-        .all(|member| is_written_at(numeral, text, member))
+        .all(|member| member_has_form_of(numeral, text, member))
 }
 
 // Whether a member is a number out of its range.
 fn is_out_of_range(numeral: Numeral, text: &[u8], member: &TextPiece) -> bool
     ensures { result ≡ is_out_of_range numeral text.now member.now }
 {
-    is_out(numeral, bytes_of(text, member.span))
+    is_number_out_of_range(numeral, bytes_of(text, member.span))
 }
 
 // The first member that is a number out of its range.
-fn first_out<'a>(numeral: Numeral, text: &[u8], members: &'a [TextPiece]) -> Option<&'a TextPiece>
+fn first_out_of_range<'a>(numeral: Numeral, text: &[u8], members: &'a [TextPiece]) -> Option<&'a TextPiece>
     ensures { option_copied result ≡ find (is_out_of_range numeral text.now) members.now }
 {
     members
@@ -72,12 +72,12 @@ fn first_out<'a>(numeral: Numeral, text: &[u8], members: &'a [TextPiece]) -> Opt
 }
 
 /// The index in the text of the first member that is a number out of its range.
-#[tactic(auto, unfolding(crate::specs::Lists::place_out))]
-pub fn place_out(numeral: Numeral, text: &[u8], members: &[TextPiece]) -> Option<u32>
-    ensures value { result ≡ place_out numeral text.now members.now }
+#[tactic(auto, unfolding(crate::specs::Lists::first_out_of_range_place))]
+pub fn first_out_of_range_place(numeral: Numeral, text: &[u8], members: &[TextPiece]) -> Option<u32>
+    ensures value { result ≡ first_out_of_range_place numeral text.now members.now }
     ensures within { IfSome result (λ place. place < length text.now) }
 {
-    match first_out(numeral, text, members) {
+    match first_out_of_range(numeral, text, members) {
         Some(member) => Some(member.span.from),
         None => None,
     }

@@ -2,7 +2,7 @@
 
 ghost use Rattle.std.specs.Prelude.{ℕ, ◌≡◌, ◌<◌, IfSome};
 ghost use Rattle.m36_text.specs.Numbers.{octal_in};
-ghost use Rattle.alm_tokens.specs.Modifiers.{after_x, register_of, pr_digit, pr_name, pr_number, single_tag, indirect_first, indirect_last, tag_of};
+ghost use Rattle.alm_tokens.specs.Modifiers.{without_x, register_tag, pr_number_by_digit, pr_number_by_name, pr_number, single_tag, indirect_first_modifier, indirect_last_modifier, tag_of};
 
 use m36_text::{is_text, octal_in};
 
@@ -16,8 +16,8 @@ fn octal_digit(bytes: &[u8]) -> Option<u8>
 }
 
 // A text without the `x` that may be at its beginning, as in the names of index registers.
-fn after_x(bytes: &[u8]) -> &[u8]
-    ensures { result.now ≡ after_x bytes.now }
+fn without_x(bytes: &[u8]) -> &[u8]
+    ensures { result.now ≡ without_x bytes.now }
 {
     match bytes {
         [b'x', rest @ ..] => rest,
@@ -27,9 +27,9 @@ fn after_x(bytes: &[u8]) -> &[u8]
 
 /// The tag of a register that modifies an address, 0 to 15. `n` is no register, and a digit alone
 /// is an index register.
-#[tactic(auto, unfolding(crate::specs::Modifiers::register_of))]
-pub fn register_of(bytes: &[u8]) -> Option<u8>
-    ensures value { result ≡ register_of bytes.now }
+#[tactic(auto, unfolding(crate::specs::Modifiers::register_tag))]
+pub fn register_tag(bytes: &[u8]) -> Option<u8>
+    ensures value { result ≡ register_tag bytes.now }
     ensures below { IfSome result (λ n. n < 16) }
 {
     if is_text(b"n", bytes) {
@@ -56,13 +56,13 @@ pub fn register_of(bytes: &[u8]) -> Option<u8>
     if is_text(b"dl", bytes) {
         return Some(7);
     }
-    let index = octal_digit(after_x(bytes))?;
+    let index = octal_digit(without_x(bytes))?;
     Some(8 + index)
 }
 
 // The number of a pointer register that is written `pr0` to `pr7`.
-fn pr_digit(bytes: &[u8]) -> Option<u8>
-    ensures value { result ≡ pr_digit bytes.now }
+fn pr_number_by_digit(bytes: &[u8]) -> Option<u8>
+    ensures value { result ≡ pr_number_by_digit bytes.now }
     ensures below { IfSome result (λ n. n < 8) }
 {
     match bytes {
@@ -72,9 +72,9 @@ fn pr_digit(bytes: &[u8]) -> Option<u8>
 }
 
 // The number of a pointer register that is written by its name, `ap` to `sb`.
-#[tactic(auto, unfolding(crate::specs::Modifiers::pr_name))]
-fn pr_name(bytes: &[u8]) -> Option<u8>
-    ensures value { result ≡ pr_name bytes.now }
+#[tactic(auto, unfolding(crate::specs::Modifiers::pr_number_by_name))]
+fn pr_number_by_name(bytes: &[u8]) -> Option<u8>
+    ensures value { result ≡ pr_number_by_name bytes.now }
     ensures below { IfSome result (λ n. n < 8) }
 {
     if is_text(b"ap", bytes) {
@@ -110,9 +110,9 @@ pub fn pr_number(bytes: &[u8]) -> Option<u8>
     ensures value { result ≡ pr_number bytes.now }
     ensures below { IfSome result (λ n. n < 8) }
 {
-    match pr_digit(bytes) {
+    match pr_number_by_digit(bytes) {
         Some(number) => Some(number),
-        None => pr_name(bytes),
+        None => pr_number_by_name(bytes),
     }
 }
 
@@ -144,13 +144,13 @@ fn single_tag(bytes: &[u8]) -> Option<u8>
 }
 
 // The tag of `*` before a register.
-fn indirect_first(bytes: &[u8]) -> Option<u8>
-    ensures value { result ≡ indirect_first bytes.now }
+fn indirect_first_modifier(bytes: &[u8]) -> Option<u8>
+    ensures value { result ≡ indirect_first_modifier bytes.now }
     ensures below { IfSome result (λ n. n < 64) }
 {
     match bytes {
         [b'*', rest @ ..] => {
-            let register = register_of(rest)?;
+            let register = register_tag(rest)?;
             Some(0o60 + register)
         }
         _ => None,
@@ -158,8 +158,8 @@ fn indirect_first(bytes: &[u8]) -> Option<u8>
 }
 
 // The tag of `*` after a register.
-fn indirect_last(bytes: &[u8]) -> Option<u8>
-    ensures value { result ≡ indirect_last bytes.now }
+fn indirect_last_modifier(bytes: &[u8]) -> Option<u8>
+    ensures value { result ≡ indirect_last_modifier bytes.now }
     ensures below { IfSome result (λ n. n < 64) }
 {
     if bytes.is_empty() {
@@ -169,7 +169,7 @@ fn indirect_last(bytes: &[u8]) -> Option<u8>
     if bytes[last] != b'*' {
         return None;
     }
-    let register = register_of(&bytes[..last])?;
+    let register = register_tag(&bytes[..last])?;
     Some(0o20 + register)
 }
 
@@ -182,11 +182,11 @@ pub fn tag_of(bytes: &[u8]) -> Option<u8>
     if let Some(tag) = single_tag(bytes) {
         return Some(tag);
     }
-    if let Some(tag) = register_of(bytes) {
+    if let Some(tag) = register_tag(bytes) {
         return Some(tag);
     }
-    if let Some(tag) = indirect_first(bytes) {
+    if let Some(tag) = indirect_first_modifier(bytes) {
         return Some(tag);
     }
-    indirect_last(bytes)
+    indirect_last_modifier(bytes)
 }

@@ -1,12 +1,12 @@
 //! Numbers that a word can hold.
 
 ghost use Rattle.std.specs.Prelude.{ℕ, ◌≡◌, ◌≤◌, ◌^◌, ◌<◌, IfOk, length, slice_index};
-ghost use Rattle.alm_tokens.specs.Numerals.{is_negative, unsigned, greatest_word, read_as, is_written, is_number, signed_word, word_as};
-ghost use Rattle.alm_tokens.specs.Tokens.{is_over, value_of};
+ghost use Rattle.alm_tokens.specs.Numerals.{is_negative, without_sign, greatest_word, number_magnitude, has_form_of, is_number, signed_word, number_word};
+ghost use Rattle.alm_tokens.specs.Tokens.{is_over_number_limit, number_or_zero};
 
 use crate::bytes::is_sign;
 use crate::span::first_byte;
-use crate::tokens::{has_digits, is_over, read_small};
+use crate::tokens::{has_digits, is_over_number_limit, parse_expression_number};
 use m36_text::{NumberFault, has_no_leading_zero, read_decimal, read_octal};
 use m36_word::Word;
 
@@ -32,8 +32,8 @@ fn is_negative(bytes: &[u8]) -> bool
 }
 
 // A number without its sign.
-fn unsigned(bytes: &[u8]) -> &[u8]
-    ensures { result.now ≡ unsigned bytes.now }
+fn without_sign(bytes: &[u8]) -> &[u8]
+    ensures { result.now ≡ without_sign bytes.now }
 {
     match bytes {
         [first, rest @ ..] if is_sign(*first) => rest,
@@ -42,33 +42,33 @@ fn unsigned(bytes: &[u8]) -> &[u8]
 }
 
 /// Parses a number of this notation and returns its magnitude, or the fault of the text.
-pub fn read_as(numeral: Numeral, bytes: &[u8]) -> Result<u64, NumberFault>
-    ensures value { result ≡ read_as numeral bytes.now }
+pub fn number_magnitude(numeral: Numeral, bytes: &[u8]) -> Result<u64, NumberFault>
+    ensures value { result ≡ number_magnitude numeral bytes.now }
     ensures bound { IfOk result (λ v. v ≤ greatest_word) }
 {
     match numeral {
         Numeral::Decimal => {
             if is_negative(bytes) {
-                read_decimal(unsigned(bytes), 0o400000000000)
+                read_decimal(without_sign(bytes), 0o400000000000)
             } else {
-                read_decimal(unsigned(bytes), GREATEST_WORD)
+                read_decimal(without_sign(bytes), GREATEST_WORD)
             }
         }
         Numeral::Octal => read_octal(bytes, GREATEST_WORD),
-        Numeral::Small => read_small(bytes),
+        Numeral::Small => parse_expression_number(bytes),
     }
 }
 
 /// Whether a text has the form of this kind of number, within its range or not.
-pub fn is_written(numeral: Numeral, bytes: &[u8]) -> bool
-    ensures { result ≡ is_written numeral bytes.now }
+pub fn has_form_of(numeral: Numeral, bytes: &[u8]) -> bool
+    ensures { result ≡ has_form_of numeral bytes.now }
 {
-    if !has_digits(read_as(numeral, bytes)) {
+    if !has_digits(number_magnitude(numeral, bytes)) {
         return false;
     }
     match numeral {
         Numeral::Octal => true,
-        Numeral::Decimal => has_no_leading_zero(unsigned(bytes)),
+        Numeral::Decimal => has_no_leading_zero(without_sign(bytes)),
         Numeral::Small => has_no_leading_zero(bytes),
     }
 }
@@ -78,14 +78,14 @@ pub fn is_written(numeral: Numeral, bytes: &[u8]) -> bool
 pub fn is_number(bytes: &[u8]) -> bool
     ensures { result ≡ is_number bytes.now }
 {
-    is_written(Numeral::Small, bytes)
+    has_form_of(Numeral::Small, bytes)
 }
 
 /// Whether a text is a number out of the range of its kind.
-pub fn is_out(numeral: Numeral, bytes: &[u8]) -> bool
-    ensures { result ≡ is_over (read_as numeral bytes.now) }
+pub fn is_number_out_of_range(numeral: Numeral, bytes: &[u8]) -> bool
+    ensures { result ≡ is_over_number_limit (number_magnitude numeral bytes.now) }
 {
-    is_over(read_as(numeral, bytes))
+    is_over_number_limit(number_magnitude(numeral, bytes))
 }
 
 // The word of a number; a negative one is in two's complement.
@@ -101,9 +101,9 @@ fn signed_word(negative: bool, magnitude: u64) -> Word
 }
 
 // The number that parsing a text as a number yields; 0 if it yields none.
-fn value_of(read: Result<u64, NumberFault>) -> u64
+fn number_or_zero(read: Result<u64, NumberFault>) -> u64
     requires { IfOk read (λ v. v ≤ greatest_word) }
-    ensures value { result ≡ value_of read }
+    ensures value { result ≡ number_or_zero read }
     ensures bound { result ≤ greatest_word }
 {
     match read {
@@ -114,10 +114,10 @@ fn value_of(read: Result<u64, NumberFault>) -> u64
 
 /// The word of a number; a negative number is in two's complement. A text that is not such a number
 /// counts as 0.
-pub fn word_as(numeral: Numeral, bytes: &[u8]) -> Word
-    ensures { result ≡ word_as numeral bytes.now }
+pub fn number_word(numeral: Numeral, bytes: &[u8]) -> Word
+    ensures { result ≡ number_word numeral bytes.now }
 {
-    let magnitude = value_of(read_as(numeral, bytes));
+    let magnitude = number_or_zero(number_magnitude(numeral, bytes));
     match numeral {
         Numeral::Decimal => signed_word(is_negative(bytes), magnitude),
         Numeral::Octal | Numeral::Small => signed_word(false, magnitude),

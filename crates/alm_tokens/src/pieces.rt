@@ -2,7 +2,7 @@
 //! signs.
 
 ghost use Rattle.std.specs.Prelude.{ℕ, List, [], ◌∷◌, ◌++◌, ◌≡◌, ◌^◌, ◌<◌, ◌≤◌, length, OnOk, OnErr, IfOk};
-ghost use Rattle.alm_tokens.specs.Pieces.{parts, pieces_of};
+ghost use Rattle.alm_tokens.specs.Pieces.{separates, pieces_of};
 
 use crate::bytes::is_sign;
 use crate::span::{Span, bytes_of};
@@ -67,8 +67,8 @@ impl Pieces {
 }
 
 // Whether a byte separates pieces.
-fn parts(parter: Separator, byte: u8) -> bool
-    ensures { result ≡ parts parter byte }
+fn separates(parter: Separator, byte: u8) -> bool
+    ensures { result ≡ separates parter byte }
 {
     match parter {
         Separator::Comma => byte == b',',
@@ -93,7 +93,7 @@ fn push_pieces(
     let mut from = whole.span.from;
     let mut at = from;
     for byte in bytes_of(text, whole.span) {
-        if parts(parter, *byte) {
+        if separates(parter, *byte) {
             pieces.push(TextPiece {
                 span: Span { from, to: at },
                 minus,

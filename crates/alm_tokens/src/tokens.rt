@@ -2,7 +2,7 @@
 
 ghost use Rattle.std.specs.Prelude.{ℕ, ◌≡◌, ◌≤◌, IfOk};
 ghost use Rattle.m36_text.specs.Reading.{number_read};
-ghost use Rattle.alm_tokens.specs.Tokens.{is_symbol, has_digits, is_over, small_read, most_number};
+ghost use Rattle.alm_tokens.specs.Tokens.{is_symbol, has_digits, is_over_number_limit, parsed_expression_number, greatest_number};
 
 use crate::bytes::begins_symbol;
 use crate::span::first_byte;
@@ -31,8 +31,8 @@ pub fn has_digits(read: Result<u64, NumberFault>) -> bool
 }
 
 /// Whether a text is a number over the limit, given the result of parsing it as a number.
-pub fn is_over(read: Result<u64, NumberFault>) -> bool
-    ensures { result ≡ is_over read }
+pub fn is_over_number_limit(read: Result<u64, NumberFault>) -> bool
+    ensures { result ≡ is_over_number_limit read }
 {
     match read {
         Err(NumberFault::T2) => true,
@@ -41,9 +41,9 @@ pub fn is_over(read: Result<u64, NumberFault>) -> bool
 }
 
 /// Parses a decimal number of an expression: at most 262143.
-pub fn read_small(bytes: &[u8]) -> Result<u64, NumberFault>
-    ensures value { result ≡ small_read bytes.now }
-    ensures bound { IfOk result (λ v. v ≤ most_number) }
+pub fn parse_expression_number(bytes: &[u8]) -> Result<u64, NumberFault>
+    ensures value { result ≡ parsed_expression_number bytes.now }
+    ensures bound { IfOk result (λ v. v ≤ greatest_number) }
 {
     read_decimal(bytes, MOST)
 }

@@ -13,7 +13,7 @@ use Rattle.m36_world.specs.declared.event.Event.TheVariants.{FileRead, FileWrite
 use Rattle.m36_world.specs.declared.event.Event.TheVariants.{InputFailed}
 use Rattle.m36_world.proofs.Following.{follow_split, follow_logs}
 use Rattle.m36_model.specs.Store.{State}
-use Rattle.m36_super.specs.BootSays.{IsBooted}
+use Rattle.m36_super.specs.BootResult.{IsBooted}
 use Rattle.m36_super.specs.Library.{Library}
 use Rattle.m36_super.specs.SuperFields.{SuperFields}
 use Rattle.m36_status.specs.declared.status.Status.{Status}
@@ -24,14 +24,14 @@ use Rattle.m36_program.specs.Objects.{PerformsOver}
 use Rattle.m36_program.specs.Performs.{Performs}
 use Rattle.m36_program.specs.Program.{May, Program, done, stops, reads, writes, puts, takes, some, wants, then_with}
 use Rattle.m36_program.specs.Reader.{IsReader}
-use Rattle.m36_program.specs.Trail.{output_of, pieces_of, put_of}
+use Rattle.m36_program.specs.MayHappen.{output_of, pieces_of, put_answer_of}
 use Rattle.m36_program.proofs.KeptLaws.{after_read, passed_none}
 use Rattle.m36_program.proofs.Objects.{over_performs, world_before, world_after}
 use Rattle.m36_program.proofs.ProgramLaws.{performs_text}
 use Rattle.m36_program.proofs.ReaderLaws.{reader_pieces, reader_files, reader_input, reader_split, read_by}
 use Rattle.m36_program.proofs.TrailLaws.{read_map}
 use Rattle.cmd_folder.specs.Folder.{FolderFields}
-use Rattle.m36_debug.specs.Session.{Turning}
+use Rattle.m36_debug.specs.Session.{MachineRelations}
 use Rattle.m36_debug.specs.SessionProgram.{talking, Talk, session}
 use Rattle.m36_debug.proofs.SessionText.{is_held, session_done}
 use Rattle.cmd_image.specs.ImageProgram.{image_state}
@@ -60,21 +60,21 @@ pieces_both (InputFailed ∷ first) more = pieces_both first more
 
 reader_put :
     {may : May} {A : Type 0} (p : Program may A) (events : List Event) (result : Result A Status) → IsReader p
-    → Goes p events result → put_of events ≡ Done
+    → Goes p events result → put_answer_of events ≡ Done
 unfolding IsReader Goes
-reader_put (done a) events result is goes = ap put_of goes.none
-reader_put (stops s own) events result is goes = ap put_of goes.none
+reader_put (done a) events result is goes = ap put_answer_of goes.none
+reader_put (stops s own) events result is goes = ap put_answer_of goes.none
 reader_put (reads name go) events result is goes =
-    ap put_of goes.first
-    ∙ after_read goes.answer (put_of goes.more ≡ Done) goes.more result (ap put_of) (λ on. on)
-    (read_map goes.answer _ (λ found more. put_of goes.more ≡ Done) goes.more result
+    ap put_answer_of goes.first
+    ∙ after_read goes.answer (put_answer_of goes.more ≡ Done) goes.more result (ap put_answer_of) (λ on. on)
+    (read_map goes.answer _ (λ found more. put_answer_of goes.more ≡ Done) goes.more result
     (λ found on. reader_put (go found) goes.more result (is found) on) goes.rest)
 reader_put (writes allowed name content p) events result is goes = absurd is
 reader_put (puts piece p) events result is goes = absurd is
 reader_put (takes allowed go) events result is goes = absurd is
 reader_put (some Is go) events result is goes = absurd (is goes.value goes.is)
 reader_put (wants p) events result is (inl goes) = reader_put p events result is goes
-reader_put (wants p) events result is (inr ends) = ap put_of ends.none
+reader_put (wants p) events result is (inr ends) = ap put_answer_of ends.none
 
 none_put : (old new : Seen) → PutsPieces Done [] (output_of old) (output_of new) → output_of new ≡ output_of old
 none_put old new put =
@@ -106,7 +106,7 @@ nothing_at seen = record {
 -- ---- a session
 
 held_over :
-    {M : Type 0} (o : Turning M) (m : M) (result : Result (Unit {0}) Status) (old new : Seen)
+    {M : Type 0} (o : MachineRelations M) (m : M) (result : Result (Unit {0}) Status) (old new : Seen)
     → Performs (wants (session o m)) result old new → IsHeldOver o m result old new
 unfolding Goes
 held_over o m result old new performs =
@@ -209,7 +209,7 @@ folder_call result old new performs =
 -- ---- over three objects: the same of the states without events and references
 
 held_later :
-    {M : Type 0} (o : Turning M) (m : M) (result : Result (Unit {0}) Status) (old new : Seen) (events : List Event)
+    {M : Type 0} (o : MachineRelations M) (m : M) (result : Result (Unit {0}) Status) (old new : Seen) (events : List Event)
     (references : List ℕ)
     → IsHeldOver o m result old (record new { events = events; references = references }) → IsHeldOver o m result old
     new
@@ -334,7 +334,7 @@ pub not_end : {P : Type 0} (result : Result (Unit {0}) Status) → result ≡ Er
 not_end result is ended = absurd (let end : IsEnd {A = Unit {0}} (Err status.NoMemory) = subst IsEnd is ended in end)
 
 held_done :
-    {M : Type 0} (o : Turning M) (m : M) (events : List Event) (result : Result (Unit {0}) Status) (old new : Seen)
+    {M : Type 0} (o : MachineRelations M) (m : M) (events : List Event) (result : Result (Unit {0}) Status) (old new : Seen)
     → SessionNeeds old.left → Goes (wants (session o m)) events result → Follow events old new → IsEnd result → result ≡
     Ok tt
 unfolding Goes

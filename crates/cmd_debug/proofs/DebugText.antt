@@ -23,11 +23,11 @@ use Rattle.m36_program.specs.Alike.{IsEnd, OneText}
 use Rattle.m36_program.specs.Goes.{Goes}
 use Rattle.m36_program.specs.Performs.{Performs}
 use Rattle.m36_program.specs.Program.{wants}
-use Rattle.m36_program.specs.Reader.{outcome_in}
-use Rattle.m36_program.specs.Trail.{output_of, pieces_of, put_of}
+use Rattle.m36_program.specs.Reader.{reader_result}
+use Rattle.m36_program.specs.MayHappen.{output_of, pieces_of, put_answer_of}
 use Rattle.m36_program.proofs.ProgramLaws.{performs_text}
 use Rattle.m36_program.proofs.ReaderLaws.{reader_pieces, reader_input, reader_outcome, reader_split}
-use Rattle.m36_debug.specs.Session.{Turning}
+use Rattle.m36_debug.specs.Session.{MachineRelations}
 use Rattle.m36_debug.specs.SessionProgram.{talking, session}
 use Rattle.m36_debug.specs.SessionText.{OneAnswer, IsDeterministic}
 use Rattle.m36_debug.proofs.SessionText.{session_one_text}
@@ -71,7 +71,7 @@ nothing_put events others result end none ended =
     record { left = pieces_of others; is = ap (λ l. l ++ pieces_of others) (sym none); ended = ended }
 
 wants_text :
-    {M : Type 0} (o : Turning M) (m : M) (bytes : List ℕ) (result end : Result (Unit {0}) Status)
+    {M : Type 0} (o : MachineRelations M) (m : M) (bytes : List ℕ) (result end : Result (Unit {0}) Status)
     (old new old' new' : Seen) (events others : List Event)
     → IsDeterministic o → IsEnd end → old.left ≡ Some bytes → old'.left ≡ Some bytes
     → Follow events old new → Follow others old' new'
@@ -121,7 +121,7 @@ own_end A result s is ended = let end : IsEnd {A = Unit {0}} (Err s) = subst IsE
 record Read (name : List ℕ) (files : Files) (events : List Event) (result : Result (Unit {0}) Status) (old new : Seen)
     : Type 0 where
   value : State (List ℕ)
-  outcome : outcome_in files (image_state {may = talking} name) ≡ Some (Ok value)
+  outcome : reader_result files (image_state {may = talking} name) ≡ Some (Ok value)
   between : Seen
   left : between.left ≡ old.left
   more : List Event
@@ -133,7 +133,7 @@ record Read (name : List ℕ) (files : Files) (events : List Event) (result : Re
 record Refused (name : List ℕ) (files : Files) (events : List Event) (result : Result (Unit {0}) Status) : Type 0 where
   status : Status
   result_is : result ≡ Err status
-  outcome : IsEnd result → outcome_in files (image_state {may = talking} name) ≡ Some (Err status)
+  outcome : IsEnd result → reader_result files (image_state {may = talking} name) ≡ Some (Err status)
   pieces : pieces_of events ≡ []
 
 abbrev ReadOrRefused : List ℕ → Files → List Event → Result (Unit {0}) Status → Seen → Seen → Type 0
@@ -234,7 +234,7 @@ debug_text_law = record {
       call_text name files bytes result end old new old' new' is_end told told' left left' one other;
   written = λ name files bytes result end old new old' new' is_end told told' left left' one other.
       let text = call_text name files bytes result end old new old' new' is_end told told' left left' one other in
-      grew_first (put_of one.events) (pieces_of one.events) text.left (pieces_of other.events) old new text.is
+      grew_first (put_answer_of one.events) (pieces_of one.events) text.left (pieces_of other.events) old new text.is
       (performs_text (debug_image name) result old new one);
   folder = λ files bytes result end old new old' new' is_end told told' left left' one other.
       folder_text files bytes result end old new old' new' is_end told told' left left' one other;

@@ -14,13 +14,13 @@ use Rattle.m36_step.specs.declared.turns.Turn.{Turn}
 use Rattle.m36_step.specs.declared.turns.Turn.TheVariants as turns
 use Rattle.m36_step.specs.declared.turns.BackAnswer.{BackAnswer}
 use Rattle.m36_step.specs.declared.turns.BackAnswer.TheVariants as back
-use Rattle.m36_super.specs.BootSays.{IsBooted}
+use Rattle.m36_super.specs.BootResult.{IsBooted}
 use Rattle.m36_super.specs.BootedRun.{LaidOutUntilLdbr, flat_run_of}
 use Rattle.m36_super.specs.FlatRun.{FlatRun, FlatTurn, flat_turn}
 use Rattle.m36_super.specs.Library.{Library}
 use Rattle.m36_super.specs.SuperFields.{SuperFields, booted_of}
-use Rattle.m36_super.specs.SuperTurn.{SuperTurns, SuperWent, content_by, super_content}
-use Rattle.m36_super.specs.TurnLaws.{LocatesInTurn, IsFlatTurn, IsPlainTurn}
+use Rattle.m36_super.specs.SuperTurn.{SuperTurns, SuperBack, content_by, super_content}
+use Rattle.m36_super.specs.TurnLaws.{TurnExecutesAbsa, IsFlatTurn, IsPlainTurn}
 use Rattle.m36_super.proofs.Audited.{flat_loaded, not_located, plain_flat}
 use Rattle.m36_super.proofs.BootTurns.{start_lib, start_unloaded}
 use Rattle.m36_super.proofs.Turns.{turn_law}
@@ -29,8 +29,8 @@ use Rattle.m36_program.specs.Alike.{IsEnd}
 use Rattle.m36_program.specs.Goes.{Goes}
 use Rattle.m36_program.specs.Performs.{Performs}
 use Rattle.m36_program.specs.Program.{wants}
-use Rattle.m36_program.specs.Reader.{outcome_in}
-use Rattle.m36_program.specs.Trail.{pieces_of}
+use Rattle.m36_program.specs.Reader.{reader_result}
+use Rattle.m36_program.specs.MayHappen.{pieces_of}
 use Rattle.m36_program.proofs.ReaderLaws.{reader_pieces, reader_input, reader_outcome, reader_split}
 use Rattle.cmd_folder.specs.Folder.{FolderFields}
 use Rattle.cmd_folder.proofs.OneSystem.{one_system}
@@ -118,14 +118,14 @@ turn_alike s t s' t' one other alike next next' plain =
       ))
       | inr (inl memory) ↦ inl memory.0
       | inr (inr locates) ↦ absurd (not_located other
-          (subst LocatesInTurn (sym flat'.turn_is) (subst LocatesInTurn (ap (λ (f : FlatTurn). f.turn) same)
+          (subst TurnExecutesAbsa (sym flat'.turn_is) (subst TurnExecutesAbsa (ap (λ (f : FlatTurn). f.turn) same)
           (kept.locates locates)))
           plain)
     ]
 
 back_alike :
-    (s t s' t' : SuperFields) (n : ℕ) (one other : BackAnswer) → AlikeSystems s t → SuperWent s n one s'
-    → SuperWent t n other t'
+    (s t s' t' : SuperFields) (n : ℕ) (one other : BackAnswer) → AlikeSystems s t → SuperBack s n one s'
+    → SuperBack t n other t'
     → SameAnswer AlikeSystems back.NoMemory one other s' t'
 back_alike s t s' t' n one other alike went went' = inr (inr (
   went.0 ∙ sym went'.0,
@@ -179,11 +179,11 @@ wants_plain system other bytes result end old new old' new' events alike is_end 
 
 given_by_files :
     (given : FolderFields) (files : Files) (shown : Option Files) → shown ≡ Some files
-    → IfSome shown (λ f. outcome_in f (folder_given {may = talking} None) ≡ Some (Ok given))
-    → outcome_in files (folder_given {may = talking} None) ≡ Some (Ok given)
+    → IfSome shown (λ f. reader_result f (folder_given {may = talking} None) ≡ Some (Ok given))
+    → reader_result files (folder_given {may = talking} None) ≡ Some (Ok given)
 given_by_files given files shown is says =
-    let at : IfSome (Some files) (λ f. outcome_in f (folder_given {may = talking} None) ≡ Some (Ok given)) =
-    subst (λ (t : Option Files). IfSome t (λ f. outcome_in f (folder_given {may = talking} None) ≡ Some (Ok given))) is
+    let at : IfSome (Some files) (λ f. reader_result f (folder_given {may = talking} None) ≡ Some (Ok given)) =
+    subst (λ (t : Option Files). IfSome t (λ f. reader_result f (folder_given {may = talking} None) ≡ Some (Ok given))) is
     says in at
 
 same_given : (a b : FolderFields) → (let r : Option (Result FolderFields Status) = Some (Ok a) in r) ≡ Some (Ok b)

@@ -2,7 +2,7 @@
 -- folder; then hold a session over the machine.
 use Rattle.std.specs.Prelude.{ℕ, List, None}
 use Rattle.m36_model.specs.Store.{State}
-use Rattle.m36_super.specs.BootSays.{IsBooted}
+use Rattle.m36_super.specs.BootResult.{IsBooted}
 use Rattle.m36_super.specs.Library.{Library}
 use Rattle.m36_program.specs.Program.{some, wants, then_with}
 use Rattle.cmd_folder.specs.Folder.{FolderFields}

@@ -7,8 +7,8 @@ use Rattle.m36_step.specs.MachineFields.{MachineFields}
 use Rattle.m36_step.specs.MachineTurn.{machine_turn, machine_after}
 use Rattle.m36_back.specs.History.{History, current_state, PastTurns, MayGoBack}
 use Rattle.m36_super.specs.SuperFields.{SuperFields}
-use Rattle.m36_super.specs.SuperTurn.{SuperTurns, SuperWent, super_content}
-use Rattle.m36_debug.specs.Session.{Turning, turning}
+use Rattle.m36_super.specs.SuperTurn.{SuperTurns, SuperBack, super_content}
+use Rattle.m36_debug.specs.Session.{MachineRelations, machine_relations}
 
 -- ---- the machine of an image
 
@@ -18,9 +18,9 @@ new_history state = record { first = record { state = state; ended = None }; tak
 
 -- what a session uses of the machine of an image: its registers and words, its turns, and how it
 -- goes back
-abbrev pub past_turning : Turning (History MachineFields)
+abbrev pub past_turning : MachineRelations (History MachineFields)
 past_turning =
-    turning (λ h. (current_state machine_after h).state.regs)
+    machine_relations (λ h. (current_state machine_after h).state.regs)
     (λ h seg word. content core_store (current_state machine_after h).state seg word)
     (λ before turn later. PastTurns machine_turn machine_after before turn later)
     (λ before n answer later. MayGoBack before n answer later)
@@ -28,7 +28,7 @@ past_turning =
 -- ---- a booted system, which never goes back
 
 -- what a session uses of a booted system
-abbrev pub super_turning : Turning SuperFields
+abbrev pub super_turning : MachineRelations SuperFields
 super_turning =
-    turning (λ s. s.regs) super_content (λ before turn later. SuperTurns before turn later)
-    (λ before n answer later. SuperWent before n answer later)
+    machine_relations (λ s. s.regs) super_content (λ before turn later. SuperTurns before turn later)
+    (λ before n answer later. SuperBack before n answer later)

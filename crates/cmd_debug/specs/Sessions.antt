@@ -10,7 +10,7 @@ use Rattle.m36_world.specs.Logs.{read_of}
 use Rattle.m36_world.specs.Seen.{Seen}
 use Rattle.m36_world.specs.declared.event.Event.{Event}
 use Rattle.m36_model.specs.Store.{State}
-use Rattle.m36_super.specs.BootSays.{IsBooted}
+use Rattle.m36_super.specs.BootResult.{IsBooted}
 use Rattle.m36_super.specs.SuperFields.{SuperFields}
 use Rattle.m36_super.specs.TurnLaws.{IsPlainTurn}
 use Rattle.m36_status.specs.declared.status.Status.{Status}
@@ -21,10 +21,10 @@ use Rattle.m36_program.specs.Objects.{PerformsOver}
 use Rattle.m36_program.specs.Performs.{Performs}
 use Rattle.m36_program.specs.Program.{Program}
 use Rattle.m36_program.specs.Reader.{ReadBy}
-use Rattle.m36_program.specs.Trail.{FilesKept, InputKept, output_of, pieces_of}
+use Rattle.m36_program.specs.MayHappen.{FilesKept, InputKept, output_of, pieces_of}
 use Rattle.cmd_folder.specs.Folder.{FolderFields}
 use Rattle.m36_debug.specs.LinesTaken.{IsFirstPart}
-use Rattle.m36_debug.specs.Session.{Turning}
+use Rattle.m36_debug.specs.Session.{MachineRelations}
 use Rattle.m36_debug.specs.SessionProgram.{talking}
 use Rattle.m36_debug.specs.SessionText.{IsHeld, EachTurn}
 use Rattle.cmd_image.specs.ImageProgram.{image_state}
@@ -47,7 +47,7 @@ pub record IsNotHeld (result : Result (Unit {0}) Status) (old new : Seen) : Type
 
 -- A session over a machine was held, or memory ran out before it.
 abbrev pub IsHeldOver :
-    {M : Type 0} → Turning M → M → Result (Unit {0}) Status → Seen → Seen → Type 0
+    {M : Type 0} → MachineRelations M → M → Result (Unit {0}) Status → Seen → Seen → Type 0
 IsHeldOver o m result old new = IsHeld o m result old new ⊎ IsNotHeld result old new
 
 -- A session over the machine of an image was held, or memory ran out before it.

@@ -3,7 +3,7 @@
 ghost use Rattle.std.specs.Prelude.{◌≡◌, IfOk};
 ghost use Rattle.m36_program.specs.Performs.{Performs};
 ghost use Rattle.cmd_folder.specs.BootedSystems.{IsFresh};
-ghost use Rattle.m36_debug.specs.Session.{turning};
+ghost use Rattle.m36_debug.specs.Session.{machine_relations};
 ghost use Rattle.m36_debug.specs.SessionProgram.{stdin_name, session};
 ghost use Rattle.cmd_debug.specs.DebugProgram.{on_image, on_library, debug_image, debug_folder};
 ghost use Rattle.cmd_debug.specs.Held.{new_history};
@@ -24,14 +24,14 @@ use m36_world::World;
 use std::alloc::Global;
 
 // Holds a session over a machine. `name` is the name of the standard input, for S1.
-fn hold<M: Stepper, W: World>(
+fn hold_session<M: Stepper, W: World>(
     alloc: Global,
     name: Text,
     machine: &mut M,
     world: &mut W,
 ) -> Result<(), Status>
     requires { name ≡ stdin_name }
-    ensures { Performs (session (turning M.regs M.content M.next M.went) machine.old) result
+    ensures { Performs (session (machine_relations M.regs M.content M.next M.went) machine.old) result
         (W.seen world.old) (W.seen world.new) }
 {
     ended_by(debug(alloc, machine, world), name)
@@ -51,7 +51,7 @@ fn past_of(alloc: Global, image: Image) -> Result<Past<Machine>, NoMemory>
 
 // Holds a session over the machine of an image.
 #[tactic(auto, using(crate::proofs::DebugSteps::holding))]
-fn with_image<W: World>(alloc: Global, image: Image, world: &mut W) -> Result<(), Status>
+fn hold_image_session<W: World>(alloc: Global, image: Image, world: &mut W) -> Result<(), Status>
     ensures { Performs (on_image image) result (W.seen world.old) (W.seen world.new) }
 {
     let name = match stdin_name(alloc) {
@@ -62,17 +62,17 @@ fn with_image<W: World>(alloc: Global, image: Image, world: &mut W) -> Result<()
         Ok(past) => past,
         Err(_) => return Err(Status::NoMemory),
     };
-    hold(alloc, name, &mut past, world)
+    hold_session(alloc, name, &mut past, world)
 }
 
 // Holds a session over a booted system.
 #[tactic(auto, using(crate::proofs::DebugSteps::holding))]
-fn with_system<W: World>(alloc: Global, mut system: Super, world: &mut W) -> Result<(), Status>
+fn hold_system_session<W: World>(alloc: Global, mut system: Super, world: &mut W) -> Result<(), Status>
     requires { IsFresh system }
     ensures { Performs (on_library system.lib) result (W.seen world.old) (W.seen world.new) }
 {
     match stdin_name(alloc) {
-        Ok(name) => hold(alloc, name, &mut system, world),
+        Ok(name) => hold_session(alloc, name, &mut system, world),
         Err(_) => Err(Status::NoMemory),
     }
 }
@@ -83,7 +83,7 @@ pub fn debug_image<W: World>(alloc: Global, name: &[u8], world: &mut W) -> Resul
     ensures { Performs (debug_image name.now) result (W.seen world.old) (W.seen world.new) }
 {
     match read_state(alloc, name, world) {
-        Ok(image) => with_image(alloc, image, world),
+        Ok(image) => hold_image_session(alloc, image, world),
         Err(status) => Err(status),
     }
 }
@@ -94,7 +94,7 @@ pub fn debug_folder<W: World>(alloc: Global, world: &mut W) -> Result<(), Status
     ensures { Performs debug_folder result (W.seen world.old) (W.seen world.new) }
 {
     match read_system(alloc, &None, world) {
-        Ok(booted) => with_system(alloc, booted.system, world),
+        Ok(booted) => hold_system_session(alloc, booted.system, world),
         Err(status) => Err(status),
     }
 }

@@ -18,14 +18,14 @@ use Rattle.m36_super.proofs.BootTurns.{start_next}
 use Rattle.m36_status.specs.declared.status.Status.{Status}
 use Rattle.m36_status.specs.declared.status.Status.TheVariants.{WriteFault, NoMemory}
 use Rattle.m36_program.specs.Alike.{IsEnd}
-use Rattle.m36_program.specs.Early.{early}
+use Rattle.m36_program.specs.Early.{result_of_status}
 use Rattle.m36_program.specs.Ended.{StartsWith}
 use Rattle.m36_program.specs.Goes.{Ends, Goes}
 use Rattle.m36_program.specs.Program.{quiet, Program}
-use Rattle.m36_program.specs.Trail.{pieces_of}
+use Rattle.m36_program.specs.MayHappen.{pieces_of}
 use Rattle.m36_program.proofs.PieceLaws.{puts_ended}
 use Rattle.cmd_image.specs.AuditText.{yes_line, audit_pieces, audit_text}
-use Rattle.cmd_image.specs.ImageAudit.{passes, is_run, audit_status}
+use Rattle.cmd_image.specs.ImageAudit.{passes, is_run_allowed, audit_status}
 use Rattle.cmd_image.proofs.YesAnswers.{none_found}
 use Rattle.cmd_folder.specs.declared.command.FolderCommand.{FolderCommand}
 use Rattle.cmd_folder.specs.declared.command.FolderCommand.TheVariants.{Audit, Run, Trace}
@@ -34,17 +34,17 @@ use Rattle.cmd_folder.specs.declared.command.RunOutput.{RunOutput}
 use Rattle.cmd_folder.specs.declared.command.RunOutput.TheVariants as output
 use Rattle.cmd_folder.specs.declared.finish.Finish.{Finish}
 use Rattle.cmd_folder.specs.Folder.{FolderFields}
-use Rattle.cmd_folder.specs.Promise.{PassesBooted}
+use Rattle.cmd_folder.specs.Promise.{PassesFolderAudit}
 use Rattle.cmd_folder.specs.RunText.{finish_status}
 use Rattle.cmd_folder.specs.Runs as runs
 use Rattle.cmd_image.specs.ImageProgram.{audit_may_end, audit_only}
 use Rattle.cmd_image.specs.Needs.{MayRun}
 use Rattle.cmd_image.proofs.PutEnds.{whole_ends, none_ends, starts_longer, none_starts}
-use Rattle.cmd_folder.specs.FolderLaw.{Agree}
+use Rattle.cmd_folder.specs.FolderLaw.{OneIsPrefix}
 use Rattle.cmd_folder.specs.Needs.{EndsWithDis, RunNeeds, SystemNeeds, FolderNeeds}
-use Rattle.cmd_folder.specs.OnFolder.{audit_and_run, run_by, by_command, running, on_folder}
-use Rattle.cmd_folder.specs.RunIs.{FinishesAs, StopsAs}
-use Rattle.cmd_folder.specs.RunProgram.{Running, run_from}
+use Rattle.cmd_folder.specs.OnFolder.{audit_and_run, audit_and_run_if, command_after_audit, running, on_folder}
+use Rattle.cmd_folder.specs.IsBootedRun.{FinishesAs, StopsAs}
+use Rattle.cmd_folder.specs.RunProgram.{RunContext, run_from}
 use Rattle.cmd_folder.proofs.FolderFound.{Found, folder_found}
 use Rattle.cmd_folder.proofs.PutsSplit.{PutsSplit, puts_split}
 use Rattle.cmd_folder.proofs.RunGoes.{run_is}
@@ -65,13 +65,13 @@ starved_ends result is end =
 none_by :
     (system : SuperFields) (findings : List (ℕ × ℕ)) (unaudited : Bool) → AreFindings system.core booted_dbr findings
     → MayRun (IsAudited system.core booted_dbr) unaudited → (findings ≡ []) ⊎ (unaudited ≡ true)
-none_by system findings unaudited found (inl audited) =
-    inl (findings_law.complete system.core booted_dbr findings audited found)
+none_by system findings unaudited found (inl audit_system) =
+    inl (findings_law.complete system.core booted_dbr findings audit_system found)
 none_by system findings unaudited found (inr un) = inr un
 
 runs_by :
     (findings : List (ℕ × ℕ)) (unaudited : Bool) → (findings ≡ []) ⊎ (unaudited ≡ true)
-    → is_run findings unaudited ≡ true
+    → is_run_allowed findings unaudited ≡ true
 runs_by [] unaudited may = refl
 runs_by (f ∷ findings) unaudited (inl none) = absurd (cc)
 runs_by (f ∷ findings) unaudited (inr un) = un
@@ -84,7 +84,7 @@ audit_done findings events result none goes end =
     let status = audit_status (passes findings) in
     (whole_ends (audit_pieces findings) status events result end
     (puts_ended quiet (audit_pieces findings) status (audit_may_end (passes findings)) events result goes)).result_is
-    ∙ ap (λ f. early (audit_status (passes f))) none
+    ∙ ap (λ f. result_of_status (audit_status (passes f))) none
 
 ran_done :
     (how : Option Finish) (lib : Library) (limit : ℕ) (first : Booted) (turns : List Turn) (last : Booted)
@@ -95,10 +95,10 @@ ran_done :
 ran_done how lib limit first turns last unput result needs goes finishes (inr is) end = unput_ends result is end
 ran_done None lib limit first turns last unput result needs goes finishes (inl is) end = starved_ends result is.1.1 end
 ran_done (Some how) lib limit first turns last unput result needs goes finishes (inl is) end =
-    is.1 ∙ ap (λ h. early (finish_status (Some h))) (needs turns last how goes finishes)
+    is.1 ∙ ap (λ h. result_of_status (finish_status (Some h))) (needs turns last how goes finishes)
 
 split_done :
-    (run : Running) (limit : ℕ) (first : Booted) (findings : List (ℕ × ℕ)) (events : List Event)
+    (run : RunContext) (limit : ℕ) (first : Booted) (findings : List (ℕ × ℕ)) (events : List Event)
     (result : Result (Unit {0}) Status)
     → first.coming ≡ Step → EndsWithDis run.lib limit first
     → PutsSplit (audit_pieces findings) (run_from run 0 limit first) events result → IsEnd result → result ≡ Ok tt
@@ -112,13 +112,13 @@ run_done :
     (events : List Event)
     (result : Result (Unit {0}) Status)
     → (booted_of system).coming ≡ Step → AreFindings system.core booted_dbr findings → RunNeeds run given.lib system
-    → Goes (run_by (is_run findings run.unaudited) (running given to) run.steps
+    → Goes (audit_and_run_if (is_run_allowed findings run.unaudited) (running given to) run.steps
     (booted_of system) findings) events result
     → IsEnd result → result ≡ Ok tt
 unfolding audit_and_run
 run_done run to given system findings events result next found needs goes end =
-    let ran : Goes (run_by true (running given to) run.steps (booted_of system) findings) events result =
-    subst (λ b. Goes (run_by b (running given to) run.steps (booted_of system) findings) events result)
+    let ran : Goes (audit_and_run_if true (running given to) run.steps (booted_of system) findings) events result =
+    subst (λ b. Goes (audit_and_run_if b (running given to) run.steps (booted_of system) findings) events result)
     (runs_by findings run.unaudited (none_by system findings run.unaudited found needs.0)) goes in
     split_done (running given to) run.steps (booted_of system) findings events result next needs.1
     (puts_split (audit_pieces findings) (run_from (running given to) 0 run.steps (booted_of system)) events
@@ -130,7 +130,7 @@ command_done :
     (result : Result (Unit {0}) Status)
     → (booted_of system).coming ≡ Step → AreFindings system.core booted_dbr findings
     → SystemNeeds command given.lib system
-    → Goes (by_command command given (booted_of system) findings) events result → IsEnd result → result ≡ Ok tt
+    → Goes (command_after_audit command given (booted_of system) findings) events result → IsEnd result → result ≡ Ok tt
 command_done Audit given system findings events result next found needs goes end =
     audit_done findings events result (findings_law.complete system.core booted_dbr findings needs found) goes end
 command_done (Run run) given system findings events result next found needs goes end =
@@ -160,14 +160,14 @@ folder_done command given events result goes end needs =
 -- What a call puts agrees with the pieces of the audit.
 split_agrees :
     (pieces : List (List ℕ)) (rest : Program quiet (Unit {0})) (events : List Event) (result : Result (Unit {0}) Status)
-    → PutsSplit pieces rest events result → Agree pieces (pieces_of events)
+    → PutsSplit pieces rest events result → OneIsPrefix pieces (pieces_of events)
 split_agrees pieces rest events result (inl on) = inl (record { left = pieces_of on.more; is = on.is })
 split_agrees pieces rest events result (inr first) = inr (record { left = first.left; is = first.is })
 
 by_agrees :
-    (is : Bool) (run : Running) (limit : ℕ) (first : Booted) (findings : List (ℕ × ℕ)) (events : List Event)
+    (is : Bool) (run : RunContext) (limit : ℕ) (first : Booted) (findings : List (ℕ × ℕ)) (events : List Event)
     (result : Result (Unit {0}) Status)
-    → Goes (run_by is run limit first findings) events result → Agree (audit_pieces findings) (pieces_of events)
+    → Goes (audit_and_run_if is run limit first findings) events result → OneIsPrefix (audit_pieces findings) (pieces_of events)
 unfolding audit_only audit_and_run
 by_agrees true run limit first findings events result goes =
     split_agrees (audit_pieces findings) (run_from run 0 limit first) events result
@@ -177,7 +177,7 @@ by_agrees false run limit first findings events result goes =
 
 audit_agrees :
     (findings : List (ℕ × ℕ)) (events : List Event) (result : Result (Unit {0}) Status)
-    → Goes (audit_only findings) events result → Agree (audit_pieces findings) (pieces_of events)
+    → Goes (audit_only findings) events result → OneIsPrefix (audit_pieces findings) (pieces_of events)
 unfolding audit_only
 audit_agrees findings events result goes =
     split_agrees (audit_pieces findings) _ events result (puts_split (audit_pieces findings) _ events result goes)
@@ -185,15 +185,15 @@ audit_agrees findings events result goes =
 command_agrees :
     (command : FolderCommand) (given : FolderFields) (first : Booted) (findings : List (ℕ × ℕ)) (events : List Event)
     (result : Result (Unit {0}) Status)
-    → Goes (by_command command given first findings) events result → Agree (audit_pieces findings) (pieces_of events)
+    → Goes (command_after_audit command given first findings) events result → OneIsPrefix (audit_pieces findings) (pieces_of events)
 command_agrees Audit given first findings events result goes = audit_agrees findings events result goes
 command_agrees (Run run) given first findings events result goes =
-    by_agrees (is_run findings run.unaudited) (running given output.Console) run.steps first findings events result goes
+    by_agrees (is_run_allowed findings run.unaudited) (running given output.Console) run.steps first findings events result goes
 command_agrees (Trace run) given first findings events result goes =
-    by_agrees (is_run findings run.unaudited) (running given output.Trace) run.steps first findings events result goes
+    by_agrees (is_run_allowed findings run.unaudited) (running given output.Trace) run.steps first findings events result goes
 
 yes_none :
-    (findings : List (ℕ × ℕ)) (pieces : List (List ℕ)) → Agree (audit_pieces findings) pieces
+    (findings : List (ℕ × ℕ)) (pieces : List (List ℕ)) → OneIsPrefix (audit_pieces findings) pieces
     → StartsWith yes_line pieces → findings ≡ []
 yes_none findings pieces (inl on) starts =
     none_found findings (joined on.left) starts.rest
@@ -205,7 +205,7 @@ yes_none findings pieces (inr on) starts =
 yes_by :
     (command : FolderCommand) (given : FolderFields) (events : List Event) (result : Result (Unit {0}) Status)
     → Found command given events result ⊎ Ends (Err NoMemory) events result → StartsWith yes_line (pieces_of events)
-    → PassesBooted given.lib
+    → PassesFolderAudit given.lib
 yes_by command given events result (inl found) starts =
     found.are.passes (yes_none found.findings (pieces_of events)
     (command_agrees command given (booted_of found.system) found.findings events result found.goes) starts)
@@ -214,6 +214,6 @@ yes_by command given events result (inr none) starts = none_starts events none.n
 -- If what a call puts begins with `audit yes`, the booted system passes its audit.
 pub folder_yes :
     (command : FolderCommand) (given : FolderFields) (events : List Event) (result : Result (Unit {0}) Status)
-    → Goes (on_folder command given) events result → StartsWith yes_line (pieces_of events) → PassesBooted given.lib
+    → Goes (on_folder command given) events result → StartsWith yes_line (pieces_of events) → PassesFolderAudit given.lib
 folder_yes command given events result goes starts =
     yes_by command given events result (folder_found command given events result goes) starts

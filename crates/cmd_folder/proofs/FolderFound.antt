@@ -5,7 +5,7 @@ use Rattle.m36_model.specs.BootedCore.{booted_dbr}
 use Rattle.m36_isol.proofs.Findings.{findings_law}
 use Rattle.m36_world.specs.declared.event.Event.{Event}
 use Rattle.m36_super.specs.SuperFields.{SuperFields, booted_of}
-use Rattle.m36_super.specs.BootSays.{IsBooted}
+use Rattle.m36_super.specs.BootResult.{IsBooted}
 use Rattle.m36_status.specs.declared.status.Status.{Status}
 use Rattle.m36_status.specs.declared.status.Status.TheVariants.{NoMemory}
 use Rattle.m36_program.specs.Goes.{Ends, Goes}
@@ -13,7 +13,7 @@ use Rattle.cmd_folder.specs.declared.command.FolderCommand.{FolderCommand}
 use Rattle.cmd_folder.specs.Folder.{FolderFields}
 use Rattle.cmd_folder.proofs.OneSystem.{one_system}
 use Rattle.cmd_folder.specs.FolderLaw.{GoesByFindings}
-use Rattle.cmd_folder.specs.OnFolder.{AreFolderFindings, by_command, on_system, on_folder}
+use Rattle.cmd_folder.specs.OnFolder.{AreFolderFindings, command_after_audit, on_system, on_folder}
 use Rattle.cmd_folder.proofs.FolderSteps.{found_passes}
 
 -- The findings, and what the command does with them.
@@ -24,7 +24,7 @@ pub record Found (command : FolderCommand) (given : FolderFields) (events : List
   pub booted : IsBooted given.lib system
   pub findings : List (ℕ × ℕ)
   pub are : AreFolderFindings given.lib system findings
-  pub goes : Goes (by_command command given (booted_of system) findings) events result
+  pub goes : Goes (command_after_audit command given (booted_of system) findings) events result
 
 system_found :
     (command : FolderCommand) (given : FolderFields) (system : SuperFields) (events : List Event)
@@ -56,10 +56,10 @@ found_goes :
     (events : List Event)
     (result : Result (Unit {0}) Status)
     → (found : Found command given events result) → found.system ≡ system → found.findings ≡ findings
-    → Goes (by_command command given (booted_of system) findings) events result
+    → Goes (command_after_audit command given (booted_of system) findings) events result
 found_goes command given system findings events result found same one =
-    subst (λ f. Goes (by_command command given (booted_of system) f) events result) one
-    (subst (λ (s : SuperFields). Goes (by_command command given (booted_of s) found.findings) events result)
+    subst (λ f. Goes (command_after_audit command given (booted_of system) f) events result) one
+    (subst (λ (s : SuperFields). Goes (command_after_audit command given (booted_of s) found.findings) events result)
     same found.goes)
 
 found_of :
@@ -75,7 +75,7 @@ found_of command given system events result booted found =
 abbrev pub GoesBy :
     FolderCommand → FolderFields → SuperFields → List (ℕ × ℕ) → List Event → Result (Unit {0}) Status → Type 0
 GoesBy command given system findings events result =
-    Goes (by_command command given (booted_of system) findings) events result ⊎ Ends (Err NoMemory) events result
+    Goes (command_after_audit command given (booted_of system) findings) events result ⊎ Ends (Err NoMemory) events result
 
 same_goes :
     (command : FolderCommand) (given : FolderFields) (system : SuperFields) (findings : List (ℕ × ℕ))
@@ -110,7 +110,7 @@ pub goes_known :
     (events : List Event)
     (result : Result (Unit {0}) Status)
     → IsBooted given.lib system → AreFindings system.core booted_dbr findings
-    → Goes (by_command command given (booted_of system) findings) events result
+    → Goes (command_after_audit command given (booted_of system) findings) events result
     → Goes (on_folder command given) events result
 unfolding Goes on_folder on_system
 goes_known command given system findings events result booted are goes = record {
@@ -130,9 +130,9 @@ pub passed_goes :
     (result : Result (Unit {0}) Status)
     → IsBooted given.lib system → IsAudited system.core booted_dbr → Goes (on_folder command given) events result
     → GoesBy command given system [] events result
-passed_goes command given system events result booted audited goes =
+passed_goes command given system events result booted audit_system goes =
     same_goes command given system [] events result booted
-    (λ others found. findings_law.complete system.core booted_dbr others audited found)
+    (λ others found. findings_law.complete system.core booted_dbr others audit_system found)
     (folder_found command given events result goes)
 
 some_goes :
@@ -140,7 +140,7 @@ some_goes :
     (events : List Event)
     (result : Result (Unit {0}) Status)
     → AreFindings system.core booted_dbr findings → ¬ IsAudited system.core booted_dbr
-    → Goes (by_command command given (booted_of system) findings) events result
+    → Goes (command_after_audit command given (booted_of system) findings) events result
     → GoesByFindings command given system events result
 some_goes command given system [] events result are fails goes =
     absurd (fails (findings_law.sound system.core booted_dbr are))

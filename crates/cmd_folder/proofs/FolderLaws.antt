@@ -19,26 +19,26 @@ use Rattle.m36_step.specs.declared.turns.Turn.{Turn}
 use Rattle.m36_super.specs.BootedRun.{Booted}
 use Rattle.m36_super.specs.SuperFields.{SuperFields, booted_of}
 use Rattle.m36_super.specs.TurnLaws.{IsPlainTurn}
-use Rattle.m36_super.specs.BootSays.{IsBooted}
+use Rattle.m36_super.specs.BootResult.{IsBooted}
 use Rattle.m36_super.specs.declared.coming.NextEvent.TheVariants.{Step}
 use Rattle.m36_super.proofs.BootTurns.{start_next}
 use Rattle.m36_status.specs.declared.status.Status.{Status}
 use Rattle.m36_status.specs.declared.status.Status.TheVariants.{NoMemory}
 use Rattle.m36_program.specs.Alike.{Alike, IsEnd, OneText}
-use Rattle.m36_program.specs.Early.{early, ends}
+use Rattle.m36_program.specs.Early.{result_of_status, ends}
 use Rattle.m36_program.specs.Ended.{HasEnd}
 use Rattle.m36_program.specs.Goes.{Ends, Goes}
 use Rattle.m36_program.specs.Performs.{Performs}
 use Rattle.m36_program.specs.Program.{quiet, Program, some}
-use Rattle.m36_program.specs.Reader.{outcome_in}
+use Rattle.m36_program.specs.Reader.{reader_result}
 use Rattle.m36_program.specs.Split.{BothGo, FirstEnds}
-use Rattle.m36_program.specs.Trail.{pieces_of}
+use Rattle.m36_program.specs.MayHappen.{pieces_of}
 use Rattle.m36_program.proofs.AlikeLaws.{alike_wants, alike_then, alike_one, has_one_text}
 use Rattle.m36_program.proofs.PieceLaws.{PutsBy, puts_ended}
 use Rattle.m36_program.proofs.PutLaws.{goes_puts}
 use Rattle.m36_program.proofs.ReaderLaws.{reader_pieces, reader_outcome, reader_split}
 use Rattle.cmd_image.specs.AuditText.{audit_pieces}
-use Rattle.cmd_image.specs.ImageAudit.{passes, is_run, audit_status}
+use Rattle.cmd_image.specs.ImageAudit.{passes, is_run_allowed, audit_status}
 use Rattle.cmd_image.proofs.SomeFindings.{some_findings}
 use Rattle.cmd_folder.specs.declared.command.FolderCommand.{FolderCommand}
 use Rattle.cmd_folder.specs.declared.command.FolderCommand.TheVariants.{Audit, Run, Trace}
@@ -48,7 +48,7 @@ use Rattle.cmd_folder.specs.declared.command.RunOutput.TheVariants as output
 use Rattle.cmd_folder.specs.declared.finish.Finish.{Finish}
 use Rattle.cmd_folder.specs.declared.finish.Finish.TheVariants.{Over}
 use Rattle.cmd_folder.specs.Folder.{FolderFields}
-use Rattle.cmd_folder.specs.RunText.{pieces_from, run_pieces, finish_status}
+use Rattle.cmd_folder.specs.RunText.{pieces_of_turns, run_pieces, finish_status}
 use Rattle.cmd_folder.specs.Runs.{Finishes}
 use Rattle.cmd_folder.specs.Runs as runs
 use Rattle.cmd_folder.proofs.OneSystem.{one_system}
@@ -57,13 +57,13 @@ use Rattle.cmd_image.specs.ImageEnds.{EndsWith}
 use Rattle.cmd_image.specs.ImageProgram.{audit_may_end, audit_only}
 use Rattle.cmd_image.proofs.PutEnds.{whole_ends, pieces_begin, both_end, puts_end, SomeEnd, early_ends}
 use Rattle.cmd_image.proofs.TextLaws.{audit_alike}
-use Rattle.cmd_folder.specs.FolderLaw.{run_command, is_unaudited, IsPrefix, Agree, ArePlain, plain_pieces, whole_pieces}
+use Rattle.cmd_folder.specs.FolderLaw.{run_command, is_unaudited, IsPrefix, OneIsPrefix, ArePlainTurns, plain_pieces, whole_pieces}
 use Rattle.cmd_folder.specs.FolderLaw.{whole_status, HasTextOf, FolderLaw}
 use Rattle.cmd_folder.specs.FolderProgram.{folder_given, folder_program}
 use Rattle.cmd_folder.specs.Needs.{OneEndsWithDis}
-use Rattle.cmd_folder.specs.OnFolder.{AreFolderFindings, audit_and_run, run_by, by_command, running, on_system}
+use Rattle.cmd_folder.specs.OnFolder.{AreFolderFindings, audit_and_run, audit_and_run_if, command_after_audit, running, on_system}
 use Rattle.cmd_folder.specs.OnFolder.{on_folder}
-use Rattle.cmd_folder.specs.RunProgram.{Running, finish_may_end, run_from}
+use Rattle.cmd_folder.specs.RunProgram.{RunContext, finish_may_end, run_from}
 use Rattle.cmd_folder.proofs.FolderEnds.{unput_ends, starved_ends}
 use Rattle.cmd_folder.proofs.FolderFound.{Found, folder_found, GoesBy, known_goes, goes_known, passed_goes, failed_goes}
 use Rattle.cmd_folder.proofs.FolderReader.{folder_reader, folder_alike}
@@ -79,9 +79,9 @@ system_alike :
 unfolding Alike on_system
 system_alike given system =
     let chosen : Program quiet (Unit {0}) = some (AreFolderFindings given.lib system)
-    (by_command Audit given (booted_of system)) in
+    (command_after_audit Audit given (booted_of system)) in
     alike_wants chosen chosen
-    (alike_one (AreFolderFindings given.lib system) (by_command Audit given (booted_of system))
+    (alike_one (AreFolderFindings given.lib system) (command_after_audit Audit given (booted_of system))
     (λ f g is is'. findings_law.unique system.core booted_dbr f g is.found is'.found) (λ f is. audit_alike f))
 
 booted_alike : (given : FolderFields) → Alike (on_folder Audit given) (on_folder Audit given)
@@ -147,11 +147,11 @@ one_audit given events others result other goes end goes' end' =
 ends_by :
     (command : FolderCommand) (given : FolderFields) (system : SuperFields) → IsBooted given.lib system
     → ((findings : List (ℕ × ℕ)) → AreFindings system.core booted_dbr findings
-    → SomeEnd (by_command command given (booted_of system) findings))
+    → SomeEnd (command_after_audit command given (booted_of system) findings))
     → HasEnd (on_folder command given)
 ends_by command given system booted each none =
     some_findings system.core booted_dbr (λ findings found.
-    let end : SomeEnd (by_command command given (booted_of system) findings) = each findings found in
+    let end : SomeEnd (command_after_audit command given (booted_of system) findings) = each findings found in
     none end.events end.result
     (goes_known command given system findings end.events end.result booted found end.goes) end.is_end)
 
@@ -167,15 +167,15 @@ fails_with system [] found fails = absurd (fails (findings_law.sound system.core
 fails_with system (f ∷ findings) found fails = refl
 
 unrun_end :
-    (is : Bool) (run : Running) (steps : ℕ) (first : Booted) (findings : List (ℕ × ℕ)) → is ≡ false
-    → SomeEnd (run_by is run steps first findings)
+    (is : Bool) (run : RunContext) (steps : ℕ) (first : Booted) (findings : List (ℕ × ℕ)) → is ≡ false
+    → SomeEnd (audit_and_run_if is run steps first findings)
 unrun_end true run steps first findings is = absurd (cc)
 unrun_end false run steps first findings is = audit_end findings
 
 failed_end :
     (command : FolderCommand) (given : FolderFields) (system : SuperFields) (findings : List (ℕ × ℕ))
     → passes findings ≡ false → is_unaudited command ≡ false → SomeEnd
-    (by_command command given (booted_of system) findings)
+    (command_after_audit command given (booted_of system) findings)
 failed_end Audit given system findings fails is = audit_end findings
 failed_end (Run run) given system findings fails is =
     unrun_end (passes findings || run.unaudited) (running given output.Console) run.steps (booted_of system) findings
@@ -186,18 +186,18 @@ failed_end (Trace run) given system findings fails is =
 
 -- a run that finishes
 ran_end :
-    (is : Bool) (run : Running) (steps : ℕ) (first : Booted) (findings : List (ℕ × ℕ)) (turns : List Turn)
+    (is : Bool) (run : RunContext) (steps : ℕ) (first : Booted) (findings : List (ℕ × ℕ)) (turns : List Turn)
     (last : Booted) (how : Finish)
     → first.coming ≡ Step → runs.Goes run.lib steps first turns last → Finishes how run.lib steps turns last
-    → SomeEnd (run_by is run steps first findings)
+    → SomeEnd (audit_and_run_if is run steps first findings)
 unfolding audit_and_run
 ran_end false run steps first findings turns last how next goes finishes = audit_end findings
 ran_end true run steps first findings turns last how next goes finishes = record {
   events = outputs (audit_pieces findings) ++ outputs (run_pieces run.denied run.output turns (Some how));
-  result = early (finish_status (Some how));
+  result = result_of_status (finish_status (Some how));
   goes = goes_puts (audit_pieces findings) (run_from run 0 steps first)
       (outputs (run_pieces run.denied run.output turns (Some how)))
-      (early (finish_status (Some how))) (run_calls run steps first turns last how next goes finishes);
+      (result_of_status (finish_status (Some how))) (run_calls run steps first turns last how next goes finishes);
   is_end = early_ends (finish_status (Some how)) (finish_may_end how);
 }
 
@@ -207,17 +207,17 @@ command_end :
     (last : Booted) (how : Finish)
     → (booted_of system).coming ≡ Step → runs.Goes given.lib run.steps (booted_of system) turns last
     → Finishes how given.lib run.steps turns last
-    → SomeEnd (by_command (run_command to run) given (booted_of system) findings)
+    → SomeEnd (command_after_audit (run_command to run) given (booted_of system) findings)
 command_end output.Console run given system findings turns last how next goes finishes =
-    ran_end (is_run findings run.unaudited) (running given output.Console) run.steps
+    ran_end (is_run_allowed findings run.unaudited) (running given output.Console) run.steps
     (booted_of system) findings turns last how next goes finishes
 command_end output.Trace run given system findings turns last how next goes finishes =
-    ran_end (is_run findings run.unaudited) (running given output.Trace) run.steps
+    ran_end (is_run_allowed findings run.unaudited) (running given output.Trace) run.steps
     (booted_of system) findings turns last how next goes finishes
 
 -- ---- the one text of plain turns
 
-longer : (before one other : List (List ℕ)) → Agree one other → Agree (before ++ one) (before ++ other)
+longer : (before one other : List (List ℕ)) → OneIsPrefix one other → OneIsPrefix (before ++ one) (before ++ other)
 longer before one other (inl first) =
     inl (record { left = first.left; is = ap (λ l. before ++ l) first.is ∙ sym (append_assoc before one first.left) })
 longer before one other (inr first) =
@@ -229,27 +229,27 @@ within put pieces more left is =
     record { left = left ++ more; is = ap (λ l. l ++ more) is ∙ append_assoc put left more }
 
 split_agrees :
-    (run : Running) (steps : ℕ) (system : SuperFields) (findings : List (ℕ × ℕ)) (turns : List Turn) (last : Booted)
+    (run : RunContext) (steps : ℕ) (system : SuperFields) (findings : List (ℕ × ℕ)) (turns : List Turn) (last : Booted)
     (events : List Event)
     (result : Result (Unit {0}) Status)
     → IsBooted run.lib system → runs.Goes run.lib steps (booted_of system) turns last → Each IsPlainTurn turns
     → PutsSplit (audit_pieces findings) (run_from run 0 steps (booted_of system)) events result
-    → Agree (pieces_of events) (plain_pieces run.output findings turns)
+    → OneIsPrefix (pieces_of events) (plain_pieces run.output findings turns)
 split_agrees run steps system findings turns last events result booted goes plain (inl on) =
     let ran = run_is run steps (booted_of system) on.more result (start_next run.lib system booted) on.goes in
-    subst (λ l. Agree l (plain_pieces run.output findings turns)) (sym on.is)
-    (longer (audit_pieces findings) (pieces_of on.more) (pieces_from run.output 0 turns)
+    subst (λ l. OneIsPrefix l (plain_pieces run.output findings turns)) (sym on.is)
+    (longer (audit_pieces findings) (pieces_of on.more) (pieces_of_turns run.output 0 turns)
     (run_agrees run steps system last turns on.more result booted ran goes plain))
 split_agrees run steps system findings turns last events result booted goes plain (inr first) =
-    inl (within (pieces_of events) (audit_pieces findings) (pieces_from run.output 0 turns) first.left first.is)
+    inl (within (pieces_of events) (audit_pieces findings) (pieces_of_turns run.output 0 turns) first.left first.is)
 
 run_by_agrees :
-    (is : Bool) (run : Running) (steps : ℕ) (system : SuperFields) (findings : List (ℕ × ℕ)) (turns : List Turn)
+    (is : Bool) (run : RunContext) (steps : ℕ) (system : SuperFields) (findings : List (ℕ × ℕ)) (turns : List Turn)
     (last : Booted)
     (events : List Event) (result : Result (Unit {0}) Status)
     → IsBooted run.lib system → runs.Goes run.lib steps (booted_of system) turns last → Each IsPlainTurn turns
-    → Goes (run_by is run steps (booted_of system) findings) events result
-    → Agree (pieces_of events) (plain_pieces run.output findings turns)
+    → Goes (audit_and_run_if is run steps (booted_of system) findings) events result
+    → OneIsPrefix (pieces_of events) (plain_pieces run.output findings turns)
 unfolding audit_and_run
 run_by_agrees true run steps system findings turns last events result booted goes plain call =
     split_agrees run steps system findings turns last events result booted goes plain
@@ -257,15 +257,15 @@ run_by_agrees true run steps system findings turns last events result booted goe
 run_by_agrees false run steps system findings turns last events result booted goes plain call =
     let put = pieces_begin (audit_pieces findings) (audit_status (passes findings)) events result
     (audit_puts findings events result call) in
-    inl (within (pieces_of events) (audit_pieces findings) (pieces_from run.output 0 turns) put.0 put.1)
+    inl (within (pieces_of events) (audit_pieces findings) (pieces_of_turns run.output 0 turns) put.0 put.1)
 
 -- what a command that runs a folder does
 run_goes :
     (to : RunOutput) (run : FolderRun) (given : FolderFields) (first : Booted) (findings : List (ℕ × ℕ))
     (events : List Event)
     (result : Result (Unit {0}) Status)
-    → Goes (by_command (run_command to run) given first findings) events result
-    → Goes (run_by (is_run findings run.unaudited) (running given to) run.steps first findings) events result
+    → Goes (command_after_audit (run_command to run) given first findings) events result
+    → Goes (audit_and_run_if (is_run_allowed findings run.unaudited) (running given to) run.steps first findings) events result
 run_goes output.Console run given first findings events result goes = goes
 run_goes output.Trace run given first findings events result goes = goes
 
@@ -273,11 +273,11 @@ plain_by :
     (run : FolderRun) (to : RunOutput) (given : FolderFields) (findings : List (ℕ × ℕ)) (turns : List Turn)
     (last : Booted)
     (events : List Event) (result : Result (Unit {0}) Status)
-    → (plain : ArePlain run given findings turns last)
+    → (plain : ArePlainTurns run given findings turns last)
     → GoesBy (run_command to run) given plain.system findings events result
-    → Agree (pieces_of events) (plain_pieces to findings turns)
+    → OneIsPrefix (pieces_of events) (plain_pieces to findings turns)
 plain_by run to given findings turns last events result plain (inl goes) =
-    run_by_agrees (is_run findings run.unaudited)
+    run_by_agrees (is_run_allowed findings run.unaudited)
     (running given to) run.steps plain.system findings turns last events result plain.booted
     plain.goes plain.plain (run_goes to run given (booted_of plain.system) findings events result goes)
 plain_by run to given findings turns last events result plain (inr none) =
@@ -291,8 +291,8 @@ plain_agrees :
     (run : FolderRun) (to : RunOutput) (given : FolderFields) (findings : List (ℕ × ℕ)) (turns : List Turn)
     (last : Booted)
     (events : List Event) (result : Result (Unit {0}) Status)
-    → ArePlain run given findings turns last → Goes (on_folder (run_command to run) given) events result
-    → Agree (pieces_of events) (plain_pieces to findings turns)
+    → ArePlainTurns run given findings turns last → Goes (on_folder (run_command to run) given) events result
+    → OneIsPrefix (pieces_of events) (plain_pieces to findings turns)
 plain_agrees run to given findings turns last events result plain goes =
     plain_by run to given findings turns last events result plain
     (known_goes (run_command to run) given plain.system findings events result plain.booted plain.found goes)
@@ -316,47 +316,47 @@ text_after before put all result end one = record {
 }
 
 split_text :
-    (run : Running) (steps : ℕ) (system : SuperFields) (findings : List (ℕ × ℕ)) (turns : List Turn) (last : Booted)
+    (run : RunContext) (steps : ℕ) (system : SuperFields) (findings : List (ℕ × ℕ)) (turns : List Turn) (last : Booted)
     (how : Finish)
     (events : List Event) (result : Result (Unit {0}) Status)
     → IsBooted run.lib system → runs.Goes run.lib steps (booted_of system) turns last
     → Finishes how run.lib steps turns last
     → Each IsPlainTurn turns → PutsSplit (audit_pieces findings) (run_from run 0 steps (booted_of system)) events result
     → OneText (pieces_of events) (audit_pieces findings ++ run_pieces run.denied run.output turns (Some how)) result
-    (early (finish_status (Some how)))
+    (result_of_status (finish_status (Some how)))
 split_text run steps system findings turns last how events result booted goes finishes plain (inl on) =
     let ran = run_is run steps (booted_of system) on.more result (start_next run.lib system booted) on.goes in
     let all = run_pieces run.denied run.output turns (Some how) in
-    subst (λ l. OneText l (audit_pieces findings ++ all) result (early (finish_status (Some how)))) (sym on.is)
-    (text_after (audit_pieces findings) (pieces_of on.more) all result (early (finish_status (Some how)))
+    subst (λ l. OneText l (audit_pieces findings ++ all) result (result_of_status (finish_status (Some how)))) (sym on.is)
+    (text_after (audit_pieces findings) (pieces_of on.more) all result (result_of_status (finish_status (Some how)))
     (run_text run steps system last turns how on.more result booted ran goes finishes plain))
 split_text run steps system findings turns last how events result booted goes finishes plain (inr first) =
     let all = run_pieces run.denied run.output turns (Some how) in
-    text_short (pieces_of events) (audit_pieces findings ++ all) result (early (finish_status (Some how)))
+    text_short (pieces_of events) (audit_pieces findings ++ all) result (result_of_status (finish_status (Some how)))
     (within (pieces_of events) (audit_pieces findings) all first.left first.is)
     (λ end. unput_ends result first.result_is end)
 
 audit_text_of :
     (pieces : List (List ℕ)) (s : Status) (events : List Event) (result : Result (Unit {0}) Status)
-    → PutsBy pieces s events result → OneText (pieces_of events) pieces result (early s)
+    → PutsBy pieces s events result → OneText (pieces_of events) pieces result (result_of_status s)
 audit_text_of pieces s events result (inl whole) = record {
   left = [];
   is = sym (append-nil (pieces_of events) ∙ pieces_all pieces events whole.events_are);
   ended = λ end. (refl, whole.result_is);
 }
 audit_text_of pieces s events result (inr part) =
-    text_short (pieces_of events) pieces result (early s) (record { left = part.left; is = part.is })
+    text_short (pieces_of events) pieces result (result_of_status s) (record { left = part.left; is = part.is })
     (λ end. unput_ends result part.result_is end)
 
 run_by_text :
-    (is : Bool) (run : Running) (steps : ℕ) (system : SuperFields) (findings : List (ℕ × ℕ)) (turns : List Turn)
+    (is : Bool) (run : RunContext) (steps : ℕ) (system : SuperFields) (findings : List (ℕ × ℕ)) (turns : List Turn)
     (last : Booted) (how : Finish)
     (events : List Event) (result : Result (Unit {0}) Status)
     → IsBooted run.lib system → runs.Goes run.lib steps (booted_of system) turns last
     → Finishes how run.lib steps turns last
-    → Each IsPlainTurn turns → Goes (run_by is run steps (booted_of system) findings) events result
+    → Each IsPlainTurn turns → Goes (audit_and_run_if is run steps (booted_of system) findings) events result
     → OneText (pieces_of events) (whole_pieces is run.output run.denied findings turns how) result
-    (early (whole_status is findings how))
+    (result_of_status (whole_status is findings how))
 unfolding audit_and_run
 run_by_text true run steps system findings turns last how events result booted goes finishes plain call =
     split_text run steps system findings turns last how events result booted goes finishes plain
@@ -369,17 +369,17 @@ text_by :
     (run : FolderRun) (to : RunOutput) (given : FolderFields) (findings : List (ℕ × ℕ)) (turns : List Turn)
     (last : Booted) (how : Finish)
     (events : List Event) (result : Result (Unit {0}) Status)
-    → (plain : ArePlain run given findings turns last) → Finishes how given.lib run.steps turns last
+    → (plain : ArePlainTurns run given findings turns last) → Finishes how given.lib run.steps turns last
     → GoesBy (run_command to run) given plain.system findings events result
     → HasTextOf run to given findings turns how events result
 text_by run to given findings turns last how events result plain finishes (inl goes) =
-    run_by_text (is_run findings run.unaudited)
+    run_by_text (is_run_allowed findings run.unaudited)
     (running given to) run.steps plain.system findings turns last how events result plain.booted
     plain.goes finishes plain.plain (run_goes to run given (booted_of plain.system) findings events result goes)
 text_by run to given findings turns last how events result plain finishes (inr none) =
-    let is = is_run findings run.unaudited in
+    let is = is_run_allowed findings run.unaudited in
     let all = whole_pieces is to given.denied findings turns how in
-    text_short (pieces_of events) all result (early (whole_status is findings how))
+    text_short (pieces_of events) all result (result_of_status (whole_status is findings how))
     (record { left = all; is = ap (λ e. pieces_of e ++ all) (sym none.none) })
     (λ end. starved_ends result none.result_is end)
 
@@ -387,7 +387,7 @@ plain_text :
     (run : FolderRun) (to : RunOutput) (given : FolderFields) (findings : List (ℕ × ℕ)) (turns : List Turn)
     (last : Booted) (how : Finish)
     (events : List Event) (result : Result (Unit {0}) Status)
-    → ArePlain run given findings turns last → Finishes how given.lib run.steps turns last
+    → ArePlainTurns run given findings turns last → Finishes how given.lib run.steps turns last
     → Goes (on_folder (run_command to run) given) events result
     → HasTextOf run to given findings turns how events result
 plain_text run to given findings turns last how events result plain finishes goes =
@@ -426,15 +426,15 @@ ok_err :
     → (let r : Option (Result FolderFields Status) = Some (Ok a) in r) ≡ Some (Err s) → ⊥
 ok_err a s is = absurd (cc)
 
-given_by :
+folder_of :
     (command : FolderCommand) (user : Option (List ℕ)) (files : Files) (given : FolderFields)
     (result : Result (Unit {0}) Status) (old new : Seen)
-    → old.files ≡ Some files → outcome_in files (folder_given {may = quiet} user) ≡ Some (Ok given)
+    → old.files ≡ Some files → reader_result files (folder_given {may = quiet} user) ≡ Some (Ok given)
     → (events : List Event) → Follow events old new
     → BothGo (folder_given user) (on_folder command) events result
     ⊎ FirstEnds (folder_given {may = quiet} user) events result
     → OnGiven command given (pieces_of events) result ⊎ Unread (pieces_of events) result
-given_by command user files given result old new told gives events follow (inl both) =
+folder_of command user files given result old new told gives events follow (inl both) =
     let parts = follow_split both.first both.more old new (subst (λ e. Follow e old new) both.is follow) in
     let same : both.value ≡ given =
     ok_same both.value given
@@ -447,7 +447,7 @@ given_by command user files given result old new told gives events follow (inl b
           ∙ ap (λ l. l ++ pieces_of both.more)
           (reader_pieces (folder_given user) both.first (Ok both.value) (folder_reader quiet user) both.begins);
     })
-given_by command user files given result old new told gives events follow (inr first) =
+folder_of command user files given result old new told gives events follow (inr first) =
     inr (record {
       none = reader_pieces (folder_given user) events (Err first.status) (folder_reader quiet user) first.goes;
       unended = λ end.
@@ -462,12 +462,12 @@ given_by command user files given result old new told gives events follow (inr f
 call_given :
     (command : FolderCommand) (user : Option (List ℕ)) (files : Files) (given : FolderFields)
     (result : Result (Unit {0}) Status) (old new : Seen)
-    → old.files ≡ Some files → outcome_in files (folder_given {may = quiet} user) ≡ Some (Ok given)
+    → old.files ≡ Some files → reader_result files (folder_given {may = quiet} user) ≡ Some (Ok given)
     → (performs : Performs (folder_program command user) result old new)
     → OnGiven command given (pieces_of performs.events) result ⊎ Unread (pieces_of performs.events) result
 unfolding folder_program
 call_given command user files given result old new told gives performs =
-    given_by command user files given result old new told gives performs.events performs.follow
+    folder_of command user files given result old new told gives performs.events performs.follow
     (reader_split (folder_given user) (on_folder command) performs.events result (folder_reader quiet user)
     performs.goes)
 
@@ -475,10 +475,10 @@ agrees_in :
     (run : FolderRun) (to : RunOutput) (given : FolderFields) (findings : List (ℕ × ℕ)) (turns : List Turn)
     (last : Booted)
     (pieces : List (List ℕ)) (result : Result (Unit {0}) Status)
-    → ArePlain run given findings turns last → OnGiven (run_command to run) given pieces result ⊎ Unread pieces result
-    → Agree pieces (plain_pieces to findings turns)
+    → ArePlainTurns run given findings turns last → OnGiven (run_command to run) given pieces result ⊎ Unread pieces result
+    → OneIsPrefix pieces (plain_pieces to findings turns)
 agrees_in run to given findings turns last pieces result plain (inl on) =
-    subst (λ l. Agree l (plain_pieces to findings turns)) (sym on.are)
+    subst (λ l. OneIsPrefix l (plain_pieces to findings turns)) (sym on.are)
     (plain_agrees run to given findings turns last on.more result plain on.goes)
 agrees_in run to given findings turns last pieces result plain (inr unread) =
     inl (record {
@@ -491,23 +491,23 @@ abbrev TextIn :
     FolderRun → RunOutput → FolderFields → List (ℕ × ℕ) → List Turn → Finish → List (List ℕ) → Result (Unit {0}) Status
     → Type 0
 TextIn run to given findings turns how pieces result =
-    OneText pieces (whole_pieces (is_run findings run.unaudited) to given.denied findings turns how) result
-    (early (whole_status (is_run findings run.unaudited) findings how))
+    OneText pieces (whole_pieces (is_run_allowed findings run.unaudited) to given.denied findings turns how) result
+    (result_of_status (whole_status (is_run_allowed findings run.unaudited) findings how))
 
 text_in :
     (run : FolderRun) (to : RunOutput) (given : FolderFields) (findings : List (ℕ × ℕ)) (turns : List Turn)
     (last : Booted) (how : Finish)
     (pieces : List (List ℕ)) (result : Result (Unit {0}) Status)
-    → ArePlain run given findings turns last → Finishes how given.lib run.steps turns last
+    → ArePlainTurns run given findings turns last → Finishes how given.lib run.steps turns last
     → OnGiven (run_command to run) given pieces result ⊎ Unread pieces result
     → TextIn run to given findings turns how pieces result
 text_in run to given findings turns last how pieces result plain finishes (inl on) =
     subst (λ l. TextIn run to given findings turns how l result) (sym on.are)
     (plain_text run to given findings turns last how on.more result plain finishes on.goes)
 text_in run to given findings turns last how pieces result plain finishes (inr unread) =
-    let is = is_run findings run.unaudited in
+    let is = is_run_allowed findings run.unaudited in
     let all = whole_pieces is to given.denied findings turns how in
-    text_short pieces all result (early (whole_status is findings how))
+    text_short pieces all result (result_of_status (whole_status is findings how))
     (record { left = all; is = ap (λ l. l ++ all) (sym unread.none) }) unread.unended
 
 -- ---- DIS

@@ -10,17 +10,17 @@ use Rattle.m36_isol.proofs.Findings.{findings_law}
 use Rattle.m36_super.specs.Library.{Library}
 use Rattle.m36_super.specs.BootedRun.{Booted}
 use Rattle.m36_super.specs.SuperFields.{SuperFields, booted_of}
-use Rattle.m36_super.specs.BootSays.{IsBooted}
+use Rattle.m36_super.specs.BootResult.{IsBooted}
 use Rattle.m36_status.specs.declared.refusal.Refusal.{Refusal}
 use Rattle.m36_status.specs.declared.status.Status.{Status}
 use Rattle.m36_status.specs.declared.status.Status.TheVariants.{NoMemory}
-use Rattle.m36_status.specs.Refusing.{Gives}
+use Rattle.m36_status.specs.Refusing.{IsRuleResult}
 use Rattle.m36_program.specs.Performs.{Performs, Leads}
 use Rattle.m36_program.specs.Program.{May, quiet, Program}
 use Rattle.m36_program.proofs.Performing.{performs_some, performs_wants, performs_no_memory, performs_then, performs_stop}
 use Rattle.m36_files.specs.declared.access.Access.{Access}
-use Rattle.m36_files.specs.Deciding.{decides, by_refusal}
-use Rattle.m36_files.specs.EachFile.{read_onto, each_onto}
+use Rattle.m36_files.specs.Deciding.{rule_program, refusal_to_status}
+use Rattle.m36_files.specs.EachFile.{read_and_append, read_each}
 use Rattle.m36_files.specs.FileReaders.{file_words}
 use Rattle.m36_files.specs.Catalogs.{catalog_access}
 use Rattle.m36_files.proofs.DecidingLaws.{rule_given}
@@ -28,35 +28,35 @@ use Rattle.m36_files.proofs.EachLaws.{each_next, each_stop}
 use Rattle.cmd_image.specs.AuditText.{audit_pieces}
 use Rattle.cmd_folder.specs.declared.command.FolderCommand.{FolderCommand}
 use Rattle.cmd_folder.specs.declared.booting.BootedFolder.{BootedFolder}
-use Rattle.cmd_folder.specs.Folder.{FolderFields, folder_with, boots}
-use Rattle.cmd_folder.specs.Promise.{PassesBooted}
+use Rattle.cmd_folder.specs.Folder.{FolderFields, folder_with, boot_result}
+use Rattle.cmd_folder.specs.Promise.{PassesFolderAudit}
 use Rattle.cmd_folder.specs.BootedSystems.{IsFresh}
 use Rattle.cmd_folder.specs.BootedSystems as old_systems
 use Rattle.cmd_folder.proofs.FolderBoots.{fresh_next}
 use Rattle.cmd_folder.proofs.AuditKept.{passes_booted}
 use Rattle.cmd_image.proofs.AuditPuts.{all_put, all_then, all_stop}
 use Rattle.cmd_folder.specs.FolderProgram.{segment_words, files_booted, folder_given, folder_program}
-use Rattle.cmd_folder.specs.OnFolder.{AreFolderFindings, audit_and_run, by_command, on_system, on_folder}
-use Rattle.cmd_folder.specs.RunProgram.{Running, run_from}
-use Rattle.cmd_folder.specs.Systems.{given_in}
+use Rattle.cmd_folder.specs.OnFolder.{AreFolderFindings, audit_and_run, command_after_audit, on_system, on_folder}
+use Rattle.cmd_folder.specs.RunProgram.{RunContext, run_from}
+use Rattle.cmd_folder.specs.Systems.{folder_result}
 
 -- ---- the file of a segment
 
 pub segment_read :
     (may : May) (files : List (List ℕ)) (s : SegmentFields) (name : List ℕ) (result : Result (List (List ℕ)) Status) (old new : Seen)
-    → name ≡ s.file → Performs {may = may} (read_onto file_words files name) result old new
-    → Performs {may = may} (read_onto segment_words files s) result old new
-unfolding read_onto segment_words
+    → name ≡ s.file → Performs {may = may} (read_and_append file_words files name) result old new
+    → Performs {may = may} (read_and_append segment_words files s) result old new
+unfolding read_and_append segment_words
 segment_read may files s name result old new is performs =
-    subst (λ (n : List ℕ). Performs {may = may} (read_onto file_words files n) result old new) is performs
+    subst (λ (n : List ℕ). Performs {may = may} (read_and_append file_words files n) result old new) is performs
 
 pub files_more :
     (may : May) (segments : List SegmentFields) (i : ℕ) (s : SegmentFields) (name : List ℕ) (files more : List (List ℕ)) (first : Program may (List (List ℕ)))
     (old between new : Seen)
     → slice_get segments i ≡ Some s → name ≡ s.file
-    → Leads (each_onto segment_words files (drop i segments)) first old between
-    → Performs {may = may} (read_onto file_words files name) (Ok more) between new
-    → Leads (each_onto segment_words more (drop (i + 1) segments)) first old new
+    → Leads (read_each segment_words files (drop i segments)) first old between
+    → Performs {may = may} (read_and_append file_words files name) (Ok more) between new
+    → Leads (read_each segment_words more (drop (i + 1) segments)) first old new
 files_more may segments i s name files more first old between new at is left performs =
     each_next segment_words files more segments i s first old between new (slice_get_within segments i s at) (sym (get_or_from_slice_get segments i s s at)) left
     (segment_read may files s name (Ok more) between new is performs)
@@ -65,8 +65,8 @@ pub files_stop :
     (may : May) (segments : List SegmentFields) (i : ℕ) (s : SegmentFields) (name : List ℕ) (files : List (List ℕ)) (first : Program may (List (List ℕ)))
     (status : Status) (old between new : Seen)
     → slice_get segments i ≡ Some s → name ≡ s.file
-    → Leads (each_onto segment_words files (drop i segments)) first old between
-    → Performs {may = may} (read_onto file_words files name) (Err status) between new
+    → Leads (read_each segment_words files (drop i segments)) first old between
+    → Performs {may = may} (read_and_append file_words files name) (Err status) between new
     → Performs first (Err status) old new
 files_stop may segments i s name files first status old between new at is left performs =
     each_stop segment_words files segments i s first status old between new (slice_get_within segments i s at) (sym (get_or_from_slice_get segments i s s at)) left
@@ -75,27 +75,27 @@ files_stop may segments i s name files first status old between new at is left p
 -- ---- booting
 
 given_same :
-    (given : Result BootedFolder Refusal) → by_refusal (old_systems.given_in given) ≡ given_in (by_refusal given)
+    (given : Result BootedFolder Refusal) → refusal_to_status (old_systems.folder_result given) ≡ folder_result (refusal_to_status given)
 given_same (Ok booted) = refl
 given_same (Err refusal) = refl
 
 pub files_given :
     (may : May) (access : Access) (files : List (List ℕ)) (given : Result BootedFolder Refusal) (result : Result BootedFolder Status) (old new : Seen)
-    → Performs {may = may} (each_onto segment_words [] access.catalog.segments) (Ok files) old new
-    → Gives (old_systems.given_in given) (boots (folder_with access files)) → result ≡ by_refusal given
-    → Performs {may = may} (files_booted access) (given_in result) old new
+    → Performs {may = may} (read_each segment_words [] access.catalog.segments) (Ok files) old new
+    → IsRuleResult (old_systems.folder_result given) (boot_result (folder_with access files)) → result ≡ refusal_to_status given
+    → Performs {may = may} (files_booted access) (folder_result result) old new
 unfolding files_booted
 files_given may access files given result old new performs gives is =
-    performs_then (each_onto segment_words [] access.catalog.segments) (λ files. decides (boots (folder_with access files))) files (given_in result) old new new performs
-    (rule_given may (old_systems.given_in given) (boots (folder_with access files)) (given_in result) new gives (ap given_in is ∙ sym (given_same given)))
+    performs_then (read_each segment_words [] access.catalog.segments) (λ files. rule_program (boot_result (folder_with access files))) files (folder_result result) old new new performs
+    (rule_given may (old_systems.folder_result given) (boot_result (folder_with access files)) (folder_result result) new gives (ap folder_result is ∙ sym (given_same given)))
 
 pub files_not :
     (may : May) (access : Access) (status : Status) (old new : Seen)
-    → Performs {may = may} (each_onto segment_words [] access.catalog.segments) (Err status) old new
+    → Performs {may = may} (read_each segment_words [] access.catalog.segments) (Err status) old new
     → Performs {may = may} (files_booted access) (Err status) old new
 unfolding files_booted
 files_not may access status old new performs =
-    performs_stop (each_onto segment_words [] access.catalog.segments) (λ files. decides (boots (folder_with access files))) status old new performs
+    performs_stop (read_each segment_words [] access.catalog.segments) (λ files. rule_program (boot_result (folder_with access files))) status old new performs
 
 pub folder_read :
     (may : May) (user : Option (List ℕ)) (access : Access) (result : Result FolderFields Status) (old between new : Seen)
@@ -114,7 +114,7 @@ folder_not may user status old new one = performs_stop (catalog_access user) (λ
 -- ---- the audit's text, and the run
 
 pub run_follows :
-    (run : Running) (steps : ℕ) (first : Booted) (findings : List (ℕ × ℕ)) (result : Result (Unit {0}) Status) (old between new : Seen)
+    (run : RunContext) (steps : ℕ) (first : Booted) (findings : List (ℕ × ℕ)) (result : Result (Unit {0}) Status) (old between new : Seen)
     → Performs (all_put (audit_pieces findings)) (Ok tt) old between → Performs (run_from run 0 steps first) result between new
     → Performs (audit_and_run run steps first findings) result old new
 unfolding audit_and_run
@@ -122,7 +122,7 @@ run_follows run steps first findings result old between new put performs =
     all_then (audit_pieces findings) (run_from run 0 steps first) result old between new put performs
 
 pub run_unput :
-    (run : Running) (steps : ℕ) (first : Booted) (findings : List (ℕ × ℕ)) (status : Status) (old new : Seen)
+    (run : RunContext) (steps : ℕ) (first : Booted) (findings : List (ℕ × ℕ)) (status : Status) (old new : Seen)
     → Performs (all_put (audit_pieces findings)) (Err status) old new
     → Performs (audit_and_run run steps first findings) (Err status) old new
 unfolding audit_and_run
@@ -135,14 +135,14 @@ pub ruleset runs = (run_follows, run_unput)
 
 pub found_passes :
     (lib : Library) (system : SuperFields) (findings : List (ℕ × ℕ))
-    → IsBooted lib system → AreFindings system.core booted_dbr findings → findings ≡ [] → PassesBooted lib
+    → IsBooted lib system → AreFindings system.core booted_dbr findings → findings ≡ [] → PassesFolderAudit lib
 found_passes lib system findings booted found none =
     passes_booted lib system booted (findings_law.sound system.core booted_dbr (subst (AreFindings system.core booted_dbr) none found))
 
 pub found_in :
     (command : FolderCommand) (system : SuperFields) (denied : List (List ℕ)) (findings : List (ℕ × ℕ)) (result : Result (Unit {0}) Status) (old new : Seen)
     → IsFresh system → AreFindings system.core system.regs.dbr findings
-    → Performs (by_command command (record { lib = system.lib; denied = denied }) (booted_of system) findings) result old new
+    → Performs (command_after_audit command (record { lib = system.lib; denied = denied }) (booted_of system) findings) result old new
     → Performs (on_folder command (record { lib = system.lib; denied = denied })) result old new
 unfolding on_folder on_system
 found_in command system denied findings result old new fresh found performs =
@@ -150,7 +150,7 @@ found_in command system denied findings result old new fresh found performs =
     let so = subst (λ (d : DbrFields). AreFindings system.core d findings) fresh.stands.dbr found in
     performs_some (IsBooted system.lib) (on_system command given) system result old new fresh
     (performs_wants _ result old new
-    (performs_some (AreFolderFindings system.lib system) (by_command command given (booted_of system)) findings result old new
+    (performs_some (AreFolderFindings system.lib system) (command_after_audit command given (booted_of system)) findings result old new
     (record { found = so; passes = found_passes system.lib system findings fresh so }) performs))
 
 -- the audit ran out of memory

@@ -7,22 +7,22 @@ use Rattle.m36_model.specs.Residence.{flat_of}
 use Rattle.m36_dir.specs.Catalog.{CatalogFields, found}
 use Rattle.m36_link.specs.Fields.{KnownFields, SnapFields}
 use Rattle.m36_link.specs.Known.{nothing_known, segment_of}
-use Rattle.m36_link.specs.Search.{found_in, candidates, searched}
-use Rattle.m36_link.specs.Snap.{outer_landing, landing_of, outer_snap, snap_of}
-use Rattle.m36_link.specs.Accepted.{accepted}
+use Rattle.m36_link.specs.Search.{found_in, candidates, search_result}
+use Rattle.m36_link.specs.Snap.{outer_target, target_of_link, outer_snap, snap_of}
+use Rattle.m36_link.specs.Accepted.{known_after}
 use Rattle.m36_boot.specs.declared.fault.BootFault.{BootFault}
 use Rattle.m36_boot.specs.declared.fault.BootFault.TheVariants as fault
 use Rattle.m36_boot.specs.Segments.{booted_sdw}
 use Rattle.m36_boot.specs.Start.{start_answer, start_segment, start_regs}
-use Rattle.m36_boot.specs.Refusals.{Answer, first_or, start_of, boot_answer}
+use Rattle.m36_boot.specs.Refusals.{StartAnswer, first_or, start_of, boot_answer}
 use Rattle.m36_boot.specs.Image.{booted_word, booted_content, words_from, booted_flat, paged_of}
 use Rattle.m36_super.specs.Library.{Library}
 use Rattle.m36_super.specs.declared.coming.NextEvent.{NextEvent}
 use Rattle.m36_super.specs.declared.coming.NextEvent.TheVariants.{Step, Link, Print, Over}
-use Rattle.m36_super.specs.FlatRun.{FlatRun, flat_linked_by, flat_turn_by, flat_turn}
+use Rattle.m36_super.specs.FlatRun.{FlatRun, flat_link_turn, flat_turn_by, flat_turn}
 use Rattle.m36_super.specs.SuperFields.{SuperFields, booted_of}
 use Rattle.m36_super.specs.BootedRun.{flat_run_of}
-use Rattle.m36_super.specs.BootSays.{IsBooted, at_start}
+use Rattle.m36_super.specs.BootResult.{IsBooted, system_at_start}
 use Rattle.cmd_folder.specs.BootedLaw.{with_frames}
 use Rattle.cmd_folder.proofs.OneRun.{AreAlike, Look}
 
@@ -34,12 +34,12 @@ framed catalog n = record catalog { frames = n }
 same_snap :
     (known : KnownFields) (catalog : CatalogFields) (files : List (List ℕ)) (n : ℕ) (at : AtFields)
     → snap_of known catalog files at ≡ snap_of known (framed catalog n) files at
-unfolding snap_of landing_of outer_landing searched candidates found_in found segment_of
+unfolding snap_of target_of_link outer_target search_result candidates found_in found segment_of
 same_snap known catalog files n at = refl
 
 alike_by : (coming : NextEvent) (lib : Library) (n : ℕ) (r : FlatRun) → flat_turn_by coming lib r ≡ flat_turn_by coming (with_frames lib n) r
 alike_by Step lib n r = refl
-alike_by (Link at) lib n r = ap (λ a. flat_linked_by a r at) (same_snap r.known lib.catalog lib.files n at)
+alike_by (Link at) lib n r = ap (λ a. flat_link_turn a r at) (same_snap r.known lib.catalog lib.files n at)
 alike_by Print lib n r = refl
 alike_by (Over e) lib n r = refl
 
@@ -75,10 +75,10 @@ same_flat catalog files s n =
     }
 
 same_start : (catalog : CatalogFields) (files : List (List ℕ)) (n : ℕ) → start_of catalog files ≡ start_of (framed catalog n) files
-unfolding start_of start_answer start_segment outer_snap outer_landing searched candidates found_in found segment_of
+unfolding start_of start_answer start_segment outer_snap outer_target search_result candidates found_in found segment_of
 same_start catalog files n = refl
 
-started_by : (few : Bool) (gate : Option BootFault) (start : Answer) (s : SnapFields) → (if few then Err fault.U1 else first_or gate start) ≡ Ok s → start ≡ Ok s
+started_by : (few : Bool) (gate : Option BootFault) (start : StartAnswer) (s : SnapFields) → (if few then Err fault.U1 else first_or gate start) ≡ Ok s → start ≡ Ok s
 started_by true gate start s is = absurd (cc)
 started_by false None start s is = is
 started_by false (Some first) start s is = absurd (cc)
@@ -87,7 +87,7 @@ started : (catalog : CatalogFields) (files : List (List ℕ)) (s : SnapFields) �
 unfolding boot_answer
 started catalog files s is = started_by _ _ (start_of catalog files) s is
 
-ok_same : (s t : SnapFields) → (let r : Answer = Ok s in r) ≡ Ok t → s ≡ t
+ok_same : (s t : SnapFields) → (let r : StartAnswer = Ok s in r) ≡ Ok t → s ≡ t
 ok_same s t e = cc
 
 pub booted_alike :
@@ -101,9 +101,9 @@ booted_alike lib n system other a b =
     a.laid.regs ∙ ap (start_regs lib.catalog.start.ring) snap ∙ sym b.laid.regs in
     let store : flat_of (paged_of a.image) ≡ flat_of (paged_of b.image) =
     a.laid.flat ∙ ap (booted_flat lib.catalog lib.files) snap ∙ same_flat lib.catalog lib.files b.image.snap n ∙ sym b.laid.flat in
-    let same : flat_run_of (booted_of (at_start lib a.image)) ≡ flat_run_of (booted_of (at_start (with_frames lib n) b.image)) = λ i. record {
+    let same : flat_run_of (booted_of (system_at_start lib a.image)) ≡ flat_run_of (booted_of (system_at_start (with_frames lib n) b.image)) = λ i. record {
       state = record { regs = regs i; store = store i };
-      known = accepted nothing_known (snap i);
+      known = known_after nothing_known (snap i);
       coming = Step;
       loaded = false;
     } in

@@ -11,14 +11,14 @@ use Rattle.m36_step.specs.declared.turns.Turn.TheVariants.{Stepped, Linked, Cons
 use Rattle.m36_super.specs.Library.{Library}
 use Rattle.m36_super.specs.declared.coming.NextEvent.{NextEvent}
 use Rattle.m36_super.specs.declared.coming.NextEvent.TheVariants.{Step, Link, Print, Over}
-use Rattle.m36_super.specs.FlatRun.{FlatRun, FlatTurn, flat_stepped, flat_turn_by, flat_turn}
+use Rattle.m36_super.specs.FlatRun.{FlatRun, FlatTurn, flat_step_turn, flat_turn_by, flat_turn}
 use Rattle.m36_super.specs.BootedRun.{Booted, IsTurn, AreTurns, LaidOutUntilLdbr, flat_run_of}
-use Rattle.m36_super.specs.TurnLaws.{LocatesInTurn, IsFlatTurn, IsPlainTurn}
+use Rattle.m36_super.specs.TurnLaws.{TurnExecutesAbsa, IsFlatTurn, IsPlainTurn}
 use Rattle.m36_super.proofs.Turns.{turn_law}
 use Rattle.m36_super.proofs.Audited.{flat_loaded, not_located, plain_flat}
 use Rattle.cmd_folder.specs.declared.finish.Finish.{Finish}
 use Rattle.cmd_folder.specs.declared.finish.Finish.TheVariants as finish
-use Rattle.cmd_folder.specs.RunText.{steps_of, steps_in}
+use Rattle.cmd_folder.specs.RunText.{turn_step_count, turns_step_count}
 use Rattle.cmd_folder.specs.Runs.{IsEvent, Finishes}
 use Rattle.cmd_folder.specs.BootedLaw.{HasMemory}
 
@@ -52,12 +52,12 @@ goes lib r turn mid fresh is plain =
 
 -- A turn that is made is that of the flat run, or both execute ABSA.
 abbrev IsLikeFlat : Turn → Turn → Type 0
-IsLikeFlat turn flat = (turn ≡ flat) ⊎ (LocatesInTurn turn × LocatesInTurn flat)
+IsLikeFlat turn flat = (turn ≡ flat) ⊎ (TurnExecutesAbsa turn × TurnExecutesAbsa flat)
 
 like_by :
     (lib : Library) (r : Booted) (turn : Turn) (mid : Booted) → HasMemory turn
-    → (LocatesInTurn turn → LocatesInTurn (flat_turn lib (flat_run_of r)).turn)
-    → (IsFlatTurn lib r turn mid ⊎ ((turn ≡ NoMemory) × (mid ≡ r)) ⊎ LocatesInTurn turn)
+    → (TurnExecutesAbsa turn → TurnExecutesAbsa (flat_turn lib (flat_run_of r)).turn)
+    → (IsFlatTurn lib r turn mid ⊎ ((turn ≡ NoMemory) × (mid ≡ r)) ⊎ TurnExecutesAbsa turn)
     → IsLikeFlat turn (flat_turn lib (flat_run_of r)).turn
 like_by lib r turn mid has locates (inl h) = inl h.turn_is
 like_by lib r turn mid has locates (inr (inl h)) = absurd (has h.0)
@@ -76,7 +76,7 @@ event_has turn event e = subst IsEvent e event
 -- If a flat turn is plain, a turn like it is plain too.
 plain_like : (turn other flat : Turn) → turn ≡ flat → IsPlainTurn turn → IsLikeFlat other flat → IsPlainTurn other
 plain_like turn other flat is plain (inl h) = subst IsPlainTurn (is ∙ sym h) plain
-plain_like turn other flat is plain (inr h) = absurd (not_located turn (subst LocatesInTurn (sym is) h.1) plain)
+plain_like turn other flat is plain (inr h) = absurd (not_located turn (subst TurnExecutesAbsa (sym is) h.1) plain)
 
 -- ---- what comes next
 
@@ -84,7 +84,7 @@ plain_like turn other flat is plain (inr h) = absurd (not_located turn (subst Lo
 steps_next :
     (coming : NextEvent) (lib : Library) (r : FlatRun) → coming ≡ Step
     → (e : StepRecord) × ((flat_turn_by coming lib r).turn ≡ Stepped e)
-unfolding flat_stepped
+unfolding flat_step_turn
 steps_next Step lib r is = (record_of flat_store r.state, refl)
 steps_next (Link at) lib r is = absurd (cc)
 steps_next Print lib r is = absurd (cc)
@@ -120,7 +120,7 @@ Ends finish.Limit lib limit taken last = (taken ≡ limit) × (last.coming ≡ S
 
 finished :
     (how : Finish) (lib : Library) (limit : ℕ) (turns : List Turn) (last : Booted) → Finishes how lib limit turns last
-    → Ends how lib limit (steps_in turns) last
+    → Ends how lib limit (turns_step_count turns) last
 finished (finish.Over e) lib limit turns last is = is
 finished finish.Limit lib limit turns last is = is
 
@@ -148,10 +148,10 @@ ends_one lib other limit taken taken' r s finish.Limit (finish.Over f) alike loo
 ends_one lib other limit taken taken' r s finish.Limit finish.Limit alike look fresh fresh' is is' = refl
 
 -- No run continues where another has ended.
-step_counts : (turn : Turn) (told : StepRecord) → turn ≡ Stepped told → steps_of turn ≡ 1
-step_counts turn told is = ap steps_of is
+step_counts : (turn : Turn) (told : StepRecord) → turn ≡ Stepped told → turn_step_count turn ≡ 1
+step_counts turn told is = ap turn_step_count is
 
-locates_counts : (turn : Turn) → LocatesInTurn turn → steps_of turn ≡ 1
+locates_counts : (turn : Turn) → TurnExecutesAbsa turn → turn_step_count turn ≡ 1
 locates_counts (Stepped e) h = refl
 locates_counts (Linked note) h = absurd h
 locates_counts (Console text) h = absurd h
@@ -161,16 +161,16 @@ locates_counts NoMemory h = absurd h
 
 like_end : (e : End) (turn flat : Turn) → Ended e ≡ flat → IsEvent turn → IsLikeFlat turn flat → ⊥
 like_end e turn flat is event (inl h) = subst IsEvent (h ∙ sym is) event
-like_end e turn flat is event (inr h) = subst LocatesInTurn (sym is) h.1
+like_end e turn flat is event (inr h) = subst TurnExecutesAbsa (sym is) h.1
 
-like_step : (told : StepRecord) (turn flat : Turn) → flat ≡ Stepped told → IsLikeFlat turn flat → steps_of turn ≡ 1
+like_step : (told : StepRecord) (turn flat : Turn) → flat ≡ Stepped told → IsLikeFlat turn flat → turn_step_count turn ≡ 1
 like_step told turn flat is (inl h) = step_counts turn told (h ∙ is)
 like_step told turn flat is (inr h) = locates_counts turn h.0
 
 not_on :
     (lib other : Library) (limit taken left : ℕ) (r s mid : Booted) (how : Finish) (turn : Turn)
     → AreAlike lib other → Look r s → IsFresh lib r → IsFresh other s → IsTurn other s turn mid → IsEvent turn
-    → taken + (steps_of turn + left) ≤ limit → Ends how lib limit taken r → ⊥
+    → taken + (turn_step_count turn + left) ≤ limit → Ends how lib limit taken r → ⊥
 not_on lib other limit taken left r s mid (finish.Over e) turn alike look fresh fresh' on event few is =
     let like = like_flat other s turn mid fresh' on (event_has turn event) in
     like_end e turn (flat_turn other (flat_run_of s)).turn
@@ -178,7 +178,7 @@ not_on lib other limit taken left r s mid (finish.Over e) turn alike look fresh 
 not_on lib other limit taken left r s mid finish.Limit turn alike look fresh fresh' on event few is =
     let like = like_flat other s turn mid fresh' on (event_has turn event) in
     let next = next_is lib (flat_run_of r) is.1 in
-    let one : steps_of turn ≡ 1 =
+    let one : turn_step_count turn ≡ 1 =
     like_step next.0 turn (flat_turn other (flat_run_of s)).turn
     (sym (ap (λ (t : FlatTurn). t.turn) (next_alike lib other r s alike look)) ∙ next.1) like in
     omega (arith, one, few, is.0)
@@ -320,24 +320,24 @@ turns_meet lib other r s last last' (turn ∷ more) (turn' ∷ more') alike look
 
 -- ---- no turn follows where a run has finished
 
-steps_both : (turns more : List Turn) → steps_in (turns ++ more) ≡ steps_in turns + steps_in more
-unfolding steps_in
+steps_both : (turns more : List Turn) → turns_step_count (turns ++ more) ≡ turns_step_count turns + turns_step_count more
+unfolding turns_step_count
 steps_both [] more = omega arith
 steps_both (turn ∷ turns) more = omega (arith, steps_both turns more)
 
 steps_on :
     (turns same more : List Turn) (next : Turn) → same ≡ turns ++ (next ∷ more)
-    → steps_in same ≡ steps_in turns + (steps_of next + steps_in more)
-unfolding steps_in
-steps_on turns same more next is = ap steps_in is ∙ steps_both turns (next ∷ more)
+    → turns_step_count same ≡ turns_step_count turns + (turn_step_count next + turns_step_count more)
+unfolding turns_step_count
+steps_on turns same more next is = ap turns_step_count is ∙ steps_both turns (next ∷ more)
 
 pub ends_there :
     (lib other : Library) (limit : ℕ) (turns same : List Turn) (last : Booted) (how : Finish)
-    → AreAlike lib other → GoesOn lib other turns same last → steps_in same ≤ limit → Finishes how lib limit turns last
+    → AreAlike lib other → GoesOn lib other turns same last → turns_step_count same ≤ limit → Finishes how lib limit turns last
     → ⊥
 ends_there lib other limit turns same last how alike on few finishes =
-    not_on lib other limit (steps_in turns)
-    (steps_in on.more) last on.before on.after how on.next alike on.look on.fresh on.fresh' on.made on.event
+    not_on lib other limit (turns_step_count turns)
+    (turns_step_count on.more) last on.before on.after how on.next alike on.look on.fresh on.fresh' on.made on.event
     (subst (λ n. n ≤ limit) (steps_on turns same on.more on.next on.is) few)
     (finished how lib limit turns last finishes)
 
@@ -347,7 +347,7 @@ pub finish_one :
     → AreAlike lib other → AreSame lib other turns same last last' → Finishes how lib limit turns last
     → Finishes end other limit same last' → how ≡ end
 finish_one lib other limit turns same last last' how end alike are is is' =
-    ends_one lib other limit (steps_in turns) (steps_in same) last last' how end alike are.look are.fresh are.fresh'
+    ends_one lib other limit (turns_step_count turns) (turns_step_count same) last last' how end alike are.look are.fresh are.fresh'
     (finished how lib limit turns last is) (finished end other limit same last' is')
 
 -- ---- the same turns, where there are as many

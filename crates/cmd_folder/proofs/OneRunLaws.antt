@@ -6,7 +6,7 @@ use Rattle.m36_super.specs.Library.{Library}
 use Rattle.m36_super.specs.BootedRun.{Booted, AreTurns}
 use Rattle.m36_super.specs.SuperFields.{SuperFields, booted_of}
 use Rattle.m36_super.specs.TurnLaws.{IsPlainTurn}
-use Rattle.m36_super.specs.BootSays.{IsBooted}
+use Rattle.m36_super.specs.BootResult.{IsBooted}
 use Rattle.m36_super.proofs.BootTurns.{start_unloaded}
 use Rattle.cmd_folder.specs.declared.finish.Finish.{Finish}
 use Rattle.cmd_folder.specs.BootedLaw.{with_frames, HasMemory, AreOneRun, BootedLaw}

@@ -14,8 +14,8 @@ use Rattle.m36_super.specs.declared.coming.NextEvent.{NextEvent}
 use Rattle.m36_super.specs.declared.coming.NextEvent.TheVariants.{Step, Link, Print}
 use Rattle.m36_super.specs.declared.coming.NextEvent.TheVariants as coming
 use Rattle.m36_super.specs.BootedRun.{Booted, IsTurnBy, IsTurn, AreTurns}
-use Rattle.m36_super.specs.SuperTurn.{IsQuiet}
-use Rattle.m36_program.specs.Early.{early}
+use Rattle.m36_super.specs.SuperTurn.{IsNoService}
+use Rattle.m36_program.specs.Early.{result_of_status}
 use Rattle.m36_program.specs.Goes.{Goes}
 use Rattle.m36_program.specs.Program.{quiet, Program, puts_all, some}
 use Rattle.m36_program.proofs.Performing.{goes_some, goes_wants}
@@ -23,19 +23,19 @@ use Rattle.m36_program.proofs.ProgramLaws.{goes_ends}
 use Rattle.m36_program.proofs.PutLaws.{goes_puts}
 use Rattle.cmd_folder.specs.declared.finish.Finish.{Finish}
 use Rattle.cmd_folder.specs.declared.finish.Finish.TheVariants.{Over, Limit}
-use Rattle.cmd_folder.specs.RunText.{steps_of, steps_in, pieces_of, end_pieces, run_pieces, finish_status}
+use Rattle.cmd_folder.specs.RunText.{turn_step_count, turns_step_count, pieces_of_turn, end_pieces, run_pieces, finish_status}
 use Rattle.cmd_folder.specs.Runs.{IsEvent, Finishes}
 use Rattle.cmd_folder.specs.Runs as runs
 use Rattle.cmd_folder.proofs.TurnLaws.{link_is}
-use Rattle.cmd_folder.specs.RunProgram.{Running, IsMade, FindsMemory, finish_may_end, run_ends, puts_turn}
-use Rattle.cmd_folder.specs.RunProgram.{after_service, then_on, serve_by, serve, run_from}
+use Rattle.cmd_folder.specs.RunProgram.{RunContext, IsPossibleTurn, FindsMemory, finish_may_end, put_run_end, puts_turn}
+use Rattle.cmd_folder.specs.RunProgram.{after_service, continue_after_service, serve_event, serve, run_from}
 use Rattle.cmd_folder.proofs.RunGoes.{written, from_start, no_turns, turn_written, is_step, step_counts, linked_made}
 use Rattle.cmd_folder.proofs.RunGoes.{PrintMade, print_made}
 use Rattle.cmd_folder.proofs.Serving.{ended_pieces, print_over}
 
 -- The program puts these pieces, and ends with the status of the finish.
 abbrev Writes : Program quiet (Unit {0}) → List (List ℕ) → Finish → Type 0
-Writes rest pieces how = Goes rest (outputs pieces) (early (finish_status (Some how)))
+Writes rest pieces how = Goes rest (outputs pieces) (result_of_status (finish_status (Some how)))
 
 outputs_both : (first more : List (List ℕ)) → outputs (first ++ more) ≡ outputs first ++ outputs more
 outputs_both [] more = refl
@@ -45,31 +45,31 @@ writes_first :
     (first more : List (List ℕ)) (rest : Program quiet (Unit {0})) (how : Finish)
     → Writes rest more how → Writes (puts_all first rest) (first ++ more) how
 writes_first first more rest how writes =
-    subst (λ e. Goes (puts_all first rest) e (early (finish_status (Some how)))) (sym (outputs_both first more))
-    (goes_puts first rest (outputs more) (early (finish_status (Some how))) writes)
+    subst (λ e. Goes (puts_all first rest) e (result_of_status (finish_status (Some how)))) (sym (outputs_both first more))
+    (goes_puts first rest (outputs more) (result_of_status (finish_status (Some how))) writes)
 
 writes_end :
-    (run : Running) (taken : ℕ) (how : Finish) → Writes (run_ends run taken how)
+    (run : RunContext) (taken : ℕ) (how : Finish) → Writes (put_run_end run taken how)
     (end_pieces run.denied (Some how) taken) how
-unfolding run_ends
+unfolding put_run_end
 writes_end run taken how =
     let pieces = end_pieces run.denied (Some how) taken in
-    subst (λ l. Goes (run_ends run taken how) (outputs l) (early (finish_status (Some how)))) (append-nil pieces)
+    subst (λ l. Goes (put_run_end run taken how) (outputs l) (result_of_status (finish_status (Some how)))) (append-nil pieces)
     (writes_first pieces [] _ how (goes_ends quiet (finish_status (Some how)) (finish_may_end how)))
 
 writes_here :
-    (run : Running) (taken : ℕ) (how : Finish) → Writes (run_ends run taken how) (written run taken [] (Some how)) how
+    (run : RunContext) (taken : ℕ) (how : Finish) → Writes (put_run_end run taken how) (written run taken [] (Some how)) how
 writes_here run taken how =
-    subst (λ l. Writes (run_ends run taken how) l how) (sym (no_turns run taken (Some how))) (writes_end run taken how)
+    subst (λ l. Writes (put_run_end run taken how) l how) (sym (no_turns run taken (Some how))) (writes_end run taken how)
 
 writes_turn :
-    (run : Running) (taken now : ℕ) (told : Turn) (turns : List Turn) (rest : Program quiet (Unit {0})) (how : Finish)
-    → now ≡ taken + steps_of told → Writes rest (written run now turns (Some how)) how
-    → Writes (puts_all (pieces_of run.output taken told) rest) (written run taken (told ∷ turns) (Some how)) how
+    (run : RunContext) (taken now : ℕ) (told : Turn) (turns : List Turn) (rest : Program quiet (Unit {0})) (how : Finish)
+    → now ≡ taken + turn_step_count told → Writes rest (written run now turns (Some how)) how
+    → Writes (puts_all (pieces_of_turn run.output taken told) rest) (written run taken (told ∷ turns) (Some how)) how
 writes_turn run taken now told turns rest how is writes =
-    subst (λ l. Writes (puts_all (pieces_of run.output taken told) rest) l how)
+    subst (λ l. Writes (puts_all (pieces_of_turn run.output taken told) rest) l how)
     (sym (turn_written run taken now told turns (Some how) is))
-    (writes_first (pieces_of run.output taken told) (written run now turns (Some how)) rest how writes)
+    (writes_first (pieces_of_turn run.output taken told) (written run now turns (Some how)) rest how writes)
 
 -- ---- a run from a state
 
@@ -79,7 +79,7 @@ record Left (lib : Library) (left : ℕ) (b : Booted) (turns : List Turn) (last 
   pub finishes : Finishes how lib left turns last
 
 -- The program that follows a step or a service writes a run from there.
-abbrev RunWrites : Running → ℕ → ℕ → Type 0
+abbrev RunWrites : RunContext → ℕ → ℕ → Type 0
 RunWrites run taken left =
     (b : Booted) (turns : List Turn) (last : Booted) (how : Finish)
     → b.coming ≡ Step → Left run.lib left b turns last how
@@ -87,8 +87,8 @@ RunWrites run taken left =
 
 finishes_rest :
     (how : Finish) (lib : Library) (left all : ℕ) (told : Turn) (turns : List Turn) (last : Booted)
-    → all ≡ steps_of told + left → Finishes how lib all (told ∷ turns) last → Finishes how lib left turns last
-unfolding steps_in
+    → all ≡ turn_step_count told + left → Finishes how lib all (told ∷ turns) last → Finishes how lib left turns last
+unfolding turns_step_count
 finishes_rest (Over e) lib left all told turns last is finishes = finishes
 finishes_rest Limit lib left all told turns last is finishes = (omega (arith, is, finishes.0), finishes.1)
 
@@ -102,9 +102,9 @@ mid_of lib left b last told turns how ran = ran.goes.turns_are.0
 -- the rest of a run after its first turn
 rest_of :
     (lib : Library) (left all : ℕ) (b last : Booted) (told : Turn) (turns : List Turn) (how : Finish)
-    → all ≡ steps_of told + left → (ran : Left lib all b (told ∷ turns) last how)
+    → all ≡ turn_step_count told + left → (ran : Left lib all b (told ∷ turns) last how)
     → Left lib left (mid_of lib all b last told turns how ran) turns last how
-unfolding AreTurns steps_in mid_of
+unfolding AreTurns turns_step_count mid_of
 rest_of lib left all b last told turns how is ran = record {
   goes = record {
     turns_are = ran.goes.turns_are.2;
@@ -142,9 +142,9 @@ no_step b last next here is step on = on (sym is ∙ ap (λ (s : Booted). s.comi
 
 -- The run is over in this state, and so it makes no more turns.
 over_writes :
-    (run : Running) (taken left : ℕ) (b : Booted) (e : End) (turns : List Turn) (last : Booted) (how : Finish)
+    (run : RunContext) (taken left : ℕ) (b : Booted) (e : End) (turns : List Turn) (last : Booted) (how : Finish)
     → b.coming ≡ coming.Over e → Left run.lib left b turns last how
-    → Writes (run_ends run taken (Over e)) (written run taken turns (Some how)) how
+    → Writes (put_run_end run taken (Over e)) (written run taken turns (Some how)) how
 unfolding AreTurns
 over_writes run taken left b e [] last Limit is ran =
     no_step b last (coming.Over e) (none_made run.lib left b last Limit ran) is ran.finishes.1 (λ next. absurd (cc))
@@ -153,7 +153,7 @@ over_writes run taken left b e [] last (Over f) is ran =
     let ended : IsTurn run.lib b (turn.Ended f) ran.finishes.0 = subst
     (λ s. IsTurn run.lib s (turn.Ended f) ran.finishes.0) here ran.finishes.1 in
     let by = turn_by run.lib b ran.finishes.0 (turn.Ended f) (coming.Over e) is ended in
-    subst (λ g. Writes (run_ends run taken (Over g)) (written run taken [] (Some (Over f))) (Over f))
+    subst (λ g. Writes (put_run_end run taken (Over g)) (written run taken [] (Some (Over f))) (Over f))
     (over_same e f by.0)
     (writes_here run taken (Over f))
 over_writes run taken left b e (told ∷ turns) last how is ran =
@@ -162,8 +162,8 @@ over_writes run taken left b e (told ∷ turns) last how is ran =
 
 -- what follows a service
 after_writes :
-    (next : NextEvent) (run : Running) (taken left : ℕ) (b : Booted) (turns : List Turn) (last : Booted) (how : Finish)
-    → RunWrites run taken left → IsQuiet next → b.coming ≡ next → Left run.lib left b turns last how
+    (next : NextEvent) (run : RunContext) (taken left : ℕ) (b : Booted) (turns : List Turn) (last : Booted) (how : Finish)
+    → RunWrites run taken left → IsNoService next → b.coming ≡ next → Left run.lib left b turns last how
     → Writes (after_service next run taken (λ b. run_from run taken left b) b) (written run taken turns (Some how)) how
 after_writes Step run taken left b turns last how on silent is ran = on b turns last how is ran
 after_writes (Link at) run taken left b turns last how on silent is ran = absurd silent
@@ -172,19 +172,19 @@ after_writes (coming.Over e) run taken left b turns last how on silent is ran =
     over_writes run taken left b e turns last how is ran
 
 service_writes :
-    (run : Running) (taken left : ℕ) (after : Booted) (told : Turn) (turns : List Turn) (last : Booted) (how : Finish)
-    → RunWrites run taken left → steps_of told ≡ 0 → IsQuiet after.coming → Left run.lib left after turns last how
-    → Writes (puts_all (pieces_of run.output taken told) (then_on run taken (λ b. run_from run taken left b) after))
+    (run : RunContext) (taken left : ℕ) (after : Booted) (told : Turn) (turns : List Turn) (last : Booted) (how : Finish)
+    → RunWrites run taken left → turn_step_count told ≡ 0 → IsNoService after.coming → Left run.lib left after turns last how
+    → Writes (puts_all (pieces_of_turn run.output taken told) (continue_after_service run taken (λ b. run_from run taken left b) after))
     (written run taken (told ∷ turns) (Some how)) how
 service_writes run taken left after told turns last how on none quiet ran =
-    writes_turn run taken taken told turns (then_on run taken (λ b. run_from run taken left b) after) how
+    writes_turn run taken taken told turns (continue_after_service run taken (λ b. run_from run taken left b) after) how
     (omega (arith, none))
     (after_writes after.coming run taken left after turns last how on quiet refl ran)
 
 link_writes :
-    (run : Running) (taken left : ℕ) (b : Booted) (at : AtFields) (turns : List Turn) (last : Booted) (how : Finish)
+    (run : RunContext) (taken left : ℕ) (b : Booted) (at : AtFields) (turns : List Turn) (last : Booted) (how : Finish)
     → RunWrites run taken left → b.coming ≡ Link at → Left run.lib left b turns last how
-    → Writes (serve_by (Link at) run taken (λ b. run_from run taken left b) b) (written run taken turns (Some how)) how
+    → Writes (serve_event (Link at) run taken (λ b. run_from run taken left b) b) (written run taken turns (Some how)) how
 unfolding AreTurns mid_of
 link_writes run taken left b at [] last Limit on is ran =
     no_step b last (Link at) (none_made run.lib left b last Limit ran) is ran.finishes.1 (λ next. absurd (cc))
@@ -203,35 +203,35 @@ link_writes run taken left b at (told ∷ turns) last how on is ran =
     let service = linked_made (snap_of b.known run.lib.catalog run.lib.files at) run.lib.catalog.frames at b told mid
     (turn_by run.lib b mid told (Link at) is made) found in
     let none = service.counts in
-    let next = then_on run taken (λ b. run_from run taken left b) in
+    let next = continue_after_service run taken (λ b. run_from run taken left b) in
     goes_wants (some (FindsMemory run.lib b) (puts_turn run taken next)) _ _
     (goes_some (FindsMemory run.lib b) (puts_turn run taken next) (record { turn = told; after = mid }) _ _
     (record { is = made; found = found })
     (service_writes run taken left mid told turns last how on none service.quiet
     (rest_of run.lib left left b last told turns how (omega (arith, none)) ran)))
 
-print_counts : (told : Turn) (next : NextEvent) → PrintMade told next → IsEvent told → steps_of told ≡ 0
-print_counts told next (inl printed) event = ap steps_of printed.1.told_is
+print_counts : (told : Turn) (next : NextEvent) → PrintMade told next → IsEvent told → turn_step_count told ≡ 0
+print_counts told next (inl console_pieces_of_turn) event = ap turn_step_count console_pieces_of_turn.1.told_is
 print_counts told next (inr ended) event = absurd (subst IsEvent ended.1.told_is event)
 
 printed_writes :
-    (run : Running) (taken left : ℕ) (b mid : Booted) (told : Turn) (turns : List Turn) (last : Booted) (how : Finish)
+    (run : RunContext) (taken left : ℕ) (b mid : Booted) (told : Turn) (turns : List Turn) (last : Booted) (how : Finish)
     → RunWrites run taken left → IsTurn run.lib b told mid → IsEvent told → Left run.lib left mid turns last how
     → PrintMade told mid.coming
-    → Goes (some (IsMade run.lib b) (puts_turn run taken (then_on run taken (λ b. run_from run taken left b))))
-    (outputs (written run taken (told ∷ turns) (Some how))) (early (finish_status (Some how)))
-printed_writes run taken left b mid told turns last how on made event rest (inl printed) =
-    goes_some (IsMade run.lib b) (puts_turn run taken (then_on run taken (λ b. run_from run taken left b)))
+    → Goes (some (IsPossibleTurn run.lib b) (puts_turn run taken (continue_after_service run taken (λ b. run_from run taken left b))))
+    (outputs (written run taken (told ∷ turns) (Some how))) (result_of_status (finish_status (Some how)))
+printed_writes run taken left b mid told turns last how on made event rest (inl console_pieces_of_turn) =
+    goes_some (IsPossibleTurn run.lib b) (puts_turn run taken (continue_after_service run taken (λ b. run_from run taken left b)))
     (record { turn = told; after = mid }) _ _ made
-    (service_writes run taken left mid told turns last how on (ap steps_of printed.1.told_is)
-    (subst IsQuiet (sym printed.1.next_is) tt) rest)
+    (service_writes run taken left mid told turns last how on (ap turn_step_count console_pieces_of_turn.1.told_is)
+    (subst IsNoService (sym console_pieces_of_turn.1.next_is) tt) rest)
 printed_writes run taken left b mid told turns last how on made event rest (inr ended) =
     absurd (subst IsEvent ended.1.told_is event)
 
 print_writes :
-    (run : Running) (taken left : ℕ) (b : Booted) (turns : List Turn) (last : Booted) (how : Finish)
+    (run : RunContext) (taken left : ℕ) (b : Booted) (turns : List Turn) (last : Booted) (how : Finish)
     → RunWrites run taken left → b.coming ≡ Print → Left run.lib left b turns last how
-    → Writes (serve_by Print run taken (λ b. run_from run taken left b) b) (written run taken turns (Some how)) how
+    → Writes (serve_event Print run taken (λ b. run_from run taken left b) b) (written run taken turns (Some how)) how
 unfolding AreTurns mid_of
 print_writes run taken left b [] last Limit on is ran =
     no_step b last Print (none_made run.lib left b last Limit ran) is ran.finishes.1 (λ next. absurd (cc))
@@ -240,12 +240,12 @@ print_writes run taken left b [] last (Over f) on is ran =
     let after = ran.finishes.0 in
     let ended : IsTurn run.lib b (turn.Ended f) after = subst
     (λ s. IsTurn run.lib s (turn.Ended f) after) here ran.finishes.1 in
-    let next = then_on run taken (λ b. run_from run taken left b) in
+    let next = continue_after_service run taken (λ b. run_from run taken left b) in
     let over : Writes (next after) (written run taken [] (Some (Over f))) (Over f) =
     subst (λ c. Writes (after_service c run taken (λ b. run_from run taken left b) after)
     (written run taken [] (Some (Over f))) (Over f))
     (sym (print_over run.lib b f after is ended)) (writes_here run taken (Over f)) in
-    goes_some (IsMade run.lib b) (puts_turn run taken next) (record { turn = turn.Ended f; after = after }) _ _ ended
+    goes_some (IsPossibleTurn run.lib b) (puts_turn run taken next) (record { turn = turn.Ended f; after = after }) _ _ ended
     (subst (λ l. Writes (puts_all l (next after)) (written run taken [] (Some (Over f))) (Over f))
     (sym (ended_pieces run.output taken f))
     (writes_first [] (written run taken [] (Some (Over f))) (next after) (Over f) over))
@@ -258,9 +258,9 @@ print_writes run taken left b (told ∷ turns) last how on is ran =
     (rest_of run.lib left left b last told turns how (omega (arith, none)) ran) kind
 
 serves_by :
-    (next : NextEvent) (run : Running) (taken left : ℕ) (b : Booted) (turns : List Turn) (last : Booted) (how : Finish)
+    (next : NextEvent) (run : RunContext) (taken left : ℕ) (b : Booted) (turns : List Turn) (last : Booted) (how : Finish)
     → RunWrites run taken left → b.coming ≡ next → Left run.lib left b turns last how
-    → Writes (serve_by next run taken (λ b. run_from run taken left b) b) (written run taken turns (Some how)) how
+    → Writes (serve_event next run taken (λ b. run_from run taken left b) b) (written run taken turns (Some how)) how
 serves_by Step run taken left b turns last how on is ran = on b turns last how is ran
 serves_by (Link at) run taken left b turns last how on is ran = link_writes run taken left b at turns last how on is ran
 serves_by Print run taken left b turns last how on is ran = print_writes run taken left b turns last how on is ran
@@ -268,7 +268,7 @@ serves_by (coming.Over e) run taken left b turns last how on is ran =
     over_writes run taken left b e turns last how is ran
 
 serve_writes :
-    (run : Running) (taken left : ℕ) (b : Booted) (turns : List Turn) (last : Booted) (how : Finish)
+    (run : RunContext) (taken left : ℕ) (b : Booted) (turns : List Turn) (last : Booted) (how : Finish)
     → RunWrites run taken left → Left run.lib left b turns last how
     → Writes (serve run taken (λ b. run_from run taken left b) b) (written run taken turns (Some how)) how
 unfolding serve
@@ -284,8 +284,8 @@ not_ended lib left b last e next ran =
     not_over lib b ran.finishes.0 e next
     (subst (λ s. IsTurn lib s (turn.Ended e) ran.finishes.0) (none_made lib left b last (Over e) ran) ran.finishes.1)
 
-run_writes : (run : Running) (left taken : ℕ) → RunWrites run taken left
-unfolding run_from AreTurns steps_in mid_of
+run_writes : (run : RunContext) (left taken : ℕ) → RunWrites run taken left
+unfolding run_from AreTurns turns_step_count mid_of
 run_writes run zero taken b [] last (Over f) next ran = not_ended run.lib 0 b last f next ran
 run_writes run zero taken b [] last Limit next ran = writes_here run taken Limit
 run_writes run zero taken b (told ∷ turns) last how next ran =
@@ -298,17 +298,17 @@ run_writes run (suc left) taken b (told ∷ turns) last how next ran =
     let made = ran.goes.turns_are.1 in
     let one = step_counts told (is_step run.lib b mid told next made) in
     let rest = serve run (taken + 1) (λ b. run_from run (taken + 1) left b) in
-    goes_some (IsMade run.lib b) (puts_turn run taken rest) (record { turn = told; after = mid }) _ _ made
+    goes_some (IsPossibleTurn run.lib b) (puts_turn run taken rest) (record { turn = told; after = mid }) _ _ made
     (writes_turn run taken (taken + 1) told turns (rest mid) how (omega (arith, one))
     (serve_writes run (taken + 1) left mid turns last how (run_writes run left (taken + 1))
     (rest_of run.lib left (suc left) b last told turns how (omega (arith, one)) ran)))
 
 -- a run from its start
 pub run_calls :
-    (run : Running) (limit : ℕ) (first : Booted) (turns : List Turn) (last : Booted) (how : Finish)
+    (run : RunContext) (limit : ℕ) (first : Booted) (turns : List Turn) (last : Booted) (how : Finish)
     → first.coming ≡ Step → runs.Goes run.lib limit first turns last → Finishes how run.lib limit turns last
     → Goes (run_from run 0 limit first) (outputs (run_pieces run.denied run.output turns (Some how)))
-    (early (finish_status (Some how)))
+    (result_of_status (finish_status (Some how)))
 run_calls run limit first turns last how next goes finishes =
     subst (λ l. Writes (run_from run 0 limit first) l how) (from_start run turns (Some how))
     (run_writes run limit 0 first turns last how next (record { goes = goes; finishes = finishes }))

@@ -16,32 +16,32 @@ use Rattle.m36_super.specs.declared.coming.NextEvent.{NextEvent}
 use Rattle.m36_super.specs.declared.coming.NextEvent.TheVariants.{Step, Link, Print}
 use Rattle.m36_super.specs.declared.coming.NextEvent.TheVariants as coming
 use Rattle.m36_super.specs.BootedRun.{Booted, IsLinkTurn, IsConsoleTurn, IsTurnBy, IsTurn, AreTurns}
-use Rattle.m36_super.specs.SuperTurn.{IsQuiet, link_quiet}
+use Rattle.m36_super.specs.SuperTurn.{IsNoService, link_quiet}
 use Rattle.m36_status.specs.declared.status.Status.{Status}
 use Rattle.m36_status.specs.declared.status.Status.TheVariants.{NoMemory}
 use Rattle.m36_program.specs.Goes.{Ends, Goes}
 use Rattle.m36_program.specs.Program.{quiet, Program, puts_all}
-use Rattle.m36_program.specs.Trail as trail
+use Rattle.m36_program.specs.MayHappen as trail
 use Rattle.m36_program.proofs.PieceLaws.{PutsBy, puts_ended}
 use Rattle.cmd_folder.specs.declared.finish.Finish.{Finish}
 use Rattle.cmd_folder.specs.declared.finish.Finish.TheVariants.{Over, Limit}
-use Rattle.cmd_folder.specs.RunText.{steps_of, steps_in, pieces_of, pieces_from, end_pieces, run_pieces, finish_status}
+use Rattle.cmd_folder.specs.RunText.{turn_step_count, turns_step_count, pieces_of_turn, pieces_of_turns, end_pieces, run_pieces, finish_status}
 use Rattle.cmd_folder.specs.Runs.{IsEvent, Finishes, AwaitsLink}
 use Rattle.cmd_folder.specs.Runs as runs
 use Rattle.cmd_folder.proofs.TurnLaws.{IsStep, IsLink, step_is}
-use Rattle.cmd_folder.specs.RunIs.{FinishesAs, StopsAs, RunIs}
-use Rattle.cmd_folder.specs.RunProgram.{Running, finish_may_end, run_ends, after_service, then_on, serve_by, serve}
+use Rattle.cmd_folder.specs.IsBootedRun.{FinishesAs, StopsAs, IsBootedRun}
+use Rattle.cmd_folder.specs.RunProgram.{RunContext, finish_may_end, put_run_end, after_service, continue_after_service, serve_event, serve}
 use Rattle.cmd_folder.specs.RunProgram.{run_from}
 use Rattle.cmd_folder.proofs.PutsSplit.{pieces_all, PutsSplit, puts_split}
 use Rattle.cmd_folder.proofs.Serving.{ended_pieces}
 
 -- the pieces of turns and of an end; `taken` steps were taken before them
-abbrev pub written : Running → ℕ → List Turn → Option Finish → List (List ℕ)
-written run taken turns how = pieces_from run.output taken turns ++ end_pieces run.denied how (taken + steps_in turns)
+abbrev pub written : RunContext → ℕ → List Turn → Option Finish → List (List ℕ)
+written run taken turns how = pieces_of_turns run.output taken turns ++ end_pieces run.denied how (taken + turns_step_count turns)
 
 -- The events are those of a run from state b, up to its finish or to where the call stopped. `taken` steps were taken
 -- before b, and at most `left` follow.
-pub record RunGoes (run : Running) (taken left : ℕ) (b : Booted) (events : List Event)
+pub record RunGoes (run : RunContext) (taken left : ℕ) (b : Booted) (events : List Event)
     (result : Result (Unit {0}) Status) : Type 0 where
   pub turns : List Turn
   pub last : Booted
@@ -49,31 +49,31 @@ pub record RunGoes (run : Running) (taken left : ℕ) (b : Booted) (events : Lis
   pub goes : runs.Goes run.lib left b turns last
   pub finishes : FinishesAs how run.lib left turns last
   pub unput : List (List ℕ)
-  pub pieces : written run taken turns how ≡ trail.pieces_of events ++ unput
+  pub pieces : written run taken turns how ≡ trail.pieces_of_turn events ++ unput
   pub stops : StopsAs how last unput result
 
 -- before which no step was taken
 pub from_start :
-    (run : Running) (turns : List Turn) (how : Option Finish)
+    (run : RunContext) (turns : List Turn) (how : Option Finish)
     → written run 0 turns how ≡ run_pieces run.denied run.output turns how
 unfolding run_pieces
 from_start run turns how =
-    let none : 0 + steps_in turns ≡ steps_in turns = omega arith in
-    ap (λ n. pieces_from run.output 0 turns ++ end_pieces run.denied how n) none
+    let none : 0 + turns_step_count turns ≡ turns_step_count turns = omega arith in
+    ap (λ n. pieces_of_turns run.output 0 turns ++ end_pieces run.denied how n) none
 
 -- ---- no turn
 
 pub no_turns :
-    (run : Running) (taken : ℕ) (how : Option Finish) → written run taken [] how ≡ end_pieces run.denied how taken
-unfolding pieces_from steps_in
+    (run : RunContext) (taken : ℕ) (how : Option Finish) → written run taken [] how ≡ end_pieces run.denied how taken
+unfolding pieces_of_turns turns_step_count
 no_turns run taken how = ap (λ n. end_pieces run.denied how n) (add-zero taken)
 
 stay : (lib : Library) (left : ℕ) (b : Booted) → runs.Goes lib left b [] b
-unfolding AreTurns steps_in
+unfolding AreTurns turns_step_count
 stay lib left b = record { turns_are = refl; events = tt; few = omega arith }
 
 ended_by :
-    (run : Running) (taken left : ℕ) (b : Booted) (how : Finish) (events : List Event)
+    (run : RunContext) (taken left : ℕ) (b : Booted) (how : Finish) (events : List Event)
     (result : Result (Unit {0}) Status)
     → Finishes how run.lib left [] b → PutsBy (end_pieces run.denied (Some how) taken)
     (finish_status (Some how)) events result
@@ -87,7 +87,7 @@ ended_by run taken left b how events result finishes (inl whole) =
       finishes = finishes;
       unput = [];
       pieces = no_turns run taken (Some how)
-          ∙ sym (append-nil (trail.pieces_of events) ∙ pieces_all pieces events whole.events_are);
+          ∙ sym (append-nil (trail.pieces_of_turn events) ∙ pieces_all pieces events whole.events_are);
       stops = inl (refl, whole.result_is);
     }
 ended_by run taken left b how events result finishes (inr part) = record {
@@ -103,11 +103,11 @@ ended_by run taken left b how events result finishes (inr part) = record {
 
 -- a run that ends here
 ends_here :
-    (run : Running) (taken left : ℕ) (b : Booted) (how : Finish) (events : List Event)
+    (run : RunContext) (taken left : ℕ) (b : Booted) (how : Finish) (events : List Event)
     (result : Result (Unit {0}) Status)
-    → Finishes how run.lib left [] b → Goes (run_ends run taken how) events result
+    → Finishes how run.lib left [] b → Goes (put_run_end run taken how) events result
     → RunGoes run taken left b events result
-unfolding run_ends
+unfolding put_run_end
 ends_here run taken left b how events result finishes goes =
     ended_by run taken left b how events result finishes
     (puts_ended quiet (end_pieces run.denied (Some how) taken) (finish_status (Some how)) (finish_may_end how)
@@ -123,18 +123,18 @@ puts_nothing rest events result goes = goes
 
 finishes_on :
     (how : Option Finish) (lib : Library) (left all : ℕ) (told : Turn) (turns : List Turn) (last : Booted)
-    → all ≡ steps_of told + left → FinishesAs how lib left turns last → FinishesAs how lib all (told ∷ turns) last
-unfolding steps_in
+    → all ≡ turn_step_count told + left → FinishesAs how lib left turns last → FinishesAs how lib all (told ∷ turns) last
+unfolding turns_step_count
 finishes_on None lib left all told turns last is finishes = tt
 finishes_on (Some (Over e)) lib left all told turns last is finishes = finishes
 finishes_on (Some Limit) lib left all told turns last is finishes =
-    (ap (λ n. steps_of told + n) finishes.0 ∙ sym is, finishes.1)
+    (ap (λ n. turn_step_count told + n) finishes.0 ∙ sym is, finishes.1)
 
 turn_first :
     (lib : Library) (left all : ℕ) (b after last : Booted) (told : Turn) (turns : List Turn)
-    → IsTurn lib b told after → IsEvent told → all ≡ steps_of told + left → runs.Goes lib left after turns last
+    → IsTurn lib b told after → IsEvent told → all ≡ turn_step_count told + left → runs.Goes lib left after turns last
     → runs.Goes lib all b (told ∷ turns) last
-unfolding AreTurns steps_in
+unfolding AreTurns turns_step_count
 turn_first lib left all b after last told turns is event all_is goes = record {
   turns_are = (after, is, goes.turns_are);
   events = (event, goes.events);
@@ -142,30 +142,30 @@ turn_first lib left all b after last told turns is event all_is goes = record {
 }
 
 pub turn_written :
-    (run : Running) (taken now : ℕ) (told : Turn) (turns : List Turn) (how : Option Finish)
-    → now ≡ taken + steps_of told
-    → written run taken (told ∷ turns) how ≡ pieces_of run.output taken told ++ written run now turns how
-unfolding pieces_from steps_in
+    (run : RunContext) (taken now : ℕ) (told : Turn) (turns : List Turn) (how : Option Finish)
+    → now ≡ taken + turn_step_count told
+    → written run taken (told ∷ turns) how ≡ pieces_of_turn run.output taken told ++ written run now turns how
+unfolding pieces_of_turns turns_step_count
 turn_written run taken now told turns how is =
-    let count : taken + (steps_of told + steps_in turns) ≡ now + steps_in turns = omega (arith, is) in
-    ap (λ n. pieces_from run.output taken (told ∷ turns) ++ end_pieces run.denied how n) count
-    ∙ append_assoc (pieces_of run.output taken told) (pieces_from run.output (taken + steps_of told) turns)
-    (end_pieces run.denied how (now + steps_in turns))
-    ∙ ap (λ n. pieces_of run.output taken told ++
-    (pieces_from run.output n turns ++ end_pieces run.denied how (now + steps_in turns)))
+    let count : taken + (turn_step_count told + turns_step_count turns) ≡ now + turns_step_count turns = omega (arith, is) in
+    ap (λ n. pieces_of_turns run.output taken (told ∷ turns) ++ end_pieces run.denied how n) count
+    ∙ append_assoc (pieces_of_turn run.output taken told) (pieces_of_turns run.output (taken + turn_step_count told) turns)
+    (end_pieces run.denied how (now + turns_step_count turns))
+    ∙ ap (λ n. pieces_of_turn run.output taken told ++
+    (pieces_of_turns run.output n turns ++ end_pieces run.denied how (now + turns_step_count turns)))
     (sym is)
 
 turn_goes :
-    (run : Running) (taken now left all : ℕ) (b after : Booted) (told : Turn) (rest : Program quiet (Unit {0}))
+    (run : RunContext) (taken now left all : ℕ) (b after : Booted) (told : Turn) (rest : Program quiet (Unit {0}))
     (events : List Event)
     (result : Result (Unit {0}) Status)
-    → IsTurn run.lib b told after → IsEvent told → all ≡ steps_of told + left → now ≡ taken + steps_of told
+    → IsTurn run.lib b told after → IsEvent told → all ≡ turn_step_count told + left → now ≡ taken + turn_step_count told
     → ((more : List Event) → Goes rest more result → RunGoes run now left after more result)
-    → PutsSplit (pieces_of run.output taken told) rest events result
+    → PutsSplit (pieces_of_turn run.output taken told) rest events result
     → RunGoes run taken all b events result
 turn_goes run taken now left all b after told rest events result is event all_is now_is on (inl then) =
     let more = on then.more then.goes in
-    let pieces = pieces_of run.output taken told in record {
+    let pieces = pieces_of_turn run.output taken told in record {
       turns = told ∷ more.turns;
       last = more.last;
       how = more.how;
@@ -174,7 +174,7 @@ turn_goes run taken now left all b after told rest events result is event all_is
       unput = more.unput;
       pieces = turn_written run taken now told more.turns more.how now_is
           ∙ ap (λ l. pieces ++ l) more.pieces
-          ∙ sym (append_assoc pieces (trail.pieces_of then.more) more.unput)
+          ∙ sym (append_assoc pieces (trail.pieces_of_turn then.more) more.unput)
           ∙ ap (λ l. l ++ more.unput) (sym then.is);
       stops = more.stops;
     }
@@ -186,8 +186,8 @@ turn_goes run taken now left all b after told rest events result is event all_is
   finishes = tt;
   unput = first.left;
   pieces = turn_written run taken now told [] None now_is
-      ∙ ap (λ l. pieces_of run.output taken told ++ l) (no_turns run now None)
-      ∙ append-nil (pieces_of run.output taken told) ∙ first.is;
+      ∙ ap (λ l. pieces_of_turn run.output taken told ++ l) (no_turns run now None)
+      ∙ append-nil (pieces_of_turn run.output taken told) ∙ first.is;
   stops = inr first.result_is;
 }
 
@@ -207,7 +207,7 @@ step_event (turn.Ended e) is = absurd is
 step_event turn.Full is = absurd is
 step_event turn.NoMemory is = absurd is
 
-pub step_counts : (told : Turn) → IsStep told → steps_of told ≡ 1
+pub step_counts : (told : Turn) → IsStep told → turn_step_count told ≡ 1
 step_counts (turn.Stepped told) is = refl
 step_counts (turn.Linked note) is = absurd is
 step_counts (turn.Console text) is = absurd is
@@ -218,8 +218,8 @@ step_counts turn.NoMemory is = absurd is
 -- A link service was performed without running out of memory, and the run continues or ends.
 pub record IsServiceMade (told : Turn) (next : NextEvent) : Type 0 where
   pub event : IsEvent told
-  pub counts : steps_of told ≡ 0
-  pub quiet : IsQuiet next
+  pub counts : turn_step_count told ≡ 0
+  pub quiet : IsNoService next
 
 pub linked_made :
     (answer : Result SnapFields RefusedFields) (frames : ℕ) (at : AtFields) (before : Booted) (told : Turn)
@@ -265,7 +265,7 @@ print_made false (Ok text) before told after is =
 -- ---- services
 
 -- The program that follows a step or a service goes as a run.
-abbrev StepFollows : Running → ℕ → ℕ → Type 0
+abbrev StepFollows : RunContext → ℕ → ℕ → Type 0
 StepFollows run taken left =
     (b : Booted) (events : List Event) (result : Result (Unit {0}) Status)
     → b.coming ≡ Step → Goes (run_from run taken left b) events result → RunGoes run taken left b events result
@@ -276,9 +276,9 @@ over_turn lib b e is = subst (λ c. IsTurnBy c lib b (turn.Ended e) b) (sym is) 
 
 -- what follows a service
 after_goes :
-    (next : NextEvent) (run : Running) (taken left : ℕ) (b : Booted) (events : List Event)
+    (next : NextEvent) (run : RunContext) (taken left : ℕ) (b : Booted) (events : List Event)
     (result : Result (Unit {0}) Status)
-    → StepFollows run taken left → IsQuiet next → b.coming ≡ next
+    → StepFollows run taken left → IsNoService next → b.coming ≡ next
     → Goes (after_service next run taken (λ b. run_from run taken left b) b) events result
     → RunGoes run taken left b events result
 after_goes Step run taken left b events result on silent is goes = on b events result is goes
@@ -289,48 +289,48 @@ after_goes (coming.Over e) run taken left b events result on silent is goes =
 
 -- a service was made
 service_goes :
-    (run : Running) (taken left : ℕ) (b after : Booted) (told : Turn) (events : List Event)
+    (run : RunContext) (taken left : ℕ) (b after : Booted) (told : Turn) (events : List Event)
     (result : Result (Unit {0}) Status)
     → StepFollows run taken left → IsTurn run.lib b told after → IsServiceMade told after.coming
-    → Goes (puts_all (pieces_of run.output taken told) (then_on run taken
+    → Goes (puts_all (pieces_of_turn run.output taken told) (continue_after_service run taken
     (λ b. run_from run taken left b) after)) events result
     → RunGoes run taken left b events result
 service_goes run taken left b after told events result on is made goes =
     let none = made.counts in
     turn_goes run taken taken left left b after told
-    (then_on run taken (λ b. run_from run taken left b) after) events result is made.event
+    (continue_after_service run taken (λ b. run_from run taken left b) after) events result is made.event
     (omega (arith, none)) (omega (arith, none))
     (λ more goes. after_goes after.coming run taken left after more result on made.quiet refl goes)
-    (puts_split (pieces_of run.output taken told) (then_on run taken (λ b. run_from run taken left b) after)
+    (puts_split (pieces_of_turn run.output taken told) (continue_after_service run taken (λ b. run_from run taken left b) after)
     events result goes)
 
 print_goes :
-    (run : Running) (taken left : ℕ) (b after : Booted) (told : Turn) (events : List Event)
+    (run : RunContext) (taken left : ℕ) (b after : Booted) (told : Turn) (events : List Event)
     (result : Result (Unit {0}) Status)
     → StepFollows run taken left → IsTurn run.lib b told after → PrintMade told after.coming
-    → Goes (puts_all (pieces_of run.output taken told) (then_on run taken
+    → Goes (puts_all (pieces_of_turn run.output taken told) (continue_after_service run taken
     (λ b. run_from run taken left b) after)) events result
     → RunGoes run taken left b events result
-print_goes run taken left b after told events result on is (inl printed) goes =
+print_goes run taken left b after told events result on is (inl console_pieces_of_turn) goes =
     service_goes run taken left b after told events result on is
     (record {
-      event = subst IsEvent (sym printed.1.told_is) tt;
-      counts = ap steps_of printed.1.told_is;
-      quiet = subst IsQuiet (sym printed.1.next_is) tt;
+      event = subst IsEvent (sym console_pieces_of_turn.1.told_is) tt;
+      counts = ap turn_step_count console_pieces_of_turn.1.told_is;
+      quiet = subst IsNoService (sym console_pieces_of_turn.1.next_is) tt;
     }) goes
 print_goes run taken left b after told events result on is (inr ended) goes =
     let e = ended.0 in
-    let over : Goes (run_ends run taken (Over e)) events result =
+    let over : Goes (put_run_end run taken (Over e)) events result =
     subst (λ c. Goes (after_service c run taken (λ b. run_from run taken left b) after) events result) ended.1.next_is
-    (puts_nothing (then_on run taken (λ b. run_from run taken left b) after) events result
-    (subst (λ l. Goes (puts_all l (then_on run taken (λ b. run_from run taken left b) after)) events result)
-    (ap (pieces_of run.output taken) ended.1.told_is ∙ ended_pieces run.output taken e) goes)) in
+    (puts_nothing (continue_after_service run taken (λ b. run_from run taken left b) after) events result
+    (subst (λ l. Goes (puts_all l (continue_after_service run taken (λ b. run_from run taken left b) after)) events result)
+    (ap (pieces_of_turn run.output taken) ended.1.told_is ∙ ended_pieces run.output taken e) goes)) in
     ends_here run taken left b (Over e) events result
     (after, subst (λ t. IsTurn run.lib b t after) ended.1.told_is is) over
 
 -- memory ran out for a link service
 starved_here :
-    (run : Running) (taken left : ℕ) (b : Booted) (events : List Event) (result : Result (Unit {0}) Status)
+    (run : RunContext) (taken left : ℕ) (b : Booted) (events : List Event) (result : Result (Unit {0}) Status)
     → AwaitsLink b.coming → Ends (Err NoMemory) events result → RunGoes run taken left b events result
 starved_here run taken left b events result waits ends = record {
   turns = [];
@@ -339,15 +339,15 @@ starved_here run taken left b events result waits ends = record {
   goes = stay run.lib left b;
   finishes = tt;
   unput = [];
-  pieces = no_turns run taken None ∙ sym (ap (λ e. trail.pieces_of e ++ []) ends.none);
+  pieces = no_turns run taken None ∙ sym (ap (λ e. trail.pieces_of_turn e ++ []) ends.none);
   stops = inl (refl, (waits, ends.result_is));
 }
 
 link_goes :
-    (run : Running) (taken left : ℕ) (b : Booted) (at : AtFields) (events : List Event)
+    (run : RunContext) (taken left : ℕ) (b : Booted) (at : AtFields) (events : List Event)
     (result : Result (Unit {0}) Status)
     → StepFollows run taken left → b.coming ≡ Link at
-    → Goes (serve_by (Link at) run taken (λ b. run_from run taken left b) b) events result
+    → Goes (serve_event (Link at) run taken (λ b. run_from run taken left b) b) events result
     → RunGoes run taken left b events result
 unfolding Goes IsTurn
 link_goes run taken left b at events result on is (inl goes) =
@@ -361,9 +361,9 @@ link_goes run taken left b at events result on is (inr ends) =
     starved_here run taken left b events result (subst AwaitsLink (sym is) tt) ends
 
 print_serves :
-    (run : Running) (taken left : ℕ) (b : Booted) (events : List Event) (result : Result (Unit {0}) Status)
+    (run : RunContext) (taken left : ℕ) (b : Booted) (events : List Event) (result : Result (Unit {0}) Status)
     → StepFollows run taken left → b.coming ≡ Print
-    → Goes (serve_by Print run taken (λ b. run_from run taken left b) b) events result
+    → Goes (serve_event Print run taken (λ b. run_from run taken left b) b) events result
     → RunGoes run taken left b events result
 unfolding Goes IsTurn
 print_serves run taken left b events result on is goes =
@@ -373,10 +373,10 @@ print_serves run taken left b events result on is goes =
     (print_made _ _ b goes.value.turn goes.value.after turns) goes.rest
 
 serves_by :
-    (next : NextEvent) (run : Running) (taken left : ℕ) (b : Booted) (events : List Event)
+    (next : NextEvent) (run : RunContext) (taken left : ℕ) (b : Booted) (events : List Event)
     (result : Result (Unit {0}) Status)
     → StepFollows run taken left → b.coming ≡ next
-    → Goes (serve_by next run taken (λ b. run_from run taken left b) b) events result
+    → Goes (serve_event next run taken (λ b. run_from run taken left b) b) events result
     → RunGoes run taken left b events result
 serves_by Step run taken left b events result on is goes = on b events result is goes
 serves_by (Link at) run taken left b events result on is goes = link_goes run taken left b at events result on is goes
@@ -385,7 +385,7 @@ serves_by (coming.Over e) run taken left b events result on is goes =
     ends_here run taken left b (Over e) events result (b, over_turn run.lib b e is) goes
 
 serve_goes :
-    (run : Running) (taken left : ℕ) (b : Booted) (events : List Event) (result : Result (Unit {0}) Status)
+    (run : RunContext) (taken left : ℕ) (b : Booted) (events : List Event) (result : Result (Unit {0}) Status)
     → StepFollows run taken left → Goes (serve run taken (λ b. run_from run taken left b) b) events result
     → RunGoes run taken left b events result
 unfolding serve
@@ -394,10 +394,10 @@ serve_goes run taken left b events result on goes = serves_by b.coming run taken
 -- ---- the run
 
 step_goes :
-    (run : Running) (taken left : ℕ) (b after : Booted) (told : Turn) (events : List Event)
+    (run : RunContext) (taken left : ℕ) (b after : Booted) (told : Turn) (events : List Event)
     (result : Result (Unit {0}) Status)
     → StepFollows run (taken + 1) left → b.coming ≡ Step → IsTurn run.lib b told after
-    → Goes (puts_all (pieces_of run.output taken told) (serve run (taken + 1)
+    → Goes (puts_all (pieces_of_turn run.output taken told) (serve run (taken + 1)
     (λ b. run_from run (taken + 1) left b) after)) events result
     → RunGoes run taken (suc left) b events result
 step_goes run taken left b after told events result on next is goes =
@@ -407,10 +407,10 @@ step_goes run taken left b after told events result on next is goes =
     turn_goes run taken (taken + 1) left (suc left) b after told rest events result is (step_event told step)
     (omega (arith, one)) (omega (arith, one))
     (λ more goes. serve_goes run (taken + 1) left after more result on goes)
-    (puts_split (pieces_of run.output taken told) rest events result goes)
+    (puts_split (pieces_of_turn run.output taken told) rest events result goes)
 
-run_goes : (run : Running) (left taken : ℕ) → StepFollows run taken left
-unfolding Goes run_from steps_in
+run_goes : (run : RunContext) (left taken : ℕ) → StepFollows run taken left
+unfolding Goes run_from turns_step_count
 run_goes run zero taken b events result next goes = ends_here run taken 0 b Limit events result (refl, next) goes
 run_goes run (suc left) taken b events result next goes =
     step_goes run taken left b goes.value.after goes.value.turn events result
@@ -418,8 +418,8 @@ run_goes run (suc left) taken b events result next goes =
 
 -- a run from its start
 pub run_is :
-    (run : Running) (limit : ℕ) (first : Booted) (events : List Event) (result : Result (Unit {0}) Status)
-    → first.coming ≡ Step → Goes (run_from run 0 limit first) events result → RunIs run limit first events result
+    (run : RunContext) (limit : ℕ) (first : Booted) (events : List Event) (result : Result (Unit {0}) Status)
+    → first.coming ≡ Step → Goes (run_from run 0 limit first) events result → IsBootedRun run limit first events result
 run_is run limit first events result next goes =
     let ran = run_goes run limit 0 first events result next goes in record {
       turns = ran.turns;

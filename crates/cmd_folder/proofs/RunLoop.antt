@@ -8,7 +8,7 @@ use Rattle.m36_super.specs.BootedRun.{Booted}
 use Rattle.m36_super.specs.SuperFields.{SuperFields, booted_of}
 use Rattle.m36_status.specs.declared.status.Status.{Status}
 use Rattle.m36_status.specs.declared.status.Status.TheVariants.{WriteFault}
-use Rattle.m36_program.specs.Early.{early, ends}
+use Rattle.m36_program.specs.Early.{result_of_status, ends}
 use Rattle.m36_program.specs.Gathered.{Loses}
 use Rattle.m36_program.specs.Performs.{Performs, Leads}
 use Rattle.m36_program.specs.Program.{quiet, Program, puts_all}
@@ -19,8 +19,8 @@ use Rattle.cmd_folder.specs.declared.command.RunOutput.{RunOutput}
 use Rattle.cmd_folder.specs.declared.finish.Finish.{Finish}
 use Rattle.cmd_folder.specs.declared.finish.Finish.TheVariants.{Over, Limit}
 use Rattle.cmd_folder.specs.RunText.{end_pieces, finish_status}
-use Rattle.cmd_folder.specs.RunProgram.{Running, finish_may_end, run_ends, run_from}
-use Rattle.cmd_folder.specs.RunSays.{run_of, from_step, StepFollows, IsOver, Fails}
+use Rattle.cmd_folder.specs.RunProgram.{RunContext, finish_may_end, put_run_end, run_from}
+use Rattle.cmd_folder.specs.RunSays.{run_of, rest_from_step, StepFollows, RunIsOver, RunFails}
 use Rattle.cmd_folder.proofs.BlockLaws.{leads_on}
 
 -- ---- the end
@@ -30,30 +30,30 @@ abbrev ended : Finish → Program quiet (Unit {0})
 ended how = ends (finish_status (Some how)) (finish_may_end how)
 
 all_left :
-    (block : List (List ℕ)) (run : Running) (taken : ℕ) (how : Finish) (denied : List (List ℕ)) (seen : Seen)
+    (block : List (List ℕ)) (run : RunContext) (taken : ℕ) (how : Finish) (denied : List (List ℕ)) (seen : Seen)
     → run.denied ≡ denied
-    → Leads (puts_all block (puts_all (end_pieces denied (Some how) taken) (ended how))) (puts_all block (run_ends run taken how)) seen seen
-unfolding run_ends
+    → Leads (puts_all block (puts_all (end_pieces denied (Some how) taken) (ended how))) (puts_all block (put_run_end run taken how)) seen seen
+unfolding put_run_end
 all_left block run taken how denied seen is =
-    subst (λ d. Leads (puts_all block (puts_all (end_pieces d (Some how) taken) (ended how))) (puts_all block (run_ends run taken how)) seen seen) is
-    (leads_start (puts_all block (run_ends run taken how)) seen)
+    subst (λ d. Leads (puts_all block (puts_all (end_pieces d (Some how) taken) (ended how))) (puts_all block (put_run_end run taken how)) seen seen) is
+    (leads_start (puts_all block (put_run_end run taken how)) seen)
 
 pub end_put :
-    (block : List (List ℕ)) (run : Running) (taken : ℕ) (how : Finish) (denied : List (List ℕ)) (status : Status) (result : Result (Unit {0}) Status) (old new : Seen)
+    (block : List (List ℕ)) (run : RunContext) (taken : ℕ) (how : Finish) (denied : List (List ℕ)) (status : Status) (result : Result (Unit {0}) Status) (old new : Seen)
     → run.denied ≡ denied → Follow (outputs (block ++ end_pieces denied (Some how) taken)) old new
-    → status ≡ finish_status (Some how) → result ≡ early status
-    → Performs (puts_all block (run_ends run taken how)) result old new
+    → status ≡ finish_status (Some how) → result ≡ result_of_status status
+    → Performs (puts_all block (put_run_end run taken how)) result old new
 end_put block run taken how denied status result old new is put status_is result_is =
-    leads_finished block (end_pieces denied (Some how) taken) (ended how) (puts_all block (run_ends run taken how)) result old old new
+    leads_finished block (end_pieces denied (Some how) taken) (ended how) (puts_all block (put_run_end run taken how)) result old old new
     (all_left block run taken how denied old is) put
-    (subst (λ r. Goes (ended how) [] r) (sym (result_is ∙ ap early status_is)) (goes_ends quiet (finish_status (Some how)) (finish_may_end how)))
+    (subst (λ r. Goes (ended how) [] r) (sym (result_is ∙ ap result_of_status status_is)) (goes_ends quiet (finish_status (Some how)) (finish_may_end how)))
 
 pub end_lost :
-    (block : List (List ℕ)) (run : Running) (taken : ℕ) (how : Finish) (denied : List (List ℕ)) (old new : Seen)
+    (block : List (List ℕ)) (run : RunContext) (taken : ℕ) (how : Finish) (denied : List (List ℕ)) (old new : Seen)
     → run.denied ≡ denied → Loses (block ++ end_pieces denied (Some how) taken) old new
-    → Performs (puts_all block (run_ends run taken how)) (Err WriteFault) old new
+    → Performs (puts_all block (put_run_end run taken how)) (Err WriteFault) old new
 end_lost block run taken how denied old new is lost =
-    leads_lost block (end_pieces denied (Some how) taken) (ended how) (puts_all block (run_ends run taken how)) old old new
+    leads_lost block (end_pieces denied (Some how) taken) (ended how) (puts_all block (put_run_end run taken how)) old old new
     (all_left block run taken how denied old is) lost
 
 pub ruleset ending = (end_put, end_lost)
@@ -61,11 +61,11 @@ pub ruleset ending = (end_put, end_lost)
 -- ---- the steps
 
 -- What is left of a run, and what holds before each of its steps.
-abbrev pub Left : Running → ℕ → ℕ → SuperFields → List (List ℕ) → Program quiet (Unit {0}) → Seen → Seen → Type 0
+abbrev pub Left : RunContext → ℕ → ℕ → SuperFields → List (List ℕ) → Program quiet (Unit {0}) → Seen → Seen → Type 0
 Left run taken left now block first old new = Leads (puts_all block (run_from run taken left (booted_of now))) first old new
 
 pub run_starts :
-    (run : Running) (steps : ℕ) (s : SuperFields) (block : List (List ℕ)) (seen : Seen)
+    (run : RunContext) (steps : ℕ) (s : SuperFields) (block : List (List ℕ)) (seen : Seen)
     → block ≡ [] → Left run 0 steps s block (run_from run 0 steps (booted_of s)) seen seen
 run_starts run steps s block seen none =
     leads_empty block (run_from run 0 steps (booted_of s)) (run_from run 0 steps (booted_of s)) seen seen none
@@ -73,7 +73,7 @@ run_starts run steps s block seen none =
 
 -- if at least one step is left
 one_left :
-    (run : Running) (taken left : ℕ) (now : SuperFields) (block : List (List ℕ)) (first : Program quiet (Unit {0})) (old new : Seen)
+    (run : RunContext) (taken left : ℕ) (now : SuperFields) (block : List (List ℕ)) (first : Program quiet (Unit {0})) (old new : Seen)
     → Left run taken left now block first old new → 0 < left → Left run taken (suc (left - 1)) now block first old new
 one_left run taken left now block first old new so_far more =
     let e : left ≡ suc (left - 1) = omega arith in
@@ -83,21 +83,21 @@ pub run_next :
     (lib : Library) (output : RunOutput) (denied : List (List ℕ)) (taken left : ℕ) (now later : SuperFields) (block block' : List (List ℕ))
     (first : Program quiet (Unit {0})) (old between new : Seen)
     → Left (run_of lib output denied) taken left now block first old between → 0 < left → now.lib ≡ lib
-    → StepFollows now.lib output (from_step block taken (booted_of now)) (taken + 1) later block' between new
+    → StepFollows now.lib output (rest_from_step block taken (booted_of now)) (taken + 1) later block' between new
     → Left (run_of lib output denied) (taken + 1) (left - 1) later block' first old new
 run_next lib output denied taken left now later block block' first old between new so_far more same goes =
-    let on = subst (λ l. StepFollows l output (from_step block taken (booted_of now)) (taken + 1) later block' between new) same goes in
+    let on = subst (λ l. StepFollows l output (rest_from_step block taken (booted_of now)) (taken + 1) later block' between new) same goes in
     leads_on _ _ first old between new (one_left (run_of lib output denied) taken left now block first old between so_far more) (on.leads denied (left - 1))
 
 pub run_over :
     (e : End) (lib : Library) (output : RunOutput) (denied : List (List ℕ)) (taken left : ℕ) (now : SuperFields) (block block' : List (List ℕ))
     (first : Program quiet (Unit {0})) (result : Result (Unit {0}) Status) (old between mid new : Seen)
     → Left (run_of lib output denied) taken left now block first old between → 0 < left → now.lib ≡ lib
-    → IsOver e now.lib output (from_step block taken (booted_of now)) (taken + 1) block' between mid
-    → ((run : Running) → run.denied ≡ denied → Performs (puts_all block' (run_ends run (taken + 1) (Over e))) result mid new)
+    → RunIsOver e now.lib output (rest_from_step block taken (booted_of now)) (taken + 1) block' between mid
+    → ((run : RunContext) → run.denied ≡ denied → Performs (puts_all block' (put_run_end run (taken + 1) (Over e))) result mid new)
     → Performs first result old new
 run_over e lib output denied taken left now block block' first result old between mid new so_far more same over performs =
-    let on = subst (λ l. IsOver e l output (from_step block taken (booted_of now)) (taken + 1) block' between mid) same over in
+    let on = subst (λ l. RunIsOver e l output (rest_from_step block taken (booted_of now)) (taken + 1) block' between mid) same over in
     leads_ends _ first result old mid new
     (leads_on _ _ first old between mid (one_left (run_of lib output denied) taken left now block first old between so_far more) (on.leads denied (left - 1)))
     (performs (run_of lib output denied) refl)
@@ -106,14 +106,14 @@ pub run_fails :
     (status : Status) (lib : Library) (output : RunOutput) (denied : List (List ℕ)) (taken left : ℕ) (now : SuperFields) (block : List (List ℕ))
     (first : Program quiet (Unit {0})) (old between new : Seen)
     → Left (run_of lib output denied) taken left now block first old between → 0 < left → now.lib ≡ lib
-    → Fails status now.lib output (from_step block taken (booted_of now)) between new
+    → RunFails status now.lib output (rest_from_step block taken (booted_of now)) between new
     → Performs first (Err status) old new
 run_fails status lib output denied taken left now block first old between new so_far more same fails =
-    let on = subst (λ l. Fails status l output (from_step block taken (booted_of now)) between new) same fails in
+    let on = subst (λ l. RunFails status l output (rest_from_step block taken (booted_of now)) between new) same fails in
     leads_ends _ first (Err status) old between new (one_left (run_of lib output denied) taken left now block first old between so_far more) (on.performs denied (left - 1))
 
 run_none :
-    (run : Running) (taken left : ℕ) (b : Booted) → left ≡ 0 → run_from run taken left b ≡ run_ends run taken Limit
+    (run : RunContext) (taken left : ℕ) (b : Booted) → left ≡ 0 → run_from run taken left b ≡ put_run_end run taken Limit
 unfolding run_from
 run_none run taken left b none = ap (λ n. run_from run taken n b) none
 
@@ -121,7 +121,7 @@ pub run_limit :
     (lib : Library) (output : RunOutput) (denied : List (List ℕ)) (taken left : ℕ) (now : SuperFields) (block : List (List ℕ))
     (first : Program quiet (Unit {0})) (result : Result (Unit {0}) Status) (old between new : Seen)
     → Left (run_of lib output denied) taken left now block first old between → left ≡ 0
-    → ((run : Running) → run.denied ≡ denied → Performs (puts_all block (run_ends run taken Limit)) result between new)
+    → ((run : RunContext) → run.denied ≡ denied → Performs (puts_all block (put_run_end run taken Limit)) result between new)
     → Performs first result old new
 run_limit lib output denied taken left now block first result old between new so_far none performs =
     leads_ends _ first result old between new

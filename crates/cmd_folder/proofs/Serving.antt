@@ -27,29 +27,29 @@ use Rattle.m36_program.proofs.PutLaws.{puts_none}
 use Rattle.cmd_folder.specs.declared.command.RunOutput.{RunOutput}
 use Rattle.cmd_folder.specs.declared.command.RunOutput.TheVariants as output
 use Rattle.cmd_folder.specs.declared.finish.Finish.TheVariants as finish
-use Rattle.cmd_folder.specs.RunText.{pieces_of}
+use Rattle.cmd_folder.specs.RunText.{pieces_of_turn}
 use Rattle.cmd_folder.proofs.TurnLaws.{turn_prints, link_behind, print_behind}
 use Rattle.cmd_folder.specs.declared.running.AfterTurn.{AfterTurn}
 use Rattle.cmd_folder.specs.declared.running.AfterTurn.TheVariants as after
-use Rattle.cmd_folder.specs.RunProgram.{Running, Made, IsMade, FindsMemory, run_ends, puts_turn, after_service, then_on, serve_by, serve, run_from}
-use Rattle.cmd_folder.specs.RunSays.{IsShown, run_of, from_step, from_service, TurnSays, LinkBefore}
+use Rattle.cmd_folder.specs.RunProgram.{RunContext, TurnAndState, IsPossibleTurn, FindsMemory, put_run_end, puts_turn, after_service, continue_after_service, serve_event, serve, run_from}
+use Rattle.cmd_folder.specs.RunSays.{IsConsoleTextPut, run_of, rest_from_step, rest_from_service, TurnResult, MatchesNextEvent}
 use Rattle.cmd_folder.proofs.BlockLaws.{GoesAs, leads_under, leads_on, performs_starved, performs_unput}
 
 -- the program after a step, by what is next
-abbrev served : Running → ℕ → ℕ → Booted → Program quiet (Unit {0})
+abbrev served : RunContext → ℕ → ℕ → Booted → Program quiet (Unit {0})
 served run taken left b = serve run taken (λ b. run_from run taken left b) b
 
-abbrev then_from : Running → ℕ → ℕ → Booted → Program quiet (Unit {0})
-then_from run taken left b = then_on run taken (λ b. run_from run taken left b) b
+abbrev then_from : RunContext → ℕ → ℕ → Booted → Program quiet (Unit {0})
+then_from run taken left b = continue_after_service run taken (λ b. run_from run taken left b) b
 
 serve_is :
-    (coming : NextEvent) (run : Running) (taken left : ℕ) (b : Booted)
-    → b.coming ≡ coming → served run taken left b ≡ serve_by coming run taken (λ b. run_from run taken left b) b
+    (coming : NextEvent) (run : RunContext) (taken left : ℕ) (b : Booted)
+    → b.coming ≡ coming → served run taken left b ≡ serve_event coming run taken (λ b. run_from run taken left b) b
 unfolding serve
-serve_is coming run taken left b is = ap (λ c. serve_by c run taken (λ b. run_from run taken left b) b) is
+serve_is coming run taken left b is = ap (λ c. serve_event c run taken (λ b. run_from run taken left b) b) is
 
 then_is :
-    (coming : NextEvent) (run : Running) (taken left : ℕ) (b : Booted)
+    (coming : NextEvent) (run : RunContext) (taken left : ℕ) (b : Booted)
     → b.coming ≡ coming → then_from run taken left b ≡ after_service coming run taken (λ b. run_from run taken left b) b
 then_is coming run taken left b is = ap (λ c. after_service c run taken (λ b. run_from run taken left b) b) is
 
@@ -60,11 +60,11 @@ goes_by :
 goes_by p q r same on events result goes = subst (λ p. Goes p events result) (sym same) (on events result goes)
 
 link_as :
-    (run : Running) (taken left : ℕ) (b after : Booted) (note : LinkNoteFields) (at : AtFields)
+    (run : RunContext) (taken left : ℕ) (b after : Booted) (note : LinkNoteFields) (at : AtFields)
     → b.coming ≡ Link at → IsTurn run.lib b (turn.Linked note) after
-    → GoesAs (puts_all (pieces_of run.output taken (turn.Linked note)) (then_from run taken left after)) (served run taken left b)
+    → GoesAs (puts_all (pieces_of_turn run.output taken (turn.Linked note)) (then_from run taken left after)) (served run taken left b)
 link_as run taken left b after note at is turns =
-    let made : Made = record { turn = turn.Linked note; after = after } in
+    let made : TurnAndState = record { turn = turn.Linked note; after = after } in
     let go = puts_turn run taken (λ b. then_from run taken left b) in
     goes_by (served run taken left b) (wants (some (FindsMemory run.lib b) go)) (go made) (serve_is (Link at) run taken left b is)
     (λ events result goes.
@@ -72,22 +72,22 @@ link_as run taken left b after note at is turns =
     (goes_some (FindsMemory run.lib b) go made events result (record { is = turns; found = λ e. cc }) goes))
 
 print_as :
-    (run : Running) (taken left : ℕ) (b after : Booted) (told : Turn)
+    (run : RunContext) (taken left : ℕ) (b after : Booted) (told : Turn)
     → b.coming ≡ Print → IsTurn run.lib b told after
-    → GoesAs (puts_all (pieces_of run.output taken told) (then_from run taken left after)) (served run taken left b)
+    → GoesAs (puts_all (pieces_of_turn run.output taken told) (then_from run taken left after)) (served run taken left b)
 print_as run taken left b after told is turns =
-    let made : Made = record { turn = told; after = after } in
+    let made : TurnAndState = record { turn = told; after = after } in
     let go = puts_turn run taken (λ b. then_from run taken left b) in
-    goes_by (served run taken left b) (some (IsMade run.lib b) go) (go made) (serve_is Print run taken left b is)
-    (λ events result goes. goes_some (IsMade run.lib b) go made events result turns goes)
+    goes_by (served run taken left b) (some (IsPossibleTurn run.lib b) go) (go made) (serve_is Print run taken left b is)
+    (λ events result goes. goes_some (IsPossibleTurn run.lib b) go made events result turns goes)
 
 step_as :
-    (run : Running) (taken left : ℕ) (b after : Booted) (told : Turn)
+    (run : RunContext) (taken left : ℕ) (b after : Booted) (told : Turn)
     → IsTurn run.lib b told after
-    → GoesAs (puts_all (pieces_of run.output taken told) (served run (taken + 1) left after)) (run_from run taken (suc left) b)
+    → GoesAs (puts_all (pieces_of_turn run.output taken told) (served run (taken + 1) left after)) (run_from run taken (suc left) b)
 unfolding run_from
 step_as run taken left b after told turns events result goes =
-    goes_some (IsMade run.lib b) (puts_turn run taken (served run (taken + 1) left)) (record { turn = told; after = after }) events result turns goes
+    goes_some (IsPossibleTurn run.lib b) (puts_turn run taken (served run (taken + 1) left)) (record { turn = told; after = after }) events result turns goes
 
 -- ---- pieces of a turn are added
 
@@ -112,8 +112,8 @@ lost_turn block pieces rest now old new on lost =
 
 pub serve_none :
     (output : RunOutput) (taken : ℕ) (s : SuperFields) (block : List (List ℕ)) (seen : Seen)
-    → s.coming ≡ Step → IsShown output block
-    → TurnSays after.Next s.lib output (from_service block taken (booted_of s)) taken s block seen seen
+    → s.coming ≡ Step → IsConsoleTextPut output block
+    → TurnResult after.Next s.lib output (rest_from_service block taken (booted_of s)) taken s block seen seen
 serve_none output taken s block seen is shown = record {
   leads = λ denied left.
       let run = run_of s.lib output denied in
@@ -128,11 +128,11 @@ serve_none output taken s block seen is shown = record {
 pub serve_over :
     (output : RunOutput) (taken : ℕ) (s : SuperFields) (e : End) (block : List (List ℕ)) (seen : Seen)
     → s.coming ≡ Over e
-    → TurnSays (after.Ended e) s.lib output (from_service block taken (booted_of s)) taken s block seen seen
+    → TurnResult (after.Ended e) s.lib output (rest_from_service block taken (booted_of s)) taken s block seen seen
 serve_over output taken s e block seen is = record {
   leads = λ denied left.
       let run = run_of s.lib output denied in
-      leads_as (puts_all block (served run taken left (booted_of s))) (puts_all block (run_ends run taken (finish.Over e)))
+      leads_as (puts_all block (served run taken left (booted_of s))) (puts_all block (put_run_end run taken (finish.Over e)))
       (puts_all block (served run taken left (booted_of s))) seen seen
       (ap (puts_all block) (serve_is (Over e) run taken left (booted_of s) is)) (leads_start (puts_all block (served run taken left (booted_of s))) seen);
 }
@@ -141,7 +141,7 @@ serve_over output taken s e block seen is = record {
 pub link_starves :
     (output : RunOutput) (taken : ℕ) (before later : SuperFields) (at : AtFields) (block block' : List (List ℕ)) (old new : Seen)
     → before.coming ≡ Link at → Follow (outputs block) old new
-    → TurnSays after.NoMemory before.lib output (from_service block taken (booted_of before)) taken later block' old new
+    → TurnResult after.NoMemory before.lib output (rest_from_service block taken (booted_of before)) taken later block' old new
 link_starves output taken before later at block block' old new is follow = record {
   performs = λ denied left.
       let run = run_of before.lib output denied in
@@ -152,7 +152,7 @@ link_starves output taken before later at block block' old new is follow = recor
 pub link_unput :
     (output : RunOutput) (taken : ℕ) (before later : SuperFields) (block block' : List (List ℕ)) (old new : Seen)
     → IsOutputFailed block old new
-    → TurnSays after.WriteFailed before.lib output (from_service block taken (booted_of before)) taken later block' old new
+    → TurnResult after.WriteFailed before.lib output (rest_from_service block taken (booted_of before)) taken later block' old new
 link_unput output taken before later block block' old new fails = record {
   performs = λ denied left. performs_unput block (served (run_of before.lib output denied) taken left (booted_of before)) old new fails;
 }
@@ -160,12 +160,12 @@ link_unput output taken before later block block' old new fails = record {
 pub link_lost :
     (output : RunOutput) (taken : ℕ) (before later : SuperFields) (note : LinkNoteFields) (at : AtFields) (block block' : List (List ℕ)) (old new : Seen)
     → before.coming ≡ Link at → SuperTurns before (turn.Linked note) later
-    → Loses (block ++ pieces_of output taken (turn.Linked note)) old new
-    → TurnSays after.WriteFailed before.lib output (from_service block taken (booted_of before)) taken later block' old new
+    → Loses (block ++ pieces_of_turn output taken (turn.Linked note)) old new
+    → TurnResult after.WriteFailed before.lib output (rest_from_service block taken (booted_of before)) taken later block' old new
 link_lost output taken before later note at block block' old new is turns lost = record {
   performs = λ denied left.
       let run = run_of before.lib output denied in
-      lost_turn block (pieces_of output taken (turn.Linked note)) (then_from run taken left (booted_of later)) (served run taken left (booted_of before)) old new
+      lost_turn block (pieces_of_turn output taken (turn.Linked note)) (then_from run taken left (booted_of later)) (served run taken left (booted_of before)) old new
       (link_as run taken left (booted_of before) (booted_of later) note at is turns.0) lost;
 }
 
@@ -173,14 +173,14 @@ pub link_goes :
     (p : AfterTurn) (output : RunOutput) (taken : ℕ) (before later : SuperFields) (note : LinkNoteFields) (at : AtFields)
     (block block' : List (List ℕ)) (old new : Seen)
     → before.coming ≡ Link at → SuperTurns before (turn.Linked note) later
-    → Gathers block block' (pieces_of output taken (turn.Linked note)) old new → IsShown output block'
-    → LinkBefore p later.coming
-    → TurnSays p before.lib output (from_service block taken (booted_of before)) taken later block' old new
+    → Gathers block block' (pieces_of_turn output taken (turn.Linked note)) old new → IsConsoleTextPut output block'
+    → MatchesNextEvent p later.coming
+    → TurnResult p before.lib output (rest_from_service block taken (booted_of before)) taken later block' old new
 link_goes after.Next output taken before later note at block block' old new is turns adds shown next = record {
   leads = λ denied left.
       let run = run_of before.lib output denied in
-      leads_turn block block' (pieces_of output taken (turn.Linked note)) (run_from run taken left (booted_of later)) (served run taken left (booted_of before)) old new
-      (subst (λ p. GoesAs (puts_all (pieces_of output taken (turn.Linked note)) p) (served run taken left (booted_of before)))
+      leads_turn block block' (pieces_of_turn output taken (turn.Linked note)) (run_from run taken left (booted_of later)) (served run taken left (booted_of before)) old new
+      (subst (λ p. GoesAs (puts_all (pieces_of_turn output taken (turn.Linked note)) p) (served run taken left (booted_of before)))
       (then_is Step run taken left (booted_of later) next)
       (link_as run taken left (booted_of before) (booted_of later) note at is turns.0)) adds;
   next = next;
@@ -190,8 +190,8 @@ link_goes after.Next output taken before later note at block block' old new is t
 link_goes (after.Ended e) output taken before later note at block block' old new is turns adds shown next = record {
   leads = λ denied left.
       let run = run_of before.lib output denied in
-      leads_turn block block' (pieces_of output taken (turn.Linked note)) (run_ends run taken (finish.Over e)) (served run taken left (booted_of before)) old new
-      (subst (λ p. GoesAs (puts_all (pieces_of output taken (turn.Linked note)) p) (served run taken left (booted_of before)))
+      leads_turn block block' (pieces_of_turn output taken (turn.Linked note)) (put_run_end run taken (finish.Over e)) (served run taken left (booted_of before)) old new
+      (subst (λ p. GoesAs (puts_all (pieces_of_turn output taken (turn.Linked note)) p) (served run taken left (booted_of before)))
       (then_is (Over e) run taken left (booted_of later) next)
       (link_as run taken left (booted_of before) (booted_of later) note at is turns.0)) adds;
 }
@@ -201,26 +201,26 @@ link_goes after.NoMemory output taken before later note at block block' old new 
 pub print_lost :
     (output : RunOutput) (taken : ℕ) (before later : SuperFields) (told : List ℕ) (block block' : List (List ℕ)) (old new : Seen)
     → before.coming ≡ Print → SuperTurns before (turn.Console told) later
-    → Loses (block ++ pieces_of output taken (turn.Console told)) old new
-    → TurnSays after.WriteFailed before.lib output (from_service block taken (booted_of before)) taken later block' old new
+    → Loses (block ++ pieces_of_turn output taken (turn.Console told)) old new
+    → TurnResult after.WriteFailed before.lib output (rest_from_service block taken (booted_of before)) taken later block' old new
 print_lost output taken before later told block block' old new is turns lost = record {
   performs = λ denied left.
       let run = run_of before.lib output denied in
-      lost_turn block (pieces_of output taken (turn.Console told)) (then_from run taken left (booted_of later)) (served run taken left (booted_of before)) old new
+      lost_turn block (pieces_of_turn output taken (turn.Console told)) (then_from run taken left (booted_of later)) (served run taken left (booted_of before)) old new
       (print_as run taken left (booted_of before) (booted_of later) (turn.Console told) is turns.0) lost;
 }
 
 pub print_goes :
     (output : RunOutput) (taken : ℕ) (before later : SuperFields) (told : List ℕ) (block block' : List (List ℕ)) (old new : Seen)
     → before.coming ≡ Print → SuperTurns before (turn.Console told) later
-    → Gathers block block' (pieces_of output taken (turn.Console told)) old new → IsShown output block'
-    → TurnSays after.Next before.lib output (from_service block taken (booted_of before)) taken later block' old new
+    → Gathers block block' (pieces_of_turn output taken (turn.Console told)) old new → IsConsoleTextPut output block'
+    → TurnResult after.Next before.lib output (rest_from_service block taken (booted_of before)) taken later block' old new
 print_goes output taken before later told block block' old new is turns adds shown =
     let next : later.coming ≡ Step = print_behind before later told is turns in record {
       leads = λ denied left.
           let run = run_of before.lib output denied in
-          leads_turn block block' (pieces_of output taken (turn.Console told)) (run_from run taken left (booted_of later)) (served run taken left (booted_of before)) old new
-          (subst (λ p. GoesAs (puts_all (pieces_of output taken (turn.Console told)) p) (served run taken left (booted_of before)))
+          leads_turn block block' (pieces_of_turn output taken (turn.Console told)) (run_from run taken left (booted_of later)) (served run taken left (booted_of before)) old new
+          (subst (λ p. GoesAs (puts_all (pieces_of_turn output taken (turn.Console told)) p) (served run taken left (booted_of before)))
           (then_is Step run taken left (booted_of later) next)
           (print_as run taken left (booted_of before) (booted_of later) (turn.Console told) is turns.0)) adds;
       next = next;
@@ -263,13 +263,13 @@ print_over lib before e later is turns =
     let so : IsTurnBy Print lib before (turn.Ended e) later = subst (λ c. IsTurnBy c lib before (turn.Ended e) later) is turns in
     console_over _ _ before e later so
 
-pub ended_pieces : (output : RunOutput) (taken : ℕ) (e : End) → pieces_of output taken (turn.Ended e) ≡ []
+pub ended_pieces : (output : RunOutput) (taken : ℕ) (e : End) → pieces_of_turn output taken (turn.Ended e) ≡ []
 ended_pieces output.Console taken e = refl
 ended_pieces output.Trace taken e = refl
 
 over_as :
-    (run : Running) (taken left : ℕ) (b later : Booted) (e : End)
-    → b.coming ≡ Print → IsTurn run.lib b (turn.Ended e) later → GoesAs (run_ends run taken (finish.Over e)) (served run taken left b)
+    (run : RunContext) (taken left : ℕ) (b later : Booted) (e : End)
+    → b.coming ≡ Print → IsTurn run.lib b (turn.Ended e) later → GoesAs (put_run_end run taken (finish.Over e)) (served run taken left b)
 over_as run taken left b later e is turns =
     let over = print_over run.lib b e later is turns in
     subst (λ p. GoesAs p (served run taken left b))
@@ -280,11 +280,11 @@ over_as run taken left b later e is turns =
 pub print_ends :
     (output : RunOutput) (taken : ℕ) (before later : SuperFields) (e : End) (block : List (List ℕ)) (seen : Seen)
     → before.coming ≡ Print → SuperTurns before (turn.Ended e) later
-    → TurnSays (after.Ended e) before.lib output (from_service block taken (booted_of before)) taken later block seen seen
+    → TurnResult (after.Ended e) before.lib output (rest_from_service block taken (booted_of before)) taken later block seen seen
 print_ends output taken before later e block seen is turns = record {
   leads = λ denied left.
       let run = run_of before.lib output denied in
-      leads_under block (run_ends run taken (finish.Over e)) (served run taken left (booted_of before)) (puts_all block (served run taken left (booted_of before))) seen seen
+      leads_under block (put_run_end run taken (finish.Over e)) (served run taken left (booted_of before)) (puts_all block (served run taken left (booted_of before))) seen seen
       (over_as run taken left (booted_of before) (booted_of later) e is turns.0)
       (leads_start (puts_all block (served run taken left (booted_of before))) seen);
 }
@@ -295,32 +295,32 @@ pub ruleset services = (turn_prints, link_behind, serve_none, serve_over, link_s
 
 pub step_lost :
     (output : RunOutput) (taken : ℕ) (before later : SuperFields) (told : StepRecord) (block block' : List (List ℕ)) (old new : Seen)
-    → SuperTurns before (turn.Stepped told) later → Loses (block ++ pieces_of output taken (turn.Stepped told)) old new
-    → TurnSays after.WriteFailed before.lib output (from_step block taken (booted_of before)) (taken + 1) later block' old new
+    → SuperTurns before (turn.Stepped told) later → Loses (block ++ pieces_of_turn output taken (turn.Stepped told)) old new
+    → TurnResult after.WriteFailed before.lib output (rest_from_step block taken (booted_of before)) (taken + 1) later block' old new
 step_lost output taken before later told block block' old new turns lost = record {
   performs = λ denied left.
       let run = run_of before.lib output denied in
-      lost_turn block (pieces_of output taken (turn.Stepped told)) (served run (taken + 1) left (booted_of later)) (run_from run taken (suc left) (booted_of before)) old new
+      lost_turn block (pieces_of_turn output taken (turn.Stepped told)) (served run (taken + 1) left (booted_of later)) (run_from run taken (suc left) (booted_of before)) old new
       (step_as run taken left (booted_of before) (booted_of later) (turn.Stepped told) turns.0) lost;
 }
 
 step_leads :
     (output : RunOutput) (taken : ℕ) (before mid : SuperFields) (told : StepRecord) (block block' : List (List ℕ)) (old new : Seen)
-    → SuperTurns before (turn.Stepped told) mid → Gathers block block' (pieces_of output taken (turn.Stepped told)) old new
+    → SuperTurns before (turn.Stepped told) mid → Gathers block block' (pieces_of_turn output taken (turn.Stepped told)) old new
     → (denied : List (List ℕ)) (left : ℕ)
     → Leads (puts_all block' (served (run_of before.lib output denied) (taken + 1) left (booted_of mid)))
     (puts_all block (run_from (run_of before.lib output denied) taken (suc left) (booted_of before))) old new
 step_leads output taken before mid told block block' old new turns adds denied left =
     let run = run_of before.lib output denied in
-    leads_turn block block' (pieces_of output taken (turn.Stepped told)) (served run (taken + 1) left (booted_of mid)) (run_from run taken (suc left) (booted_of before)) old new
+    leads_turn block block' (pieces_of_turn output taken (turn.Stepped told)) (served run (taken + 1) left (booted_of mid)) (run_from run taken (suc left) (booted_of before)) old new
     (step_as run taken left (booted_of before) (booted_of mid) (turn.Stepped told) turns.0) adds
 
 step_then :
     (p : AfterTurn) (output : RunOutput) (taken : ℕ) (before mid later : SuperFields) (told : StepRecord) (block now block' : List (List ℕ))
     (old between new : Seen)
-    → SuperTurns before (turn.Stepped told) mid → Gathers block now (pieces_of output taken (turn.Stepped told)) old between
-    → TurnSays p before.lib output (from_service now (taken + 1) (booted_of mid)) (taken + 1) later block' between new
-    → TurnSays p before.lib output (from_step block taken (booted_of before)) (taken + 1) later block' old new
+    → SuperTurns before (turn.Stepped told) mid → Gathers block now (pieces_of_turn output taken (turn.Stepped told)) old between
+    → TurnResult p before.lib output (rest_from_service now (taken + 1) (booted_of mid)) (taken + 1) later block' between new
+    → TurnResult p before.lib output (rest_from_step block taken (booted_of before)) (taken + 1) later block' old new
 step_then after.Next output taken before mid later told block now block' old between new turns adds says = record {
   leads = λ denied left.
       leads_on _ _ _ old between new (step_leads output taken before mid told block now old between turns adds denied left) (says.leads denied left);
@@ -344,11 +344,11 @@ step_then after.NoMemory output taken before mid later told block now block' old
 pub step_goes :
     (p : AfterTurn) (output : RunOutput) (taken : ℕ) (before mid later : SuperFields) (told : StepRecord) (block now block' : List (List ℕ))
     (old between new : Seen)
-    → SuperTurns before (turn.Stepped told) mid → Gathers block now (pieces_of output taken (turn.Stepped told)) old between
-    → TurnSays p mid.lib output (from_service now (taken + 1) (booted_of mid)) (taken + 1) later block' between new
-    → TurnSays p before.lib output (from_step block taken (booted_of before)) (taken + 1) later block' old new
+    → SuperTurns before (turn.Stepped told) mid → Gathers block now (pieces_of_turn output taken (turn.Stepped told)) old between
+    → TurnResult p mid.lib output (rest_from_service now (taken + 1) (booted_of mid)) (taken + 1) later block' between new
+    → TurnResult p before.lib output (rest_from_step block taken (booted_of before)) (taken + 1) later block' old new
 step_goes p output taken before mid later told block now block' old between new turns adds says =
     step_then p output taken before mid later told block now block' old between new turns adds
-    (subst (λ l. TurnSays p l output (from_service now (taken + 1) (booted_of mid)) (taken + 1) later block' between new) turns.1 says)
+    (subst (λ l. TurnResult p l output (rest_from_service now (taken + 1) (booted_of mid)) (taken + 1) later block' between new) turns.1 says)
 
 pub ruleset stepping = (step_lost, step_goes)

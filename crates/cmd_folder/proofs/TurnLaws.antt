@@ -13,7 +13,7 @@ use Rattle.m36_super.specs.declared.coming.NextEvent.{NextEvent}
 use Rattle.m36_super.specs.declared.coming.NextEvent.TheVariants.{Step, Link, Print, Over}
 use Rattle.m36_super.specs.BootedRun.{Booted, IsStepTurn, IsLinkTurn, IsConsoleTurn, IsTurnBy, IsTurn}
 use Rattle.m36_super.specs.SuperFields.{SuperFields, booted_of}
-use Rattle.m36_super.specs.SuperTurn.{SuperTurns, IsQuiet, link_quiet}
+use Rattle.m36_super.specs.SuperTurn.{SuperTurns, IsNoService, link_quiet}
 
 -- ---- which turns there are
 
@@ -89,7 +89,7 @@ turn_prints before after turn is turns =
 
 pub link_behind :
     (before after : SuperFields) (note : LinkNoteFields) (at : AtFields)
-    → before.coming ≡ Link at → SuperTurns before (Linked note) after → IsQuiet after.coming
+    → before.coming ≡ Link at → SuperTurns before (Linked note) after → IsNoService after.coming
 link_behind before after note at is turns =
     link_quiet _ before.lib.catalog.frames at (booted_of before) (Linked note) (booted_of after)
     (by_coming before.lib before after (Linked note) (Link at) is turns.0) tt

@@ -6,13 +6,13 @@ use Rattle.m36_world.specs.Answers.{PutDid}
 use Rattle.m36_world.specs.Seen.{Seen}
 use Rattle.m36_program.specs.Gathered.{Gathers, Adds}
 use Rattle.m36_program.proofs.Gathered.{gathers_put, loses_put}
-use Rattle.cmd_folder.specs.RunText.{characters}
+use Rattle.cmd_folder.specs.RunText.{console_pieces}
 use Rattle.cmd_folder.proofs.BlockLaws.{gathers_none, adds_then, loses_more}
 use Rattle.std.proofs.Common.{refl}
 
 -- no characters
 pub none_shown :
-    (text : List ℕ) (block : List (List ℕ)) (seen : Seen) → length text ≡ 0 → Gathers block block (characters text) seen seen
+    (text : List ℕ) (block : List (List ℕ)) (seen : Seen) → length text ≡ 0 → Gathers block block (console_pieces text) seen seen
 none_shown [] block seen none = gathers_none block seen
 none_shown (c ∷ text) block seen none = absurd (omega (arith, none))
 
@@ -24,7 +24,7 @@ one_shown Failed piece block old new none did = loses_put block piece old new no
 
 pub some_shown :
     (answer : Put) (text : List ℕ) (block : List (List ℕ)) (old new : Seen)
-    → block ≡ [] → 0 < length text → PutDid answer text old new → Adds answer block block (characters text) old new
+    → block ≡ [] → 0 < length text → PutDid answer text old new → Adds answer block block (console_pieces text) old new
 some_shown answer [] block old new none some did = absurd (omega (arith, some))
 some_shown answer (c ∷ text) block old new none some did = one_shown answer (c ∷ text) block old new none did
 

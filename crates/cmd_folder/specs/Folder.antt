@@ -12,7 +12,7 @@ use Rattle.m36_status.specs.declared.refusal.Refusal.{Refusal}
 use Rattle.m36_status.specs.declared.refusal.Refusal.TheVariants.{NoMemory}
 use Rattle.m36_status.specs.Refusing.{Early}
 use Rattle.m36_files.specs.declared.access.Access.{Access}
-use Rattle.m36_files.specs.CatalogRules.{boot_refused}
+use Rattle.m36_files.specs.CatalogRules.{boot_text_refusal}
 
 -- what is booted
 pub record FolderFields : Type 0 where
@@ -34,18 +34,18 @@ folder_with access files = record {
 
 -- the refusal of a folder that does not boot, or NoMemory: U1 and U3 with place 0, U2 and U4 with
 -- the number of the segment as their place
-abbrev pub fault_refused : BootFault → Refusal
-fault_refused boot.U1 = boot_refused code.U1 0
-fault_refused (boot.U2 segment) = boot_refused code.U2 segment
-fault_refused boot.U3 = boot_refused code.U3 0
-fault_refused (boot.U4 segment) = boot_refused code.U4 segment
-fault_refused boot.NoMemory = NoMemory
+abbrev pub refusal_of_fault : BootFault → Refusal
+refusal_of_fault boot.U1 = boot_text_refusal code.U1 0
+refusal_of_fault (boot.U2 segment) = boot_text_refusal code.U2 segment
+refusal_of_fault boot.U3 = boot_text_refusal code.U3 0
+refusal_of_fault (boot.U4 segment) = boot_text_refusal code.U4 segment
+refusal_of_fault boot.NoMemory = NoMemory
 
 -- the folder if it boots, or the refusal of its fault
-abbrev pub booted_by : FolderFields → Result SnapFields BootFault → Early FolderFields
-booted_by given (Ok start) = Ok given
-booted_by given (Err fault) = Err (fault_refused fault)
+abbrev pub folder_or_refusal : FolderFields → Result SnapFields BootFault → Early FolderFields
+folder_or_refusal given (Ok start) = Ok given
+folder_or_refusal given (Err fault) = Err (refusal_of_fault fault)
 
 -- the folder itself if it boots, otherwise its refusal with a code
-unfoldable pub boots : FolderFields → Early FolderFields
-boots given = booted_by given (boot_answer given.lib.catalog given.lib.files)
+unfoldable pub boot_result : FolderFields → Early FolderFields
+boot_result given = folder_or_refusal given (boot_answer given.lib.catalog given.lib.files)

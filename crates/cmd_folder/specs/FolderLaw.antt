@@ -14,21 +14,21 @@ use Rattle.m36_step.specs.declared.turns.Turn.{Turn}
 use Rattle.m36_super.specs.BootedRun.{Booted}
 use Rattle.m36_super.specs.SuperFields.{SuperFields, booted_of}
 use Rattle.m36_super.specs.TurnLaws.{IsPlainTurn}
-use Rattle.m36_super.specs.BootSays.{IsBooted}
+use Rattle.m36_super.specs.BootResult.{IsBooted}
 use Rattle.m36_super.specs.declared.coming.NextEvent.TheVariants.{Step}
 use Rattle.m36_status.specs.declared.status.Status.{Status}
 use Rattle.m36_status.specs.declared.status.Status.TheVariants.{NoMemory}
 use Rattle.m36_program.specs.Alike.{IsEnd, OneText}
-use Rattle.m36_program.specs.Early.{early}
+use Rattle.m36_program.specs.Early.{result_of_status}
 use Rattle.m36_program.specs.Ended.{HasEnd}
 use Rattle.m36_program.specs.Goes.{Ends, Goes}
 use Rattle.m36_program.specs.OneText.{HasOneText}
 use Rattle.m36_program.specs.Performs.{Performs}
 use Rattle.m36_program.specs.Program.{quiet}
-use Rattle.m36_program.specs.Reader.{outcome_in}
-use Rattle.m36_program.specs.Trail.{pieces_of}
+use Rattle.m36_program.specs.Reader.{reader_result}
+use Rattle.m36_program.specs.MayHappen.{pieces_of}
 use Rattle.cmd_image.specs.AuditText.{audit_pieces}
-use Rattle.cmd_image.specs.ImageAudit.{passes, is_run, audit_status}
+use Rattle.cmd_image.specs.ImageAudit.{passes, is_run_allowed, audit_status}
 use Rattle.cmd_folder.specs.declared.command.FolderCommand.{FolderCommand}
 use Rattle.cmd_folder.specs.declared.command.FolderCommand.TheVariants.{Audit, Run, Trace}
 use Rattle.cmd_folder.specs.declared.command.FolderRun.{FolderRun}
@@ -36,14 +36,14 @@ use Rattle.cmd_folder.specs.declared.command.RunOutput.{RunOutput}
 use Rattle.cmd_folder.specs.declared.command.RunOutput.TheVariants as output
 use Rattle.cmd_folder.specs.declared.finish.Finish.{Finish}
 use Rattle.cmd_folder.specs.Folder.{FolderFields}
-use Rattle.cmd_folder.specs.RunText.{pieces_from, run_pieces, finish_status}
+use Rattle.cmd_folder.specs.RunText.{pieces_of_turns, run_pieces, finish_status}
 use Rattle.cmd_folder.specs.Runs.{Finishes}
 use Rattle.cmd_folder.specs.Runs as runs
 use Rattle.cmd_folder.specs.FolderProgram.{folder_given, folder_program}
 use Rattle.cmd_folder.specs.Needs.{OneEndsWithDis}
-use Rattle.cmd_folder.specs.OnFolder.{by_command, on_folder}
-use Rattle.cmd_folder.specs.RunIs.{RunIs}
-use Rattle.cmd_folder.specs.RunProgram.{Running, run_from}
+use Rattle.cmd_folder.specs.OnFolder.{command_after_audit, on_folder}
+use Rattle.cmd_folder.specs.IsBootedRun.{IsBootedRun}
+use Rattle.cmd_folder.specs.RunProgram.{RunContext, run_from}
 
 -- ---- commands
 
@@ -66,7 +66,7 @@ pub record GoesByFindings (command : FolderCommand) (given : FolderFields) (syst
   pub first : ℕ × ℕ
   pub others : List (ℕ × ℕ)
   pub found : AreFindings system.core booted_dbr (first ∷ others)
-  pub goes : Goes (by_command command given (booted_of system) (first ∷ others)) events result
+  pub goes : Goes (command_after_audit command given (booted_of system) (first ∷ others)) events result
 
 -- ---- the one text of a run
 
@@ -76,12 +76,12 @@ pub record IsPrefix (first all : List (List ℕ)) : Type 0 where
   pub is : all ≡ first ++ left
 
 -- Both are prefixes of one list.
-abbrev pub Agree : List (List ℕ) → List (List ℕ) → Type 0
-Agree one other = IsPrefix one other ⊎ IsPrefix other one
+abbrev pub OneIsPrefix : List (List ℕ) → List (List ℕ) → Type 0
+OneIsPrefix one other = IsPrefix one other ⊎ IsPrefix other one
 
 -- Turns of the system that a folder boots to, within the limit of the command, of which none
 -- executes an ABSA or an LDBR; and the findings of the audit of the system.
-pub record ArePlain (run : FolderRun) (given : FolderFields) (findings : List (ℕ × ℕ))
+pub record ArePlainTurns (run : FolderRun) (given : FolderFields) (findings : List (ℕ × ℕ))
     (turns : List Turn) (last : Booted) : Type 0 where
   pub system : SuperFields
   pub booted : IsBooted given.lib system
@@ -91,7 +91,7 @@ pub record ArePlain (run : FolderRun) (given : FolderFields) (findings : List (�
 
 -- what a command puts by the time that these turns are made, if it runs the system
 abbrev pub plain_pieces : RunOutput → List (ℕ × ℕ) → List Turn → List (List ℕ)
-plain_pieces output findings turns = audit_pieces findings ++ pieces_from output 0 turns
+plain_pieces output findings turns = audit_pieces findings ++ pieces_of_turns output 0 turns
 
 -- all that a command puts if these turns are a run that finishes; the Boolean is whether it runs
 -- the system
@@ -113,8 +113,8 @@ abbrev pub HasTextOf :
     → Result (Unit {0}) Status → Type 0
 HasTextOf run output given findings turns how events result =
     OneText (pieces_of events)
-    (whole_pieces (is_run findings run.unaudited) output given.denied findings turns how)
-    result (early (whole_status (is_run findings run.unaudited) findings how))
+    (whole_pieces (is_run_allowed findings run.unaudited) output given.denied findings turns how)
+    result (result_of_status (whole_status (is_run_allowed findings run.unaudited) findings how))
 
 -- ---- the law
 
@@ -152,7 +152,7 @@ pub record FolderLaw : Type 0 where
       (result : Result (Unit {0}) Status)
       → IsBooted given.lib system → IsAudited system.core booted_dbr
       → Goes (on_folder command given) events result
-      → Goes (by_command command given (booted_of system) []) events result
+      → Goes (command_after_audit command given (booted_of system) []) events result
       ⊎ Ends (Err NoMemory) events result
   pub failed :
       (command : FolderCommand) (given : FolderFields) (system : SuperFields) (events : List Event)
@@ -163,32 +163,32 @@ pub record FolderLaw : Type 0 where
   -- Each call of the program of a run is a booted run; and each booted run that finishes is a call
   -- of it, which puts all pieces of the run and has its status.
   pub run :
-      (run : Running) (limit : ℕ) (first : Booted) (events : List Event)
+      (run : RunContext) (limit : ℕ) (first : Booted) (events : List Event)
       (result : Result (Unit {0}) Status)
       → first.coming ≡ Step → Goes (run_from run 0 limit first) events result
-      → RunIs run limit first events result
+      → IsBootedRun run limit first events result
   pub some_call :
-      (run : Running) (limit : ℕ) (first : Booted) (turns : List Turn) (last : Booted)
+      (run : RunContext) (limit : ℕ) (first : Booted) (turns : List Turn) (last : Booted)
       (how : Finish)
       → first.coming ≡ Step → runs.Goes run.lib limit first turns last
       → Finishes how run.lib limit turns last
       → Goes (run_from run 0 limit first)
       (outputs (run_pieces run.denied run.output turns (Some how)))
-      (early (finish_status (Some how)))
+      (result_of_status (finish_status (Some how)))
   -- Take turns that execute no ABSA and no LDBR. What any call of `run` or `trace` puts agrees with
   -- what is put by the time that these turns are made: one is a prefix of the other. If the turns
   -- are a run that finishes, every call has the one text of that run.
   pub plain :
       (run : FolderRun) (output : RunOutput) (given : FolderFields) (findings : List (ℕ × ℕ))
       (turns : List Turn) (last : Booted) (events : List Event) (result : Result (Unit {0}) Status)
-      → ArePlain run given findings turns last
+      → ArePlainTurns run given findings turns last
       → Goes (on_folder (run_command output run) given) events result
-      → Agree (pieces_of events) (plain_pieces output findings turns)
+      → OneIsPrefix (pieces_of events) (plain_pieces output findings turns)
   pub plain_run :
       (run : FolderRun) (output : RunOutput) (given : FolderFields) (findings : List (ℕ × ℕ))
       (turns : List Turn) (last : Booted) (how : Finish) (events : List Event)
       (result : Result (Unit {0}) Status)
-      → ArePlain run given findings turns last → Finishes how given.lib run.steps turns last
+      → ArePlainTurns run given findings turns last → Finishes how given.lib run.steps turns last
       → Goes (on_folder (run_command output run) given) events result
       → HasTextOf run output given findings turns how events result
   -- The same of whole calls, over files from which the reader gives the folder.
@@ -197,17 +197,17 @@ pub record FolderLaw : Type 0 where
       (given : FolderFields) (findings : List (ℕ × ℕ)) (turns : List Turn) (last : Booted)
       (result : Result (Unit {0}) Status) (old new : Seen)
       → old.files ≡ Some files
-      → outcome_in files (folder_given {may = quiet} user) ≡ Some (Ok given)
-      → ArePlain run given findings turns last
+      → reader_result files (folder_given {may = quiet} user) ≡ Some (Ok given)
+      → ArePlainTurns run given findings turns last
       → (performs : Performs (folder_program (run_command output run) user) result old new)
-      → Agree (pieces_of performs.events) (plain_pieces output findings turns)
+      → OneIsPrefix (pieces_of performs.events) (plain_pieces output findings turns)
   pub plain_run_call :
       (run : FolderRun) (output : RunOutput) (user : Option (List ℕ)) (files : Files)
       (given : FolderFields) (findings : List (ℕ × ℕ)) (turns : List Turn) (last : Booted)
       (how : Finish) (result : Result (Unit {0}) Status) (old new : Seen)
       → old.files ≡ Some files
-      → outcome_in files (folder_given {may = quiet} user) ≡ Some (Ok given)
-      → ArePlain run given findings turns last → Finishes how given.lib run.steps turns last
+      → reader_result files (folder_given {may = quiet} user) ≡ Some (Ok given)
+      → ArePlainTurns run given findings turns last → Finishes how given.lib run.steps turns last
       → (performs : Performs (folder_program (run_command output run) user) result old new)
       → HasTextOf run output given findings turns how performs.events result
   -- If one run ends with DIS and executes no ABSA and no LDBR, each run ends with DIS.

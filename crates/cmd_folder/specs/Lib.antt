@@ -9,6 +9,6 @@ pub mod OnFolder
 pub mod FolderProgram
 pub mod RunSays
 pub mod Systems
-pub mod RunIs
+pub mod IsBootedRun
 pub mod Needs
 pub mod FolderLaw

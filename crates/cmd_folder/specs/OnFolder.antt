@@ -6,19 +6,19 @@ use Rattle.m36_model.specs.BootedCore.{booted_dbr}
 use Rattle.m36_super.specs.Library.{Library}
 use Rattle.m36_super.specs.BootedRun.{Booted}
 use Rattle.m36_super.specs.SuperFields.{SuperFields, booted_of}
-use Rattle.m36_super.specs.BootSays.{IsBooted}
+use Rattle.m36_super.specs.BootResult.{IsBooted}
 use Rattle.m36_program.specs.Program.{quiet, Program, puts_all, some, wants}
 use Rattle.cmd_image.specs.AuditText.{audit_pieces}
-use Rattle.cmd_image.specs.ImageAudit.{is_run}
+use Rattle.cmd_image.specs.ImageAudit.{is_run_allowed}
 use Rattle.cmd_folder.specs.declared.command.FolderCommand.{FolderCommand}
 use Rattle.cmd_folder.specs.declared.command.FolderCommand.TheVariants.{Audit, Run, Trace}
 use Rattle.cmd_folder.specs.declared.command.FolderRun.{FolderRun}
 use Rattle.cmd_folder.specs.declared.command.RunOutput.{RunOutput}
 use Rattle.cmd_folder.specs.declared.command.RunOutput.TheVariants as output
 use Rattle.cmd_folder.specs.Folder.{FolderFields}
-use Rattle.cmd_folder.specs.Promise.{PassesBooted}
+use Rattle.cmd_folder.specs.Promise.{PassesFolderAudit}
 use Rattle.cmd_image.specs.ImageProgram.{audit_only}
-use Rattle.cmd_folder.specs.RunProgram.{Running, run_from}
+use Rattle.cmd_folder.specs.RunProgram.{RunContext, run_from}
 
 -- ---- the audit
 
@@ -27,45 +27,45 @@ use Rattle.cmd_folder.specs.RunProgram.{Running, run_from}
 pub record AreFolderFindings (lib : Library) (system : SuperFields) (findings : List (ℕ × ℕ))
     : Type 0 where
   pub found : AreFindings system.core booted_dbr findings
-  pub passes : findings ≡ [] → PassesBooted lib
+  pub passes : findings ≡ [] → PassesFolderAudit lib
 
 -- ---- a command
 
 -- puts the audit's text, and then runs the system; the number is the limit of steps
 unfoldable pub audit_and_run :
-    Running → ℕ → Booted → List (ℕ × ℕ) → Program quiet (Unit {0})
+    RunContext → ℕ → Booted → List (ℕ × ℕ) → Program quiet (Unit {0})
 audit_and_run run steps first findings =
     puts_all (audit_pieces findings) (run_from run 0 steps first)
 
 -- puts the audit's text, and runs the system if the Boolean is true; the number is the limit of
 -- steps
-abbrev pub run_by :
-    Bool → Running → ℕ → Booted → List (ℕ × ℕ) → Program quiet (Unit {0})
-run_by true run steps first findings = audit_and_run run steps first findings
-run_by false run steps first findings = audit_only findings
+abbrev pub audit_and_run_if :
+    Bool → RunContext → ℕ → Booted → List (ℕ × ℕ) → Program quiet (Unit {0})
+audit_and_run_if true run steps first findings = audit_and_run run steps first findings
+audit_and_run_if false run steps first findings = audit_only findings
 
 -- a run of the system of a folder, and what is written of it
-abbrev pub running : FolderFields → RunOutput → Running
+abbrev pub running : FolderFields → RunOutput → RunContext
 running given output = record { lib = given.lib; denied = given.denied; output = output }
 
 -- `run` and `trace` after the audit: the run, or the audit's text alone
-abbrev pub on_run :
+abbrev pub run_after_audit :
     FolderRun → RunOutput → FolderFields → Booted → List (ℕ × ℕ) → Program quiet (Unit {0})
-on_run run output given first findings =
-    run_by (is_run findings run.unaudited) (running given output) run.steps first findings
+run_after_audit run output given first findings =
+    audit_and_run_if (is_run_allowed findings run.unaudited) (running given output) run.steps first findings
 
 -- what a command does with a booted system, given the findings of the audit of its core
-abbrev pub by_command :
+abbrev pub command_after_audit :
     FolderCommand → FolderFields → Booted → List (ℕ × ℕ) → Program quiet (Unit {0})
-by_command Audit given first findings = audit_only findings
-by_command (Run run) given first findings = on_run run output.Console given first findings
-by_command (Trace run) given first findings = on_run run output.Trace given first findings
+command_after_audit Audit given first findings = audit_only findings
+command_after_audit (Run run) given first findings = run_after_audit run output.Console given first findings
+command_after_audit (Trace run) given first findings = run_after_audit run output.Trace given first findings
 
 -- Audits the system. Memory may run out here, and after that only in a link service.
 unfoldable pub on_system :
     FolderCommand → FolderFields → SuperFields → Program quiet (Unit {0})
 on_system command given system =
-    wants (some (AreFolderFindings given.lib system) (by_command command given (booted_of system)))
+    wants (some (AreFolderFindings given.lib system) (command_after_audit command given (booted_of system)))
 
 -- What a command does with the system that the folder's library boots to. There is at most one, by
 -- `system` of `BootedLaw` of `cmd_folder`.

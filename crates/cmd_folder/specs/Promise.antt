@@ -9,7 +9,7 @@ use Rattle.m36_step.specs.declared.turns.Turn.{Turn}
 use Rattle.m36_super.specs.Library.{Library}
 use Rattle.m36_super.specs.BootedRun.{Booted, AreTurns}
 use Rattle.m36_super.specs.SuperFields.{SuperFields, booted_of}
-use Rattle.m36_super.specs.BootSays.{IsBooted}
+use Rattle.m36_super.specs.BootResult.{IsBooted}
 use Rattle.cmd_image.specs.ImageAudit.{IsIsolated}
 
 -- The state is reached by turns of a booted run in which no LDBR has been executed.
@@ -24,7 +24,7 @@ pub record IsReached (lib : Library) (now : Booted) : Type 0 where
 -- audit hold of core; the tables in core isolate each ring from 1; and so do those of the flat
 -- memory that core and the words of absent pages represent. The steps over the flat memory are
 -- those of the run, absent pages included.
-pub record PassesBooted (lib : Library) : Type 0 where
+pub record PassesFolderAudit (lib : Library) : Type 0 where
   pub conditions : (now : Booted) → IsReached lib now → IsAudited now.state.memory.core booted_dbr
   pub isolates : (now : Booted) → IsReached lib now → IsIsolated now.state.memory.core booted_dbr
   pub flat :

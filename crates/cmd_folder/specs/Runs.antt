@@ -11,7 +11,7 @@ use Rattle.m36_super.specs.declared.coming.NextEvent.TheVariants as coming
 use Rattle.m36_super.specs.BootedRun.{Booted, IsTurn, AreTurns}
 use Rattle.cmd_folder.specs.declared.finish.Finish.{Finish}
 use Rattle.cmd_folder.specs.declared.finish.Finish.TheVariants.{Over, Limit}
-use Rattle.cmd_folder.specs.RunText.{steps_in}
+use Rattle.cmd_folder.specs.RunText.{turns_step_count}
 
 -- The turn is a step or a service that was made.
 abbrev pub IsEvent : Turn → Type 0
@@ -29,14 +29,14 @@ pub record Goes
     (lib : Library) (limit : ℕ) (first : Booted) (turns : List Turn) (last : Booted) : Type 0 where
   pub turns_are : AreTurns lib first turns last
   pub events : Each IsEvent turns
-  pub few : steps_in turns ≤ limit
+  pub few : turns_step_count turns ≤ limit
 
 -- The run ended; or it used up its limit of steps, made the service for which the last one calls,
 -- and a step would be next.
 abbrev pub Finishes : Finish → Library → ℕ → List Turn → Booted → Type 0
 Finishes (Over e) lib limit turns last =
     (after : Booted) × IsTurn lib last (Ended e) after
-Finishes Limit lib limit turns last = (steps_in turns ≡ limit) × (last.coming ≡ Step)
+Finishes Limit lib limit turns last = (turns_step_count turns ≡ limit) × (last.coming ≡ Step)
 
 -- A link service is next.
 abbrev pub AwaitsLink : NextEvent → Type 0

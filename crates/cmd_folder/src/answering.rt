@@ -1,17 +1,17 @@
 //! Audits a booted system, and runs it if the command says so.
 
 ghost use Rattle.std.specs.Prelude.{◌≡◌};
-ghost use Rattle.m36_audit.specs.Findings.{pairs};
+ghost use Rattle.m36_audit.specs.Findings.{finding_pairs};
 ghost use Rattle.m36_super.specs.declared.coming.NextEvent.TheVariants.{Step};
 ghost use Rattle.m36_super.specs.SuperFields.{booted_of};
-ghost use Rattle.cmd_image.specs.ImageAudit.{is_run};
+ghost use Rattle.cmd_image.specs.ImageAudit.{is_run_allowed};
 ghost use Rattle.m36_program.specs.Performs.{Performs};
 ghost use Rattle.cmd_folder.specs.BootedSystems.{IsFresh};
-ghost use Rattle.cmd_folder.specs.OnFolder.{audit_and_run, run_by, by_command, on_folder};
+ghost use Rattle.cmd_folder.specs.OnFolder.{audit_and_run, audit_and_run_if, command_after_audit, on_folder};
 ghost use Rattle.cmd_folder.specs.FolderProgram.{folder_program};
 ghost use Rattle.cmd_folder.specs.RunSays.{run_of};
 
-use crate::auditing::audited;
+use crate::auditing::audit_system;
 use crate::command::{FolderCommand, FolderRun, RunOutput};
 use crate::reading::read_system;
 use crate::running::run;
@@ -36,7 +36,7 @@ fn run_audited<W: World>(
 ) -> Result<(), Status>
     requires { system.old.coming ≡ Step }
     ensures { Performs (audit_and_run (run_of system.old.lib output denied.now) steps
-        (booted_of system.old) (pairs findings.now)) result (W.seen world.old) (W.seen world.new) }
+        (booted_of system.old) (finding_pairs findings.now)) result (W.seen world.old) (W.seen world.new) }
 {
     match put_audit(findings, world) {
         Ok(()) => run(system, steps, output, denied, world),
@@ -46,8 +46,8 @@ fn run_audited<W: World>(
 
 // Whether the system is run: if the audit found nothing, or `--unaudited` is given.
 #[tactic(auto, using(cmd_image::proofs::AuditAnswers::passing))]
-fn is_run(findings: &[Finding], run: FolderRun) -> bool
-    ensures { result ≡ is_run (pairs findings.now) run.unaudited }
+fn is_run_allowed(findings: &[Finding], run: FolderRun) -> bool
+    ensures { result ≡ is_run_allowed (finding_pairs findings.now) run.unaudited }
 {
     findings.is_empty() || run.unaudited
 }
@@ -62,11 +62,11 @@ fn answer_run<W: World>(
     world: &mut W,
 ) -> Result<(), Status>
     requires { system.old.coming ≡ Step }
-    ensures { Performs (run_by (is_run (pairs findings.now) run.unaudited)
+    ensures { Performs (audit_and_run_if (is_run_allowed (finding_pairs findings.now) run.unaudited)
         (run_of system.old.lib output denied.now) run.steps (booted_of system.old)
-        (pairs findings.now)) result (W.seen world.old) (W.seen world.new) }
+        (finding_pairs findings.now)) result (W.seen world.old) (W.seen world.new) }
 {
-    if is_run(findings, run) {
+    if is_run_allowed(findings, run) {
         run_audited(system, findings, run.steps, output, denied, world)
     } else {
         answer_audit(findings, world)
@@ -74,7 +74,7 @@ fn answer_run<W: World>(
 }
 
 // Performs a command on a booted system, given the findings of the audit of its core.
-fn answer_found<W: World>(
+fn perform_for_findings<W: World>(
     command: FolderCommand,
     system: &mut Super,
     denied: &DeniedLines,
@@ -82,9 +82,9 @@ fn answer_found<W: World>(
     world: &mut W,
 ) -> Result<(), Status>
     requires { system.old.coming ≡ Step }
-    ensures { Performs (by_command command
+    ensures { Performs (command_after_audit command
         record { lib = system.old.lib; denied = denied.now } (booted_of system.old)
-        (pairs findings.now)) result (W.seen world.old) (W.seen world.new) }
+        (finding_pairs findings.now)) result (W.seen world.old) (W.seen world.new) }
 {
     match command {
         FolderCommand::Audit => answer_audit(findings, world),
@@ -99,7 +99,7 @@ fn answer_found<W: World>(
 
 // Audits a booted system, and performs a command on it. NoMemory if the audit runs out of memory.
 #[tactic(auto, using(crate::proofs::FolderSteps::found))]
-fn with_system<W: World>(
+fn audit_system_and_answer<W: World>(
     alloc: Global,
     command: FolderCommand,
     mut system: Super,
@@ -110,10 +110,10 @@ fn with_system<W: World>(
     ensures { Performs (on_folder command record { lib = system.lib; denied = denied.now }) result
         (W.seen world.old) (W.seen world.new) }
 {
-    match audited(alloc, &system) {
+    match audit_system(alloc, &system) {
         Ok(verdict) => {
             let findings = verdict.findings.as_slice();
-            let answer = answer_found(command, &mut system, denied, findings, world);
+            let answer = perform_for_findings(command, &mut system, denied, findings, world);
             // Dropped by a call, so that the drop is proved once for its type.
             drop(verdict);
             drop(system);
@@ -128,7 +128,7 @@ fn with_system<W: World>(
 
 /// Performs `audit`, `run` or `trace` of a folder over any world, with the rights of `user` if
 /// there is one. An error is the status of the command.
-pub fn folder_booted<W: World>(
+pub fn perform_folder_command<W: World>(
     alloc: Global,
     command: FolderCommand,
     user: &Option<User>,
@@ -138,7 +138,7 @@ pub fn folder_booted<W: World>(
         (W.seen world.old) (W.seen world.new) }
 {
     match read_system(alloc, user, world) {
-        Ok(booted) => with_system(alloc, command, booted.system, &booted.denied, world),
+        Ok(booted) => audit_system_and_answer(alloc, command, booted.system, &booted.denied, world),
         Err(status) => Err(status),
     }
 }

@@ -2,9 +2,9 @@
 
 ghost use Rattle.std.specs.Prelude.{ℕ, ◌≡◌, ◌≤◌, List, [], ◌∷◌, ◌++◌, Ok, length, IfOk};
 ghost use Rattle.obj36_parts.specs.ObjectSegment.{segment_limit};
-ghost use Rattle.m36_status.specs.Refusing.{Early, Gives, Refuses};
-ghost use Rattle.cmd_folder.specs.Folder.{folder_with, fault_refused, boots};
-ghost use Rattle.cmd_folder.specs.BootedSystems.{IsFresh, given_in};
+ghost use Rattle.m36_status.specs.Refusing.{Early, IsRuleResult, IsRuleRefusal};
+ghost use Rattle.cmd_folder.specs.Folder.{folder_with, refusal_of_fault, boot_result};
+ghost use Rattle.cmd_folder.specs.BootedSystems.{IsFresh, folder_result};
 
 use crate::files::SegmentFiles;
 use m36_acl::DeniedLines;
@@ -28,7 +28,7 @@ pub struct BootedFolder {
 /// Adds the words of a file to those read before. Fails only with `NoMemory`.
 pub fn with_file(mut files: SegmentFiles, words: Words) -> Result<SegmentFiles, Refusal>
     requires { length words ≤ segment_limit }
-    ensures gives { Gives result
+    ensures gives { IsRuleResult result
         (let more : Early (List (List ℕ)) = Ok (files ++ words ∷ []) in more) }
     ensures more { IfOk result (λ more. more ≡ files ++ words ∷ []) }
 {
@@ -39,7 +39,7 @@ pub fn with_file(mut files: SegmentFiles, words: Words) -> Result<SegmentFiles, 
 // The refusal of a catalog and files that do not boot: U1 to U4, of which U2 and U4 have the number
 // of the segment as their place.
 fn refuse_fault(alloc: Global, fault: BootFault) -> Refusal
-    ensures { Refuses result (fault_refused fault) }
+    ensures { IsRuleRefusal result (refusal_of_fault fault) }
 {
     match fault {
         BootFault::U1 => refuse_boot(alloc, Code::U1, 0),
@@ -60,8 +60,8 @@ pub fn boot_files(
     files: SegmentFiles,
 ) -> Result<BootedFolder, Refusal>
     requires { length files ≡ length catalog.segments }
-    ensures gives { Gives (given_in result)
-        (boots (folder_with record { catalog = catalog; denied = denied } files)) }
+    ensures gives { IsRuleResult (folder_result result)
+        (boot_result (folder_with record { catalog = catalog; denied = denied } files)) }
     ensures booted { IfOk result (λ booted. IsFresh booted.system) }
 {
     match Super::boot(alloc, catalog, files.items) {

@@ -19,13 +19,13 @@
 //! | while files are read, the system is booted or its core audited | nothing |
 //! | in a link service of a run | the audit's text, and what is written of the turns before it |
 //!
-//! [`folder_booted`] performs this program over any world, so its contract has the order of the
+//! [`perform_folder_command`] performs this program over any world, so its contract has the order of the
 //! events. By its type the program writes no file and takes no input.
 //!
 //! [`law_folder`] says what the program means (`specs/FolderLaw.antt`):
 //!
 //! - Each call of the program of a run is a booted run (`specs/Runs.antt`), up to its finish or to
-//!   where the call stopped (`specs/RunIs.antt`). Each booted run that finishes is such a call.
+//!   where the call stopped (`specs/IsBootedRun.antt`). Each booted run that finishes is such a call.
 //! - `audit` has one text over the same files. `run` and `trace` have one text up to the first ABSA
 //!   or LDBR that a turn executes. After that the run depends on which pages are evicted.
 //! - The conditions of the audit decide which findings there are. Some call ends, if some run
@@ -36,7 +36,7 @@
 //!
 //! A turn is no event, so no contract of a command says when a turn is made. The code puts the
 //! characters of a console service before it makes the next turn: each step and each service
-//! requires that no text of the console waits in the block (`IsShown`), and the loop of [`run`]
+//! requires that no text of the console waits in the block (`IsConsoleTextPut`), and the loop of [`run`]
 //! keeps that. So a reader of a pipe sees the characters while the program runs. The lines of a
 //! trace are gathered in a block. It is handed over when it is full, at the end, and when a link
 //! service runs out of memory.
@@ -76,8 +76,8 @@ mod lines;
 pub mod reading;
 pub mod running;
 
-pub use answering::folder_booted;
-pub use auditing::audited;
+pub use answering::perform_folder_command;
+pub use auditing::audit_system;
 pub use command::{FolderCommand, FolderRun, RunOutput};
 pub use ending::{finish_line, finish_status};
 pub use laws::{law_booted, law_folder};

@@ -4,16 +4,16 @@ ghost use Rattle.std.specs.Prelude.{◌≡◌, ◌+◌, [], length, IfOk};
 ghost use Rattle.cmd_folder.specs.BootedSystems.{IsFresh};
 ghost use Rattle.m36_program.specs.Performs.{Performs};
 ghost use Rattle.m36_program.specs.Program.{May};
-ghost use Rattle.m36_files.specs.EachFile.{read_onto, each_onto};
+ghost use Rattle.m36_files.specs.EachFile.{read_and_append, read_each};
 ghost use Rattle.m36_files.specs.FileReaders.{file_words};
 ghost use Rattle.cmd_folder.specs.FolderProgram.{segment_words, files_booted, folder_given};
-ghost use Rattle.cmd_folder.specs.Systems.{given_in};
+ghost use Rattle.cmd_folder.specs.Systems.{folder_result};
 
 use crate::booting::{BootedFolder, boot_files, with_file};
 use crate::files::SegmentFiles;
 use m36_acl::User;
 use m36_dir::Catalog;
-use m36_files::{Access, decide, read_access, read_words};
+use m36_files::{Access, refusal_as_status, read_access, read_words};
 use m36_status::Status;
 use m36_world::World;
 use std::alloc::Global;
@@ -25,12 +25,12 @@ fn read_file<W: World>(
     world: &mut W,
     files: SegmentFiles,
 ) -> Result<SegmentFiles, Status>
-    ensures performs { (may : May) → Performs {may = may} (read_onto file_words files name.now)
+    ensures performs { (may : May) → Performs {may = may} (read_and_append file_words files name.now)
         result (W.seen world.old) (W.seen world.new) }
     ensures more { IfOk result (λ more. length more ≡ length files + 1) }
 {
     match read_words(alloc, name, world) {
-        Ok(words) => decide(with_file(files, words)),
+        Ok(words) => refusal_as_status(with_file(files, words)),
         Err(status) => {
             // Dropped by a call, so that the drop is proved once for its type.
             drop(files);
@@ -47,7 +47,7 @@ fn read_files<W: World>(
     world: &mut W,
 ) -> Result<SegmentFiles, Status>
     ensures performs { (may : May)
-        → Performs {may = may} (each_onto segment_words [] catalog.now.segments) result
+        → Performs {may = may} (read_each segment_words [] catalog.now.segments) result
         (W.seen world.old) (W.seen world.new) }
     ensures each { IfOk result (λ files. length files ≡ length catalog.now.segments) }
 {
@@ -62,17 +62,17 @@ fn read_files<W: World>(
 }
 
 // Reads the files of the catalog's segments, and boots the system from them.
-fn read_booted<W: World>(
+fn read_files_and_boot<W: World>(
     alloc: Global,
     access: Access,
     world: &mut W,
 ) -> Result<BootedFolder, Status>
-    ensures performs { (may : May) → Performs {may = may} (files_booted access) (given_in result)
+    ensures performs { (may : May) → Performs {may = may} (files_booted access) (folder_result result)
         (W.seen world.old) (W.seen world.new) }
     ensures booted { IfOk result (λ booted. IsFresh booted.system) }
 {
     match read_files(alloc, &access.catalog, world) {
-        Ok(files) => decide(boot_files(alloc, access.catalog, access.denied, files)),
+        Ok(files) => refusal_as_status(boot_files(alloc, access.catalog, access.denied, files)),
         Err(status) => {
             drop(access);
             Err(status)
@@ -87,12 +87,12 @@ pub fn read_system<W: World>(
     user: &Option<User>,
     world: &mut W,
 ) -> Result<BootedFolder, Status>
-    ensures performs { (may : May) → Performs {may = may} (folder_given user.now) (given_in result)
+    ensures performs { (may : May) → Performs {may = may} (folder_given user.now) (folder_result result)
         (W.seen world.old) (W.seen world.new) }
     ensures booted { IfOk result (λ booted. IsFresh booted.system) }
 {
     match read_access(alloc, user, world) {
-        Ok(access) => read_booted(alloc, access, world),
+        Ok(access) => read_files_and_boot(alloc, access, world),
         Err(status) => Err(status),
     }
 }

@@ -5,20 +5,20 @@
 ghost use Rattle.std.specs.Prelude.{◌≡◌, ◌<◌, ◌+◌, ◌^◌, ◌++◌, Some, [], ◌∷◌};
 ghost use Rattle.m36_super.specs.declared.coming.NextEvent.TheVariants.{Step, Link, Print};
 ghost use Rattle.m36_super.specs.SuperFields.{booted_of};
-ghost use Rattle.m36_super.specs.SuperTurn.{IsQuiet};
+ghost use Rattle.m36_super.specs.SuperTurn.{IsNoService};
 ghost use Rattle.m36_program.specs.Performs.{Performs};
 ghost use Rattle.m36_program.specs.Program.{puts_all};
-ghost use Rattle.cmd_folder.specs.RunProgram.{Running, run_ends, run_from};
-ghost use Rattle.cmd_folder.specs.RunSays.{IsShown, run_of, from_step, from_service, TurnSays, LinkBefore};
+ghost use Rattle.cmd_folder.specs.RunProgram.{RunContext, put_run_end, run_from};
+ghost use Rattle.cmd_folder.specs.RunSays.{IsConsoleTextPut, run_of, rest_from_step, rest_from_service, TurnResult, MatchesNextEvent};
 
 use crate::command::RunOutput;
 use crate::ending::finish_status;
 use crate::finish::Finish;
-use crate::lines::{add_linked, add_printed, add_step, put_finish};
+use crate::lines::{add_link_line, add_console_text, add_step, put_end_lines};
 use m36_acl::DeniedLines;
 use m36_model::{At, End, StepRecord};
 use m36_outside::{Block, Put};
-use m36_program::{early, hand_over};
+use m36_program::{result_of_status, flush_block};
 use m36_status::Status;
 use m36_step::{Stepper, Turn};
 use m36_super::{NextEvent, Super};
@@ -41,8 +41,8 @@ pub enum AfterTurn {
 
 // What follows a link service: a step, or the end of the run if the link was refused.
 fn after_link(system: &Super) -> AfterTurn
-    requires { IsQuiet system.now.coming }
-    ensures { LinkBefore result system.now.coming }
+    requires { IsNoService system.now.coming }
+    ensures { MatchesNextEvent result system.now.coming }
 {
     match system.coming() {
         NextEvent::Step => AfterTurn::Next,
@@ -53,7 +53,7 @@ fn after_link(system: &Super) -> AfterTurn
 
 // Performs the link service for the link at `at`, and adds its line to a trace.
 #[tactic(auto, using(crate::proofs::Serving::services))]
-fn link<W: World>(
+fn perform_link_service<W: World>(
     system: &mut Super,
     at: At,
     taken: u32,
@@ -62,17 +62,17 @@ fn link<W: World>(
     world: &mut W,
 ) -> AfterTurn
     requires coming { system.old.coming ≡ Link at }
-    requires shown { IsShown output block.old }
-    ensures { TurnSays result system.old.lib output
-        (from_service block.old taken (booted_of system.old)) taken system.new block.new
+    requires shown { IsConsoleTextPut output block.old }
+    ensures { TurnResult result system.old.lib output
+        (rest_from_service block.old taken (booted_of system.old)) taken system.new block.new
         (W.seen world.old) (W.seen world.new) }
 {
     match system.serve_link(at) {
-        Ok(note) => match add_linked(output, taken, &note, block, world) {
+        Ok(note) => match add_link_line(output, taken, &note, block, world) {
             Put::Failed => AfterTurn::WriteFailed,
             Put::Done => after_link(system),
         },
-        Err(NoMemory) => match hand_over(block, world) {
+        Err(NoMemory) => match flush_block(block, world) {
             Put::Failed => AfterTurn::WriteFailed,
             Put::Done => AfterTurn::NoMemory,
         },
@@ -81,7 +81,7 @@ fn link<W: World>(
 
 // Performs a console service, and puts its characters or adds its line to a trace.
 #[tactic(auto, using(crate::proofs::Serving::services))]
-fn print<W: World>(
+fn perform_console_service<W: World>(
     system: &mut Super,
     taken: u32,
     output: RunOutput,
@@ -89,13 +89,13 @@ fn print<W: World>(
     world: &mut W,
 ) -> AfterTurn
     requires coming { system.old.coming ≡ Print }
-    requires shown { IsShown output block.old }
-    ensures { TurnSays result system.old.lib output
-        (from_service block.old taken (booted_of system.old)) taken system.new block.new
+    requires shown { IsConsoleTextPut output block.old }
+    ensures { TurnResult result system.old.lib output
+        (rest_from_service block.old taken (booted_of system.old)) taken system.new block.new
         (W.seen world.old) (W.seen world.new) }
 {
     match system.turn() {
-        Turn::Console(note) => match add_printed(output, taken, &note, block, world) {
+        Turn::Console(note) => match add_console_text(output, taken, &note, block, world) {
             Put::Failed => AfterTurn::WriteFailed,
             Put::Done => AfterTurn::Next,
         },
@@ -113,15 +113,15 @@ fn serve<W: World>(
     block: &mut Block,
     world: &mut W,
 ) -> AfterTurn
-    requires { IsShown output block.old }
-    ensures { TurnSays result system.old.lib output
-        (from_service block.old taken (booted_of system.old)) taken system.new block.new
+    requires { IsConsoleTextPut output block.old }
+    ensures { TurnResult result system.old.lib output
+        (rest_from_service block.old taken (booted_of system.old)) taken system.new block.new
         (W.seen world.old) (W.seen world.new) }
 {
     match system.coming() {
         NextEvent::Step => AfterTurn::Next,
-        NextEvent::Link(at) => link(system, at, taken, output, block, world),
-        NextEvent::Print => print(system, taken, output, block, world),
+        NextEvent::Link(at) => perform_link_service(system, at, taken, output, block, world),
+        NextEvent::Print => perform_console_service(system, taken, output, block, world),
         NextEvent::Over(end) => AfterTurn::Ended(end),
     }
 }
@@ -141,9 +141,9 @@ fn take_step<W: World>(
 ) -> AfterTurn
     requires step { system.old.coming ≡ Step }
     requires few { taken + 1 < 2 ^ 32 }
-    requires shown { IsShown output block.old }
-    ensures { TurnSays result system.old.lib output
-        (from_step block.old taken (booted_of system.old)) (taken + 1) system.new block.new
+    requires shown { IsConsoleTextPut output block.old }
+    ensures { TurnResult result system.old.lib output
+        (rest_from_step block.old taken (booted_of system.old)) (taken + 1) system.new block.new
         (W.seen world.old) (W.seen world.new) }
 {
     system.step_told(told);
@@ -162,12 +162,12 @@ fn end_run<W: World>(
     block: &mut Block,
     world: &mut W,
 ) -> Result<(), Status>
-    ensures { (run : Running) → run.denied ≡ denied.now
-        → Performs (puts_all block.old (run_ends run taken how)) result
+    ensures { (run : RunContext) → run.denied ≡ denied.now
+        → Performs (puts_all block.old (put_run_end run taken how)) result
         (W.seen world.old) (W.seen world.new) }
 {
-    match put_finish(&how, taken, denied, block, world) {
-        Put::Done => early(finish_status(how)),
+    match put_end_lines(&how, taken, denied, block, world) {
+        Put::Done => result_of_status(finish_status(how)),
         Put::Failed => Err(Status::WriteFault),
     }
 }

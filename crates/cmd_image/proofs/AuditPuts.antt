@@ -2,7 +2,7 @@
 use Rattle.std.proofs.Common.{◌≡◌, ℕ, ◌+◌, ◌<◌, ◌≤◌, List, [], ◌∷◌, length, drop, get_or, Result, Ok, Err, refl, sym, ap, subst, ◌∙◌}
 use Rattle.std.proofs.lemmas.List.{at_drop_all}
 use Rattle.m36_text.specs.Lines.{as_line}
-use Rattle.m36_audit.specs.Findings.{pairs}
+use Rattle.m36_audit.specs.Findings.{finding_pairs}
 use Rattle.m36_audit.specs.declared.verdict.Finding.{Finding}
 use Rattle.m36_world.specs.Seen.{Seen}
 use Rattle.m36_status.specs.declared.status.Status.{Status}
@@ -82,14 +82,14 @@ one_is piece = sym (puts_one piece (done tt))
 pub yes_put :
     (findings : List Finding) (result : Result (Unit {0}) Status) (old new : Seen)
     → length findings ≡ 0 → Performs {may = quiet} (put_one yes_line) result old new
-    → Performs (all_put (audit_pieces (pairs findings))) result old new
+    → Performs (all_put (audit_pieces (finding_pairs findings))) result old new
 yes_put findings result old new none put =
     subst (λ p. Performs p result old new) (one_is yes_line ∙ sym (ap all_put (pieces_of_none findings none))) put
 
 pub lines_put :
     (findings : List Finding) (result : Result (Unit {0}) Status) (old new : Seen)
     → 0 < length findings → Performs (all_put (pieces_of_findings findings)) result old new
-    → Performs (all_put (audit_pieces (pairs findings))) result old new
+    → Performs (all_put (audit_pieces (finding_pairs findings))) result old new
 lines_put findings result old new some put =
     subst (λ p. Performs p result old new) (sym (ap all_put (pieces_of_some findings some))) put
 

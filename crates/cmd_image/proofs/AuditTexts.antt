@@ -3,7 +3,7 @@ use Rattle.std.proofs.Common.{◌≡◌, ℕ, ◌+◌, ◌/◌, ◌%◌, ◌<◌
 use Rattle.std.proofs.lemmas.List.{at_drop_more}
 use Rattle.m36_text.specs.Digits.{octal_text, digits}
 use Rattle.m36_text.specs.Lines.{as_line}
-use Rattle.m36_audit.specs.Findings.{pairs}
+use Rattle.m36_audit.specs.Findings.{finding_pairs}
 use Rattle.m36_audit.specs.declared.verdict.Finding.{Finding}
 use Rattle.cmd_image.specs.AuditText.{finding_line, finding_pieces, yes_line, audit_pieces}
 
@@ -36,7 +36,7 @@ pub ruleset digits_alone = (segment_digits, word_digits)
 -- ---- the pieces of findings, one after another
 
 abbrev pub pieces_of_findings : List Finding → List (List ℕ)
-pieces_of_findings findings = finding_pieces (pairs findings)
+pieces_of_findings findings = finding_pieces (finding_pairs findings)
 
 piece_first :
     (f : Finding) (findings : List Finding)
@@ -56,11 +56,11 @@ piece_at findings i d inside =
     at_drop_more pieces_of_findings findings i d inside ∙ piece_first (get_or findings i d) (drop (i + 1) findings)
 
 -- the pieces by whether there are findings
-pub pieces_of_none : (findings : List Finding) → length findings ≡ 0 → audit_pieces (pairs findings) ≡ yes_line ∷ []
+pub pieces_of_none : (findings : List Finding) → length findings ≡ 0 → audit_pieces (finding_pairs findings) ≡ yes_line ∷ []
 pieces_of_none [] none = refl
 pieces_of_none (f ∷ findings) none = absurd (omega (arith, none))
 
 pub pieces_of_some :
-    (findings : List Finding) → 0 < length findings → audit_pieces (pairs findings) ≡ pieces_of_findings findings
+    (findings : List Finding) → 0 < length findings → audit_pieces (finding_pairs findings) ≡ pieces_of_findings findings
 pieces_of_some [] some = absurd (omega arith)
 pieces_of_some (f ∷ findings) some = refl

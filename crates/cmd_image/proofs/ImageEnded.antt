@@ -15,23 +15,23 @@ use Rattle.m36_world.specs.declared.event.Event.{Event}
 use Rattle.m36_status.specs.declared.status.Status.{Status}
 use Rattle.m36_status.specs.declared.status.Status.TheVariants.{Done, NoMemory}
 use Rattle.m36_program.specs.Alike.{IsEnd}
-use Rattle.m36_program.specs.Early.{early}
+use Rattle.m36_program.specs.Early.{result_of_status}
 use Rattle.m36_program.specs.Ended.{HasEnd, StartsWith}
 use Rattle.m36_program.specs.Goes.{Ends, Chosen, Goes}
-use Rattle.m36_program.specs.Trail.{pieces_of}
+use Rattle.m36_program.specs.MayHappen.{pieces_of}
 use Rattle.m36_program.proofs.PieceLaws.{PutsBy}
 use Rattle.cmd_image.specs.AuditText.{yes_line, audit_pieces, audit_text}
 use Rattle.cmd_image.specs.Output.{run_pieces, status_after}
-use Rattle.cmd_image.specs.ImageAudit.{passes, is_run, audit_status, IsIsolated, PassesAudit}
+use Rattle.cmd_image.specs.ImageAudit.{passes, is_run_allowed, audit_status, IsIsolated, PassesAudit}
 use Rattle.cmd_image.specs.Run.{run, last_outcome}
 use Rattle.cmd_image.specs.declared.command.BareRun.{BareRun}
 use Rattle.cmd_image.specs.declared.command.ImageCommand.{ImageCommand}
 use Rattle.cmd_image.specs.declared.command.ImageCommand.TheVariants.{Bare, Audit}
 use Rattle.cmd_image.proofs.SomeFindings.{some_findings}
 use Rattle.cmd_image.proofs.YesAnswers.{none_found}
-use Rattle.cmd_image.specs.ImageProgram.{AreAuditFindings, by_command, on_image}
+use Rattle.cmd_image.specs.ImageProgram.{AreAuditFindings, command_after_audit, on_image}
 use Rattle.cmd_image.specs.ImageEnds.{bare_pieces, image_pieces, bare_status, image_status, EndsByFindings}
-use Rattle.cmd_image.specs.ImageEnds.{EndsByFinding, ImageEndLaw}
+use Rattle.cmd_image.specs.ImageEnds.{EndsBySomeFindings, ImageEndLaw}
 use Rattle.cmd_image.specs.Needs.{MayRun, ImageNeeds}
 use Rattle.cmd_image.proofs.ImageGoes.{found_puts, found_end}
 use Rattle.cmd_image.proofs.PutEnds.{whole_ends, none_ends, pieces_begin, both_end, starts_longer, none_starts, SomeEnd}
@@ -48,7 +48,7 @@ record Found (command : ImageCommand) (state : State (List ℕ)) (events : List 
 on_goes :
     (command : ImageCommand) (state : State (List ℕ)) (events : List Event) (result : Result (Unit {0}) Status)
     → Goes (on_image command state) events result
-    → Chosen (AreAuditFindings state) (λ f. Goes (by_command command state f) events result)
+    → Chosen (AreAuditFindings state) (λ f. Goes (command_after_audit command state f) events result)
     ⊎ Ends (Err NoMemory) events result
 unfolding Goes on_image
 on_goes command state events result goes = goes
@@ -107,7 +107,7 @@ isolated_by state findings found none = record {
 found_goes :
     (command : ImageCommand) (state : State (List ℕ)) (findings : List (ℕ × ℕ)) (events : List Event)
     (result : Result (Unit {0}) Status)
-    → AreAuditFindings state findings → Goes (by_command command state findings) events result
+    → AreAuditFindings state findings → Goes (command_after_audit command state findings) events result
     → Goes (on_image command state) events result
 unfolding Goes on_image
 found_goes command state findings events result are goes = inl (record { value = findings; is = are; rest = goes })
@@ -115,7 +115,7 @@ found_goes command state findings events result are goes = inl (record { value =
 image_some : (command : ImageCommand) (state : State (List ℕ)) → HasEnd (on_image command state)
 image_some command state none =
     some_findings state.store state.regs.dbr (λ findings found.
-    let end : SomeEnd (by_command command state findings) = found_end command state findings in
+    let end : SomeEnd (command_after_audit command state findings) = found_end command state findings in
     none end.events end.result
     (found_goes command state findings end.events end.result
     (record { found = found; isolated = isolated_by state findings found }) end.goes) end.is_end)
@@ -146,16 +146,16 @@ image_passed :
     (command : ImageCommand) (state : State (List ℕ)) (events : List Event) (result : Result (Unit {0}) Status)
     → Goes (on_image command state) events result → IsEnd result → IsAudited state.store state.regs.dbr
     → EndsByFindings command state [] events result
-image_passed command state events result goes end audited =
+image_passed command state events result goes end audit_core =
     let one : Ended command state events result = image_ended command state events result goes end in
     ends_same command state one.findings [] events result
-    (findings_law.complete state.store state.regs.dbr one.findings audited one.are.found) one.ends
+    (findings_law.complete state.store state.regs.dbr one.findings audit_core one.are.found) one.ends
 
 by_finding :
     (command : ImageCommand) (state : State (List ℕ)) (findings : List (ℕ × ℕ)) (events : List Event)
     (result : Result (Unit {0}) Status)
     → AreAuditFindings state findings → EndsByFindings command state findings events result
-    → ¬ IsAudited state.store state.regs.dbr → EndsByFinding command state events result
+    → ¬ IsAudited state.store state.regs.dbr → EndsBySomeFindings command state events result
 by_finding command state [] events result are ends fails =
     absurd (fails (findings_law.sound state.store state.regs.dbr are.found))
 by_finding command state (f ∷ findings) events result are ends fails =
@@ -164,7 +164,7 @@ by_finding command state (f ∷ findings) events result are ends fails =
 image_failed :
     (command : ImageCommand) (state : State (List ℕ)) (events : List Event) (result : Result (Unit {0}) Status)
     → Goes (on_image command state) events result → IsEnd result → ¬ IsAudited state.store state.regs.dbr
-    → EndsByFinding command state events result
+    → EndsBySomeFindings command state events result
 image_failed command state events result goes end fails =
     let one : Ended command state events result = image_ended command state events result goes end in
     by_finding command state one.findings events result one.are one.ends fails
@@ -172,7 +172,7 @@ image_failed command state events result goes end fails =
 pub image_end_law : ImageEndLaw
 image_end_law = record {
   one_list = one_list;
-  none = λ state findings are audited. findings_law.complete state.store state.regs.dbr findings audited are.found;
+  none = λ state findings are audit_core. findings_law.complete state.store state.regs.dbr findings audit_core are.found;
   only = λ state are. findings_law.sound state.store state.regs.dbr are.found;
   some = image_some;
   one = image_one;
@@ -195,8 +195,8 @@ none_by :
     (state : State (List ℕ)) (findings : List (ℕ × ℕ)) (unaudited : Bool)
     → AreFindings state.store state.regs.dbr findings
     → MayRun (IsAudited state.store state.regs.dbr) unaudited → (findings ≡ []) ⊎ (unaudited ≡ true)
-none_by state findings unaudited found (inl audited) =
-    inl (findings_law.complete state.store state.regs.dbr findings audited found)
+none_by state findings unaudited found (inl audit_core) =
+    inl (findings_law.complete state.store state.regs.dbr findings audit_core found)
 none_by state findings unaudited found (inr un) = inr un
 
 status_done :
@@ -214,7 +214,7 @@ pub image_done :
     → Goes (on_image command state) events result → IsEnd result → ImageNeeds command state → result ≡ Ok tt
 image_done command state events result goes end needs =
     let one : Ended command state events result = image_ended command state events result goes end in
-    one.ends.result_is ∙ ap early (status_done command state one.findings one.are.found needs)
+    one.ends.result_is ∙ ap result_of_status (status_done command state one.findings one.are.found needs)
 
 -- ---- `audit yes`
 
@@ -229,7 +229,7 @@ bare_begins false steps state findings = ([], sym (append-nil (audit_text findin
 text_begins :
     (command : ImageCommand) (state : State (List ℕ)) (findings : List (ℕ × ℕ))
     → (more : List ℕ) × (joined (image_pieces command state findings) ≡ audit_text findings ++ more)
-text_begins (Bare bare) state findings = bare_begins (is_run findings bare.unaudited) bare.steps state findings
+text_begins (Bare bare) state findings = bare_begins (is_run_allowed findings bare.unaudited) bare.steps state findings
 text_begins Audit state findings = ([], sym (append-nil (audit_text findings)))
 
 found_passes :

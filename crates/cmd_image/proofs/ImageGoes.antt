@@ -7,7 +7,7 @@ use Rattle.m36_model.specs.Run.{is_next, only_if}
 use Rattle.m36_model.specs.declared.outcome.Outcome.{Outcome}
 use Rattle.m36_model.specs.declared.outcome.Outcome.TheVariants.{Next, Faulted, Stopped}
 use Rattle.m36_model.specs.declared.record.StepRecord.{StepRecord}
-use Rattle.m36_step.specs.MachineTurn.{ended_by}
+use Rattle.m36_step.specs.MachineTurn.{end_by_outcome}
 use Rattle.m36_trace.specs.EndLine.{end_line_of}
 use Rattle.m36_trace.specs.TraceLine.{line_of}
 use Rattle.m36_world.specs.declared.event.Event.{Event}
@@ -20,28 +20,28 @@ use Rattle.m36_program.proofs.PutLaws.{puts_both, puts_one}
 use Rattle.cmd_image.specs.AuditText.{audit_pieces}
 use Rattle.cmd_image.specs.Machine.{told, after}
 use Rattle.cmd_image.specs.Output.{pieces_from, run_pieces, status_after}
-use Rattle.cmd_image.specs.ImageAudit.{passes, is_run, audit_status}
+use Rattle.cmd_image.specs.ImageAudit.{passes, is_run_allowed, audit_status}
 use Rattle.cmd_image.specs.Run.{run, last_outcome}
 use Rattle.cmd_image.specs.declared.command.ImageCommand.{ImageCommand}
 use Rattle.cmd_image.specs.declared.command.ImageCommand.TheVariants.{Bare, Audit}
 use Rattle.cmd_image.proofs.RunLaws.{run_more, run_none, pieces_next, pieces_last, pieces_none, last_after_next}
-use Rattle.cmd_image.specs.ImageProgram.{may_end_by, run_status, run_ends, after_step, run_from}
-use Rattle.cmd_image.specs.ImageProgram.{audit_may_end, audit_only, audit_and_run, bare_by, by_command}
+use Rattle.cmd_image.specs.ImageProgram.{run_may_end, run_status, put_run_end, after_step, run_from}
+use Rattle.cmd_image.specs.ImageProgram.{audit_may_end, audit_only, audit_and_run, audit_and_run_if, command_after_audit}
 use Rattle.cmd_image.specs.ImageEnds.{bare_pieces, image_pieces, bare_status, image_status}
 use Rattle.cmd_image.proofs.PutEnds.{SomeEnd, puts_end}
 
 -- ---- a run puts the pieces of its records
 
 abbrev own_after : (last : Outcome) → MayEnd (status_after last)
-own_after last = may_end_by (ended_by last)
+own_after last = run_may_end (end_by_outcome last)
 
 -- what is left of a run, by the records of its steps
 abbrev rest_by : ℕ → List StepRecord → Program quiet (Unit {0})
 rest_by taken steps = puts_all (pieces_from taken steps) (ends (status_after (last_outcome steps)) (own_after (last_outcome steps)))
 
 ends_is : (taken : ℕ) (last : Outcome)
-    → run_ends taken last ≡ puts_all (as_line (end_line_of last taken) ∷ []) (ends (status_after last) (own_after last))
-unfolding run_ends run_status
+    → put_run_end taken last ≡ puts_all (as_line (end_line_of last taken) ∷ []) (ends (status_after last) (own_after last))
+unfolding put_run_end run_status
 ends_is taken last = sym (puts_one (as_line (end_line_of last taken)) (ends (status_after last) (own_after last)))
 
 all_more :
@@ -53,11 +53,11 @@ all_more piece pieces rest = refl
 -- the run ends by a step
 ended_is :
     (taken : ℕ) (step : StepRecord) (last : Outcome) → step.outcome ≡ last
-    → puts (as_line (line_of (taken + 1) step)) (run_ends (taken + 1) last) ≡ rest_by taken (step ∷ [])
+    → puts (as_line (line_of (taken + 1) step)) (put_run_end (taken + 1) last) ≡ rest_by taken (step ∷ [])
 ended_is taken step last is =
     let line = as_line (line_of (taken + 1) step) in
     let rest : Program quiet (Unit {0}) = ends (status_after step.outcome) (own_after step.outcome) in
-    ap (λ o. puts line (run_ends (taken + 1) o)) (sym is)
+    ap (λ o. puts line (put_run_end (taken + 1) o)) (sym is)
     ∙ ap (puts line) (ends_is (taken + 1) step.outcome)
     ∙ all_more line (as_line (end_line_of step.outcome (taken + 1)) ∷ []) rest
     ∙ ap (λ l. puts_all l rest) (sym (pieces_last taken step))
@@ -122,7 +122,7 @@ both_puts steps state findings events result goes =
 bare_puts :
     (run : Bool) (steps : ℕ) (state : State (List ℕ)) (findings : List (ℕ × ℕ)) (events : List Event)
     (result : Result (Unit {0}) Status)
-    → Goes (bare_by run steps state findings) events result
+    → Goes (audit_and_run_if run steps state findings) events result
     → PutsBy (bare_pieces run steps state findings) (bare_status run steps state findings) events result
 bare_puts true steps state findings events result goes = both_puts steps state findings events result goes
 bare_puts false steps state findings events result goes = audit_puts findings events result goes
@@ -130,10 +130,10 @@ bare_puts false steps state findings events result goes = audit_puts findings ev
 pub found_puts :
     (command : ImageCommand) (state : State (List ℕ)) (findings : List (ℕ × ℕ)) (events : List Event)
     (result : Result (Unit {0}) Status)
-    → Goes (by_command command state findings) events result
+    → Goes (command_after_audit command state findings) events result
     → PutsBy (image_pieces command state findings) (image_status command state findings) events result
 found_puts (Bare bare) state findings events result goes =
-    bare_puts (is_run findings bare.unaudited) bare.steps state findings events result goes
+    bare_puts (is_run_allowed findings bare.unaudited) bare.steps state findings events result goes
 found_puts Audit state findings events result goes = audit_puts findings events result goes
 
 -- ---- some call ends
@@ -144,7 +144,7 @@ audit_end findings = puts_end (audit_pieces findings) (audit_status (passes find
 
 bare_end :
     (is : Bool) (steps : ℕ) (state : State (List ℕ)) (findings : List (ℕ × ℕ))
-    → SomeEnd (bare_by is steps state findings)
+    → SomeEnd (audit_and_run_if is steps state findings)
 bare_end true steps state findings =
     let last = last_outcome (run steps state) in
     subst SomeEnd (sym (both_is steps state findings))
@@ -153,6 +153,6 @@ bare_end false steps state findings = audit_end findings
 
 pub found_end :
     (command : ImageCommand) (state : State (List ℕ)) (findings : List (ℕ × ℕ))
-    → SomeEnd (by_command command state findings)
-found_end (Bare bare) state findings = bare_end (is_run findings bare.unaudited) bare.steps state findings
+    → SomeEnd (command_after_audit command state findings)
+found_end (Bare bare) state findings = bare_end (is_run_allowed findings bare.unaudited) bare.steps state findings
 found_end Audit state findings = audit_end findings

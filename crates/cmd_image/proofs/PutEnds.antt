@@ -8,11 +8,11 @@ use Rattle.m36_world.specs.declared.event.Event.{Event}
 use Rattle.m36_status.specs.declared.status.Status.{Status}
 use Rattle.m36_status.specs.declared.status.Status.TheVariants as status
 use Rattle.m36_program.specs.Alike.{IsEnd}
-use Rattle.m36_program.specs.Early.{early, MayEnd, ends}
+use Rattle.m36_program.specs.Early.{result_of_status, MayEnd, ends}
 use Rattle.m36_program.specs.Ended.{StartsWith}
 use Rattle.m36_program.specs.Goes.{Ends, Goes}
 use Rattle.m36_program.specs.Program.{quiet, Program, puts_all}
-use Rattle.m36_program.specs.Trail.{pieces_of}
+use Rattle.m36_program.specs.MayHappen.{pieces_of}
 use Rattle.m36_program.proofs.PieceLaws.{PutsBy, pieces_put}
 use Rattle.m36_program.proofs.ProgramLaws.{goes_ends}
 use Rattle.m36_program.proofs.PutLaws.{goes_puts}
@@ -66,7 +66,7 @@ pub record SomeEnd (p : Program quiet (Unit {0})) : Type 0 where
   pub goes : Goes p events result
   pub is_end : IsEnd result
 
-pub early_ends : (s : Status) → MayEnd s → IsEnd (early s)
+pub early_ends : (s : Status) → MayEnd s → IsEnd (result_of_status s)
 early_ends status.Done own = tt
 early_ends status.Usage own = absurd own
 early_ends status.ReadFault own = absurd own
@@ -80,8 +80,8 @@ early_ends status.NoMemory own = absurd own
 pub puts_end : (pieces : List (List ℕ)) (s : Status) (own : MayEnd s) → SomeEnd (puts_all pieces (ends s own))
 puts_end pieces s own = record {
   events = outputs pieces ++ [];
-  result = early s;
-  goes = goes_puts pieces (ends s own) [] (early s) (goes_ends quiet s own);
+  result = result_of_status s;
+  goes = goes_puts pieces (ends s own) [] (result_of_status s) (goes_ends quiet s own);
   is_end = early_ends s own;
 }
 

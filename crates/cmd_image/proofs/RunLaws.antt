@@ -4,7 +4,7 @@ use Rattle.std.proofs.Common.{◌∙◌, arith, add-zero}
 use Rattle.m36_text.specs.Lines.{as_line}
 use Rattle.m36_model.specs.Store.{State}
 use Rattle.m36_model.specs.Core.{core_store}
-use Rattle.m36_model.specs.Run.{Visited, visits, is_next, only_if}
+use Rattle.m36_model.specs.Run.{RunStep, run_steps, is_next, only_if}
 use Rattle.m36_model.specs.declared.outcome.Outcome.TheVariants.{Next}
 use Rattle.m36_model.specs.declared.record.StepRecord.{StepRecord}
 use Rattle.m36_trace.specs.EndLine.{end_line_of}
@@ -15,19 +15,19 @@ use Rattle.cmd_image.specs.Output.{trace_pieces, pieces_from}
 
 -- a run of at least one step
 told_only_if :
-    (b : Bool) (steps : List (Visited (List ℕ)))
+    (b : Bool) (steps : List (RunStep (List ℕ)))
     → map (λ v. v.told) (only_if b steps) ≡ only_if b (map (λ v. v.told) steps)
 told_only_if true steps = refl
 told_only_if false steps = refl
 
 pub run_more :
     (left : ℕ) (s : State (List ℕ)) → run (suc left) s ≡ told s ∷ only_if (is_next (told s).outcome) (run left (after s))
-unfolding run visits
+unfolding run run_steps
 run_more left s =
-    ap (λ steps. told s ∷ steps) (told_only_if (is_next (told s).outcome) (visits core_store left (after s)))
+    ap (λ steps. told s ∷ steps) (told_only_if (is_next (told s).outcome) (run_steps core_store left (after s)))
 
 pub run_none : (s : State (List ℕ)) → run 0 s ≡ []
-unfolding run visits
+unfolding run run_steps
 run_none s = refl
 
 -- The last outcome of some steps, if the first has the outcome Next.

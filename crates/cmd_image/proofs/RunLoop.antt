@@ -5,14 +5,14 @@ use Rattle.m36_model.specs.Store.{State}
 use Rattle.m36_model.specs.Run.{is_next}
 use Rattle.m36_model.specs.declared.outcome.Outcome.{Outcome}
 use Rattle.m36_model.specs.declared.outcome.Outcome.TheVariants.{Next, Faulted, Stopped}
-use Rattle.m36_step.specs.MachineTurn.{ended_by}
+use Rattle.m36_step.specs.MachineTurn.{end_by_outcome}
 use Rattle.m36_trace.specs.EndLine.{end_line_of}
 use Rattle.m36_trace.specs.TraceLine.{line_of}
 use Rattle.m36_world.specs.Seen.{Seen}
 use Rattle.m36_world.specs.Follow.{Follow, outputs}
 use Rattle.m36_status.specs.declared.status.Status.{Status}
 use Rattle.m36_status.specs.declared.status.Status.TheVariants.{WriteFault}
-use Rattle.m36_program.specs.Early.{early}
+use Rattle.m36_program.specs.Early.{result_of_status}
 use Rattle.m36_program.specs.Gathered.{Loses}
 use Rattle.m36_program.specs.Goes.{Goes}
 use Rattle.m36_program.specs.Performs.{Performs, Leads}
@@ -22,43 +22,43 @@ use Rattle.m36_program.proofs.ProgramLaws.{goes_ends}
 use Rattle.m36_program.proofs.PutLaws.{puts_one}
 use Rattle.cmd_image.specs.Machine.{told, after}
 use Rattle.cmd_image.specs.Output.{status_after}
-use Rattle.cmd_image.specs.ImageProgram.{may_end_by, run_status, run_ends, after_step, run_from}
+use Rattle.cmd_image.specs.ImageProgram.{run_may_end, run_status, put_run_end, after_step, run_from}
 use Rattle.cmd_image.specs.Running.{StepAdded, LastStepAdded}
 
 -- ---- the end
 
-status_goes : (last : Outcome) → Goes (run_status last) [] (early (status_after last))
+status_goes : (last : Outcome) → Goes (run_status last) [] (result_of_status (status_after last))
 unfolding run_status
-status_goes last = goes_ends quiet (status_after last) (may_end_by (ended_by last))
+status_goes last = goes_ends quiet (status_after last) (run_may_end (end_by_outcome last))
 
-ends_as : (taken : ℕ) (last : Outcome) → run_ends taken last ≡ puts (as_line (end_line_of last taken)) (run_status last)
-unfolding run_ends
+ends_as : (taken : ℕ) (last : Outcome) → put_run_end taken last ≡ puts (as_line (end_line_of last taken)) (run_status last)
+unfolding put_run_end
 ends_as taken last = refl
 
 start_all : (block : List (List ℕ)) (taken : ℕ) (last : Outcome) (seen : Seen)
-    → Leads (puts_all block (puts (as_line (end_line_of last taken)) (run_status last))) (puts_all block (run_ends taken last)) seen seen
+    → Leads (puts_all block (puts (as_line (end_line_of last taken)) (run_status last))) (puts_all block (put_run_end taken last)) seen seen
 start_all block taken last seen =
-    leads_as (puts_all block (run_ends taken last)) _ (puts_all block (run_ends taken last)) seen seen
-    (ap (puts_all block) (ends_as taken last)) (leads_start (puts_all block (run_ends taken last)) seen)
+    leads_as (puts_all block (put_run_end taken last)) _ (puts_all block (put_run_end taken last)) seen seen
+    (ap (puts_all block) (ends_as taken last)) (leads_start (puts_all block (put_run_end taken last)) seen)
 
 -- the lines of the block and the end line were put
 pub end_put :
     (block : List (List ℕ)) (taken : ℕ) (last : Outcome) (status : Status) (result : Result (Unit {0}) Status) (old new : Seen)
     → Follow (outputs (block ++ as_line (end_line_of last taken) ∷ [])) old new
-    → status ≡ status_after last → result ≡ early status
-    → Performs (puts_all block (run_ends taken last)) result old new
+    → status ≡ status_after last → result ≡ result_of_status status
+    → Performs (puts_all block (put_run_end taken last)) result old new
 end_put block taken last status result old new put status_is is =
-    leads_finished block (as_line (end_line_of last taken) ∷ []) (run_status last) (puts_all block (run_ends taken last)) result old old new
-    (leads_as _ _ (puts_all block (run_ends taken last)) old old (ap (puts_all block) (sym (puts_one (as_line (end_line_of last taken)) (run_status last)))) (start_all block taken last old))
-    put (subst (λ r. Goes (run_status last) [] r) (sym (is ∙ ap early status_is)) (status_goes last))
+    leads_finished block (as_line (end_line_of last taken) ∷ []) (run_status last) (puts_all block (put_run_end taken last)) result old old new
+    (leads_as _ _ (puts_all block (put_run_end taken last)) old old (ap (puts_all block) (sym (puts_one (as_line (end_line_of last taken)) (run_status last)))) (start_all block taken last old))
+    put (subst (λ r. Goes (run_status last) [] r) (sym (is ∙ ap result_of_status status_is)) (status_goes last))
 
 -- the lines of the block and the end line were not all put
 pub end_lost :
     (block : List (List ℕ)) (taken : ℕ) (last : Outcome) (old new : Seen)
     → Loses (block ++ as_line (end_line_of last taken) ∷ []) old new
-    → Performs (puts_all block (run_ends taken last)) (Err WriteFault) old new
+    → Performs (puts_all block (put_run_end taken last)) (Err WriteFault) old new
 end_lost block taken last old new lost =
-    leads_lost_one block (as_line (end_line_of last taken)) (run_status last) (puts_all block (run_ends taken last)) old old new
+    leads_lost_one block (as_line (end_line_of last taken)) (run_status last) (puts_all block (put_run_end taken last)) old old new
     (start_all block taken last old) lost
 
 pub ruleset ending = (end_put, end_lost)
@@ -77,13 +77,13 @@ run_more taken (suc left) state more =
     ap (λ n. puts (as_line (line_of (taken + 1) (told state)))
     (after_step (taken + 1) (told state).outcome (run_from (taken + 1) n (after state)))) e
 
-run_none : (taken left : ℕ) (state : State (List ℕ)) → left ≡ 0 → run_from taken left state ≡ run_ends taken Next
+run_none : (taken left : ℕ) (state : State (List ℕ)) → left ≡ 0 → run_from taken left state ≡ put_run_end taken Next
 unfolding run_from
 run_none taken left state none = ap (λ n. run_from taken n state) none
 
 ends_then :
     (taken : ℕ) (last : Outcome) (rest : Program quiet (Unit {0}))
-    → is_next last ≡ false → after_step taken last rest ≡ run_ends taken last
+    → is_next last ≡ false → after_step taken last rest ≡ put_run_end taken last
 ends_then taken Next rest ends = absurd (let e = ends in cc)
 ends_then taken (Faulted fault) rest ends = refl
 ends_then taken (Stopped stop) rest ends = refl
@@ -116,13 +116,13 @@ pub run_last :
     (result : Result (Unit {0}) Status) (old between now new : Seen)
     → Leads (puts_all block (run_from taken left state)) first old between → 0 < left
     → LastStepAdded (taken + 1) last state block block' between now
-    → Performs (puts_all block' (run_ends (taken + 1) last)) result now new
+    → Performs (puts_all block' (put_run_end (taken + 1) last)) result now new
     → Performs first result old new
 run_last first block block' taken left state last result old between now new so_far more ending performs =
     let line = as_line (line_of (taken + 1) (told state)) in
     let rest = run_from (taken + 1) (left - 1) (after state) in
-    leads_ends (puts_all block' (run_ends (taken + 1) last)) first result old now new
-    (leads_adds block block' line (run_ends (taken + 1) last) first old between now
+    leads_ends (puts_all block' (put_run_end (taken + 1) last)) first result old now new
+    (leads_adds block block' line (put_run_end (taken + 1) last) first old between now
     (leads_as (puts_all block (run_from taken left state)) _ first old between
     (ap (puts_all block) (run_more taken left state more ∙ ap (λ o. puts line (after_step (taken + 1) o rest)) ending.stepped.outcome_is
     ∙ ap (puts line) (ends_then (taken + 1) last rest ending.last))) so_far)
@@ -145,10 +145,10 @@ pub run_limit :
     (first : Program quiet (Unit {0})) (block : List (List ℕ)) (taken left : ℕ) (state : State (List ℕ))
     (result : Result (Unit {0}) Status) (old between new : Seen)
     → Leads (puts_all block (run_from taken left state)) first old between → left ≡ 0
-    → Performs (puts_all block (run_ends taken Next)) result between new
+    → Performs (puts_all block (put_run_end taken Next)) result between new
     → Performs first result old new
 run_limit first block taken left state result old between new so_far none performs =
-    leads_ends (puts_all block (run_ends taken Next)) first result old between new
+    leads_ends (puts_all block (put_run_end taken Next)) first result old between new
     (leads_as (puts_all block (run_from taken left state)) _ first old between (ap (puts_all block) (run_none taken left state none)) so_far)
     performs
 

@@ -6,40 +6,40 @@ use Rattle.m36_model.specs.declared.endings.End.TheVariants as end
 use Rattle.m36_model.specs.declared.outcome.Outcome.{Outcome}
 use Rattle.m36_model.specs.declared.outcome.Outcome.TheVariants.{Next, Faulted, Stopped}
 use Rattle.m36_model.specs.declared.record.StepRecord.{StepRecord}
-use Rattle.m36_step.specs.MachineTurn.{ended_by, machine_turn, machine_after}
+use Rattle.m36_step.specs.MachineTurn.{end_by_outcome, machine_turn, machine_after}
 use Rattle.cmd_image.specs.Machine.{told, after}
 use Rattle.cmd_image.specs.Run.{run}
-use Rattle.cmd_image.specs.RunLaws.{steps_made, RunsAreTurns}
+use Rattle.cmd_image.specs.RunLaws.{steps_in_turns, RunsAreTurns}
 use Rattle.cmd_image.proofs.RunLaws.{run_more, run_none}
 use Rattle.cmd_image.proofs.RunLengths.{run_by}
 
-no_turn : (s : State (List ℕ)) → steps_made 0 (record { state = s; ended = None }) ≡ []
-unfolding steps_made
+no_turn : (s : State (List ℕ)) → steps_in_turns 0 (record { state = s; ended = None }) ≡ []
+unfolding steps_in_turns
 no_turn s = refl
 
 -- a machine whose run has ended takes no step
-none_made : (n : ℕ) (s : State (List ℕ)) (e : End) → steps_made n (record { state = s; ended = Some e }) ≡ []
-unfolding steps_made machine_turn machine_after
+none_made : (n : ℕ) (s : State (List ℕ)) (e : End) → steps_in_turns n (record { state = s; ended = Some e }) ≡ []
+unfolding steps_in_turns machine_turn machine_after
 none_made zero s e = refl
 none_made (suc n) s e = none_made n s e
 
 -- one whose run has not ended takes one
 one_made :
     (n : ℕ) (s : State (List ℕ))
-    → steps_made (suc n) (record { state = s; ended = None })
-    ≡ told s ∷ steps_made n (record { state = after s; ended = ended_by (told s).outcome })
-unfolding steps_made machine_turn machine_after
+    → steps_in_turns (suc n) (record { state = s; ended = None })
+    ≡ told s ∷ steps_in_turns n (record { state = after s; ended = end_by_outcome (told s).outcome })
+unfolding steps_in_turns machine_turn machine_after
 one_made n s = refl
 
 made_by :
     (o : Outcome) (n : ℕ) (s : State (List ℕ))
-    → steps_made n (record { state = after s; ended = None }) ≡ run n (after s)
-    → told s ∷ steps_made n (record { state = after s; ended = ended_by o }) ≡ run_by o n s
+    → steps_in_turns n (record { state = after s; ended = None }) ≡ run n (after s)
+    → told s ∷ steps_in_turns n (record { state = after s; ended = end_by_outcome o }) ≡ run_by o n s
 made_by Next n s rest = ap (λ (steps : List StepRecord). told s ∷ steps) rest
 made_by (Faulted fault) n s rest = ap (λ (steps : List StepRecord). told s ∷ steps) (none_made n (after s) (end.Fault fault))
 made_by (Stopped stop) n s rest = ap (λ (steps : List StepRecord). told s ∷ steps) (none_made n (after s) (end.Stop stop))
 
-made : (n : ℕ) (s : State (List ℕ)) → steps_made n (record { state = s; ended = None }) ≡ run n s
+made : (n : ℕ) (s : State (List ℕ)) → steps_in_turns n (record { state = s; ended = None }) ≡ run n s
 made zero s = no_turn s ∙ sym (run_none s)
 made (suc n) s = one_made n s ∙ made_by (told s).outcome n s (made n (after s)) ∙ sym (run_more n s)
 

@@ -4,7 +4,7 @@ use Rattle.std.proofs.lemmas.Bool.{cases_lt}
 use Rattle.m36_desc.specs.Fields.{DbrFields}
 use Rattle.m36_model.specs.Place.{core_sdw}
 use Rattle.m36_model.specs.Audit.{IsOutOfOrder, IsInTwoTables, IsTableAndSegment, IsInTwoSegments, IsNoGate, HasNoStack}
-use Rattle.m36_model.specs.Audit.{Finds, noted, AreFindings}
+use Rattle.m36_model.specs.Audit.{Finds, numbered_finding, AreFindings}
 
 -- If no least place breaks a condition, no place does.
 none_below : (Breaks : ℕ → Type 0) → ((x : Option ℕ) → ¬ Finds Breaks x) → (n p : ℕ) → p < n → Breaks p → ⊥
@@ -23,7 +23,7 @@ some_findings core dbr none =
     some_find (IsInTwoSegments core dbr) (λ fourth finds_fourth.
     some_find (IsNoGate (core_sdw core dbr)) (λ fifth finds_fifth.
     some_find (HasNoStack dbr (core_sdw core dbr)) (λ sixth finds_sixth.
-    none (noted 1 first ++ noted 2 second ++ noted 3 third ++ noted 4 fourth ++ noted 5 fifth ++ noted 6 sixth) (record {
+    none (numbered_finding 1 first ++ numbered_finding 2 second ++ numbered_finding 3 third ++ numbered_finding 4 fourth ++ numbered_finding 5 fifth ++ numbered_finding 6 sixth) (record {
       first = first;
       finds_first = finds_first;
       second = second;

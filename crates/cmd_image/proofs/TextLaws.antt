@@ -4,9 +4,9 @@ use Rattle.m36_model.specs.Store.{State}
 use Rattle.m36_model.specs.declared.outcome.Outcome.{Outcome}
 use Rattle.m36_model.specs.declared.outcome.Outcome.TheVariants.{Next, Faulted, Stopped}
 use Rattle.m36_isol.proofs.Findings.{findings_law}
-use Rattle.m36_image.specs.ImageState.{state_given}
+use Rattle.m36_image.specs.ImageState.{state_of_text}
 use Rattle.m36_image.specs.declared.refusal.Refusal as refusal
-use Rattle.m36_step.specs.MachineTurn.{ended_by}
+use Rattle.m36_step.specs.MachineTurn.{end_by_outcome}
 use Rattle.m36_status.specs.declared.status.Status.{Status}
 use Rattle.m36_status.specs.declared.status.Status.TheVariants as status
 use Rattle.m36_program.specs.Alike.{Alike}
@@ -17,18 +17,18 @@ use Rattle.m36_program.proofs.AlikeLaws.{alike_wants, alike_then, alike_puts, al
 use Rattle.cmd_image.specs.AuditText.{audit_pieces}
 use Rattle.cmd_image.specs.Machine.{told, after}
 use Rattle.cmd_image.specs.Output.{status_after}
-use Rattle.cmd_image.specs.ImageAudit.{passes, is_run, audit_status}
+use Rattle.cmd_image.specs.ImageAudit.{passes, is_run_allowed, audit_status}
 use Rattle.cmd_image.specs.declared.command.ImageCommand.{ImageCommand}
 use Rattle.cmd_image.specs.declared.command.ImageCommand.TheVariants.{Bare, Audit}
-use Rattle.cmd_image.specs.ImageProgram.{decoded, decode, image_state, may_end_by, run_status, run_ends, after_step}
+use Rattle.cmd_image.specs.ImageProgram.{state_or_refusal, decode, image_state, run_may_end, run_status, put_run_end, after_step}
 use Rattle.cmd_image.specs.ImageProgram.{run_from}
-use Rattle.cmd_image.specs.ImageProgram.{AreAuditFindings, audit_may_end, audit_only, audit_and_run, bare_by}
-use Rattle.cmd_image.specs.ImageProgram.{by_command, on_image, image_program}
+use Rattle.cmd_image.specs.ImageProgram.{AreAuditFindings, audit_may_end, audit_only, audit_and_run, audit_and_run_if}
+use Rattle.cmd_image.specs.ImageProgram.{command_after_audit, on_image, image_program}
 use Rattle.cmd_image.specs.OneText.{ImageTextLaw}
 
 decoded_alike :
     (name : List ℕ) (given : Result (State (List ℕ)) refusal.Refusal)
-    → Alike {may = quiet} (decoded name given) (decoded name given)
+    → Alike {may = quiet} (state_or_refusal name given) (state_or_refusal name given)
 unfolding Alike refuses
 decoded_alike name (Ok state) = refl
 decoded_alike name (Err f) = refl
@@ -36,7 +36,7 @@ decoded_alike name (Err f) = refl
 decode_alike : (name bytes : List ℕ) → Alike {may = quiet} (decode name bytes) (decode name bytes)
 unfolding Alike decode
 decode_alike name bytes =
-    alike_wants (decoded name (state_given bytes)) (decoded name (state_given bytes)) (decoded_alike name (state_given bytes))
+    alike_wants (state_or_refusal name (state_of_text bytes)) (state_or_refusal name (state_of_text bytes)) (decoded_alike name (state_of_text bytes))
 
 state_alike : (name : List ℕ) → Alike {may = quiet} (image_state name) (image_state name)
 unfolding image_state
@@ -48,9 +48,9 @@ unfolding Alike ends
 ends_alike status.Done own = refl
 ends_alike _ own = refl
 
-run_ends_alike : (taken : ℕ) (last : Outcome) → Alike (run_ends taken last) (run_ends taken last)
-unfolding Alike run_ends run_status
-run_ends_alike taken last = (refl, ends_alike (status_after last) (may_end_by (ended_by last)))
+run_ends_alike : (taken : ℕ) (last : Outcome) → Alike (put_run_end taken last) (put_run_end taken last)
+unfolding Alike put_run_end run_status
+run_ends_alike taken last = (refl, ends_alike (status_after last) (run_may_end (end_by_outcome last)))
 
 after_alike :
     (taken : ℕ) (last : Outcome) (rest : Program quiet (Unit {0})) → Alike rest rest
@@ -80,22 +80,22 @@ both_alike steps state findings =
 
 bare_alike :
     (run : Bool) (steps : ℕ) (state : State (List ℕ)) (findings : List (ℕ × ℕ))
-    → Alike (bare_by run steps state findings) (bare_by run steps state findings)
+    → Alike (audit_and_run_if run steps state findings) (audit_and_run_if run steps state findings)
 bare_alike true steps state findings = both_alike steps state findings
 bare_alike false steps state findings = audit_alike findings
 
 by_alike :
     (command : ImageCommand) (state : State (List ℕ)) (findings : List (ℕ × ℕ))
-    → Alike (by_command command state findings) (by_command command state findings)
-by_alike (Bare bare) state findings = bare_alike (is_run findings bare.unaudited) bare.steps state findings
+    → Alike (command_after_audit command state findings) (command_after_audit command state findings)
+by_alike (Bare bare) state findings = bare_alike (is_run_allowed findings bare.unaudited) bare.steps state findings
 by_alike Audit state findings = audit_alike findings
 
 image_alike :
     (command : ImageCommand) (state : State (List ℕ)) → Alike (on_image command state) (on_image command state)
 unfolding Alike on_image
 image_alike command state =
-    let chosen : Program quiet (Unit {0}) = some (AreAuditFindings state) (by_command command state) in
-    alike_wants chosen chosen (alike_one (AreAuditFindings state) (by_command command state)
+    let chosen : Program quiet (Unit {0}) = some (AreAuditFindings state) (command_after_audit command state) in
+    alike_wants chosen chosen (alike_one (AreAuditFindings state) (command_after_audit command state)
     (λ f g is is'. findings_law.unique state.store state.regs.dbr f g is.found is'.found)
     (λ f is. by_alike command state f))
 

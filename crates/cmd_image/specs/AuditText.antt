@@ -21,12 +21,12 @@ place_text condition digits place =
     decimal_text condition ++ codes " " ++ octal_text digits place
 
 -- the condition and the place of a finding
-abbrev pub found_text : ℕ → ℕ → List ℕ
-found_text condition place = place_text condition (place_digits condition) place
+abbrev pub finding_text : ℕ → ℕ → List ℕ
+finding_text condition place = place_text condition (place_digits condition) place
 
 -- the line of a finding, without its line feed, as `audit no A3 00000100`
 unfoldable pub finding_line : ℕ × ℕ → List ℕ
-finding_line f = codes "audit no A" ++ found_text f.0 f.1
+finding_line f = codes "audit no A" ++ finding_text f.0 f.1
 
 -- a line for each finding, in the order of the findings
 unfoldable pub finding_pieces : List (ℕ × ℕ) → List (List ℕ)
@@ -38,13 +38,13 @@ abbrev pub yes_line : List ℕ
 yes_line = as_line (codes "audit yes")
 
 -- the lines of findings of any kind, or the line `audit yes` if there are none
-abbrev pub yes_or : {A : Type 0} → (List A → List (List ℕ)) → List A → List (List ℕ)
-yes_or lines [] = yes_line ∷ []
-yes_or lines (f ∷ findings) = lines (f ∷ findings)
+abbrev pub lines_or_yes : {A : Type 0} → (List A → List (List ℕ)) → List A → List (List ℕ)
+lines_or_yes lines [] = yes_line ∷ []
+lines_or_yes lines (f ∷ findings) = lines (f ∷ findings)
 
 -- the lines of an audit with these findings, each the number of its condition and its place
 abbrev pub audit_pieces : List (ℕ × ℕ) → List (List ℕ)
-audit_pieces findings = yes_or finding_pieces findings
+audit_pieces findings = lines_or_yes finding_pieces findings
 
 -- the text of an audit: its lines, one after another
 abbrev pub audit_text : List (ℕ × ℕ) → List ℕ

@@ -29,8 +29,8 @@ passes [] = true
 passes (f ∷ findings) = false
 
 -- What was audited is run if the audit passes or `--unaudited` is given.
-abbrev pub is_run : {A : Type 0} → List A → Bool → Bool
-is_run findings unaudited = passes findings || unaudited
+abbrev pub is_run_allowed : {A : Type 0} → List A → Bool → Bool
+is_run_allowed findings unaudited = passes findings || unaudited
 
 -- the status of a command that only audits, by whether the audit passes
 abbrev pub audit_status : Bool → Status

@@ -7,14 +7,14 @@ use Rattle.m36_world.specs.Follow.{outputs}
 use Rattle.m36_world.specs.declared.event.Event.{Event}
 use Rattle.m36_status.specs.declared.status.Status.{Status}
 use Rattle.m36_program.specs.Alike.{IsEnd}
-use Rattle.m36_program.specs.Early.{early}
+use Rattle.m36_program.specs.Early.{result_of_status}
 use Rattle.m36_program.specs.Ended.{HasEnd}
 use Rattle.m36_program.specs.Goes.{Goes}
 use Rattle.cmd_image.specs.declared.command.ImageCommand.{ImageCommand}
 use Rattle.cmd_image.specs.declared.command.ImageCommand.TheVariants.{Bare, Audit}
 use Rattle.cmd_image.specs.AuditText.{audit_pieces}
 use Rattle.cmd_image.specs.Output.{run_pieces, status_after}
-use Rattle.cmd_image.specs.ImageAudit.{passes, is_run, audit_status}
+use Rattle.cmd_image.specs.ImageAudit.{passes, is_run_allowed, audit_status}
 use Rattle.cmd_image.specs.Run.{run, last_outcome}
 use Rattle.cmd_image.specs.ImageProgram.{AreAuditFindings, on_image}
 
@@ -24,7 +24,7 @@ use Rattle.cmd_image.specs.ImageProgram.{AreAuditFindings, on_image}
 pub record EndsWith (pieces : List (List ℕ)) (status : Status) (events : List Event)
     (result : Result (Unit {0}) Status) : Type 0 where
   pub events_are : events ≡ outputs pieces
-  pub result_is : result ≡ early status
+  pub result_is : result ≡ result_of_status status
 
 -- The pieces of `bare FILE`: those of the audit and, if the machine is run, those of its run of at
 -- most `steps` steps.
@@ -35,7 +35,7 @@ bare_pieces false steps state findings = audit_pieces findings
 -- the pieces of a command
 abbrev pub image_pieces : ImageCommand → State (List ℕ) → List (ℕ × ℕ) → List (List ℕ)
 image_pieces (Bare bare) state findings =
-    bare_pieces (is_run findings bare.unaudited) bare.steps state findings
+    bare_pieces (is_run_allowed findings bare.unaudited) bare.steps state findings
 image_pieces Audit state findings = audit_pieces findings
 
 -- The status of `bare FILE`: that of the run, or of the audit if the machine is not run.
@@ -46,7 +46,7 @@ bare_status false steps state findings = audit_status (passes findings)
 -- the status of a command
 abbrev pub image_status : ImageCommand → State (List ℕ) → List (ℕ × ℕ) → Status
 image_status (Bare bare) state findings =
-    bare_status (is_run findings bare.unaudited) bare.steps state findings
+    bare_status (is_run_allowed findings bare.unaudited) bare.steps state findings
 image_status Audit state findings = audit_status (passes findings)
 
 -- The call put what these findings require, and has their status.
@@ -58,7 +58,7 @@ EndsByFindings command state findings events result =
 
 -- The audit has at least one finding. The call put what the findings require, and has their
 -- status.
-pub record EndsByFinding (command : ImageCommand) (state : State (List ℕ)) (events : List Event)
+pub record EndsBySomeFindings (command : ImageCommand) (state : State (List ℕ)) (events : List Event)
     (result : Result (Unit {0}) Status) : Type 0 where
   pub first : ℕ × ℕ
   pub others : List (ℕ × ℕ)
@@ -102,4 +102,4 @@ pub record ImageEndLaw : Type 0 where
       (result : Result (Unit {0}) Status)
       → Goes (on_image command state) events result → IsEnd result
       → ¬ IsAudited state.store state.regs.dbr
-      → EndsByFinding command state events result
+      → EndsBySomeFindings command state events result

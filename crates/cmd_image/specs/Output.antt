@@ -7,7 +7,7 @@ use Rattle.m36_model.specs.declared.outcome.Stop.TheVariants.{Dis, Operation, Ta
 use Rattle.m36_model.specs.declared.endings.End.{End}
 use Rattle.m36_model.specs.declared.endings.End.TheVariants as end
 use Rattle.m36_model.specs.declared.record.StepRecord.{StepRecord}
-use Rattle.m36_step.specs.MachineTurn.{ended_by}
+use Rattle.m36_step.specs.MachineTurn.{end_by_outcome}
 use Rattle.m36_trace.specs.EndLine.{end_line_of}
 use Rattle.m36_trace.specs.TraceLine.{line_of}
 use Rattle.m36_status.specs.declared.status.Status.{Status}
@@ -39,10 +39,10 @@ end_status (end.Link code) = MachineStop (end.Link code)
 end_status end.Console = MachineStop end.Console
 
 -- the status of a run by its end; Steps for None: the run used up its limit of steps
-abbrev pub status_by : Option End → Status
-status_by None = Steps
-status_by (Some e) = end_status e
+abbrev pub end_or_limit_status : Option End → Status
+end_or_limit_status None = Steps
+end_or_limit_status (Some e) = end_status e
 
 -- the status by the last outcome of a run
 abbrev pub status_after : Outcome → Status
-status_after last = status_by (ended_by last)
+status_after last = end_or_limit_status (end_by_outcome last)

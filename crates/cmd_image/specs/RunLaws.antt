@@ -26,25 +26,25 @@ step_in (Stepped told) = told ∷ []
 step_in _ = []
 
 -- the records of the steps among the first n turns of a machine
-unfoldable pub steps_made : ℕ → MachineFields → List StepRecord
-steps_made zero m = []
-steps_made (suc n) m = step_in (machine_turn m) ++ steps_made n (machine_after m)
+unfoldable pub steps_in_turns : ℕ → MachineFields → List StepRecord
+steps_in_turns zero m = []
+steps_in_turns (suc n) m = step_in (machine_turn m) ++ steps_in_turns n (machine_after m)
 
 -- The steps of a run are those among as many turns of a machine that begins in the same state. The
 -- machine takes no step after one that ended its run.
 abbrev pub RunsAreTurns : Type 0
 RunsAreTurns =
     (steps : ℕ) (state : State (List ℕ))
-    → steps_made steps (record { state = state; ended = None }) ≡ run steps state
+    → steps_in_turns steps (record { state = state; ended = None }) ≡ run steps state
 
 -- ---- findings
 
 -- The place of a finding has no more octal digits than its line prints.
-abbrev pub IsWrittenWhole : ℕ × ℕ → Type 0
-IsWrittenWhole f = f.1 < 8 ^ place_digits f.0
+abbrev pub PlaceFits : ℕ × ℕ → Type 0
+PlaceFits f = f.1 < 8 ^ place_digits f.0
 
 -- For each finding of an audit, its line prints all digits of the place.
-abbrev pub PlacesAreWhole : Type 0
-PlacesAreWhole =
+abbrev pub PlacesFit : Type 0
+PlacesFit =
     (core : List ℕ) (dbr : DbrFields) (findings : List (ℕ × ℕ))
-    → AreFindings core dbr findings → All IsWrittenWhole findings
+    → AreFindings core dbr findings → All PlaceFits findings

@@ -1,13 +1,13 @@
 //! Audits an image, and runs it if the command says so.
 
-ghost use Rattle.m36_audit.specs.Findings.{pairs};
+ghost use Rattle.m36_audit.specs.Findings.{finding_pairs};
 ghost use Rattle.m36_program.specs.Performs.{Performs};
-ghost use Rattle.cmd_image.specs.ImageAudit.{is_run};
-ghost use Rattle.cmd_image.specs.ImageProgram.{audit_only, audit_and_run, bare_by, by_command, on_image, image_program};
+ghost use Rattle.cmd_image.specs.ImageAudit.{is_run_allowed};
+ghost use Rattle.cmd_image.specs.ImageProgram.{audit_only, audit_and_run, audit_and_run_if, command_after_audit, on_image, image_program};
 
 use crate::command::{BareRun, ImageCommand};
 use crate::findings::put_audit;
-use crate::machine::{findings_in, is_run, machine_of};
+use crate::machine::{findings_in, is_run_allowed, machine_of};
 use crate::reading::read_state;
 use crate::running::run;
 use m36_audit::Finding;
@@ -20,7 +20,7 @@ use std::alloc::Global;
 /// AuditNo if there are findings.
 #[tactic(auto, using(crate::proofs::ImageSteps::auditing))]
 pub fn answer_audit<W: World>(findings: &[Finding], world: &mut W) -> Result<(), Status>
-    ensures { Performs (audit_only (pairs findings.now)) result
+    ensures { Performs (audit_only (finding_pairs findings.now)) result
         (W.seen world.old) (W.seen world.new) }
 {
     match put_audit(findings, world) {
@@ -36,14 +36,14 @@ pub fn answer_audit<W: World>(findings: &[Finding], world: &mut W) -> Result<(),
 }
 
 /// Puts the audit's text, and then runs the machine of an image for at most `steps` steps.
-#[tactic(auto, using(crate::proofs::ImageSteps::audited))]
+#[tactic(auto, using(crate::proofs::ImageSteps::audit_core))]
 fn run_audited<W: World>(
     findings: &[Finding],
     image: Image,
     steps: u32,
     world: &mut W,
 ) -> Result<(), Status>
-    ensures { Performs (audit_and_run steps image (pairs findings.now)) result
+    ensures { Performs (audit_and_run steps image (finding_pairs findings.now)) result
         (W.seen world.old) (W.seen world.new) }
 {
     let mut machine = machine_of(image);
@@ -61,10 +61,10 @@ fn answer_bare<W: World>(
     world: &mut W,
 ) -> Result<(), Status>
     ensures { Performs
-        (bare_by (is_run (pairs findings.now) bare.unaudited) bare.steps image (pairs findings.now))
+        (audit_and_run_if (is_run_allowed (finding_pairs findings.now) bare.unaudited) bare.steps image (finding_pairs findings.now))
         result (W.seen world.old) (W.seen world.new) }
 {
-    if is_run(findings, bare) {
+    if is_run_allowed(findings, bare) {
         run_audited(findings, image, bare.steps, world)
     } else {
         answer_audit(findings, world)
@@ -78,7 +78,7 @@ fn perform_for_findings<W: World>(
     image: Image,
     world: &mut W,
 ) -> Result<(), Status>
-    ensures { Performs (by_command command image (pairs findings.now)) result
+    ensures { Performs (command_after_audit command image (finding_pairs findings.now)) result
         (W.seen world.old) (W.seen world.new) }
 {
     match command {
@@ -89,7 +89,7 @@ fn perform_for_findings<W: World>(
 
 /// Audits an image, and performs a command for it.
 #[tactic(auto, using(crate::proofs::ImageSteps::found))]
-fn with_image<W: World>(
+fn audit_image_and_answer<W: World>(
     alloc: Global,
     command: ImageCommand,
     image: Image,
@@ -114,7 +114,7 @@ fn with_image<W: World>(
 
 /// Performs `bare FILE` or `audit FILE` over any world: reads a bare image, audits it, and runs it
 /// if the command says so. An error is the status of the command.
-pub fn image_file<W: World>(
+pub fn perform_image_command<W: World>(
     alloc: Global,
     name: &[u8],
     command: ImageCommand,
@@ -124,7 +124,7 @@ pub fn image_file<W: World>(
         (W.seen world.old) (W.seen world.new) }
 {
     match read_state(alloc, name, world) {
-        Ok(image) => with_image(alloc, command, image, world),
+        Ok(image) => audit_image_and_answer(alloc, command, image, world),
         Err(status) => Err(status),
     }
 }

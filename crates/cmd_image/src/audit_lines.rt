@@ -2,7 +2,7 @@
 
 ghost use Rattle.std.specs.Prelude.{◌≡◌, ◌≤◌, length};
 ghost use Rattle.m36_text.specs.Digits.{octal_text};
-ghost use Rattle.m36_audit.specs.Findings.{pair_of};
+ghost use Rattle.m36_audit.specs.Findings.{finding_pair};
 ghost use Rattle.cmd_image.specs.AuditText.{is_of_segment, place_digits, finding_line};
 
 use arrayvec::ArrayString;
@@ -34,7 +34,7 @@ pub fn place_text(condition: u8, place: u32) -> ArrayString<22>
 /// The line of a finding, as `audit no A3 00000100`, without its line feed.
 #[tactic(auto, unfolding(crate::specs::AuditText::finding_line))]
 pub fn finding_line(finding: &Finding) -> ArrayString<160>
-    ensures text { result.bytes ≡ finding_line (pair_of finding.now) }
+    ensures text { result.bytes ≡ finding_line (finding_pair finding.now) }
     ensures len { length result.bytes ≤ 39 }
 {
     let mut line = ArrayString::new();

@@ -10,7 +10,7 @@
 //! - If nothing was found, or `--unaudited` is given, `bare FILE` runs the machine. It puts a trace
 //!   line for each step, and then the end line.
 //!
-//! [`image_file`] performs this program over any world, so its contract has the order of the
+//! [`perform_image_command`] performs this program over any world, so its contract has the order of the
 //! events. A step of the machine is no event: only its line is.
 //!
 //! By its type the program writes no file and takes no input.
@@ -50,7 +50,7 @@ pub mod reading;
 pub mod run_laws;
 pub mod running;
 
-pub use answering::image_file;
+pub use answering::perform_image_command;
 pub use command::{BareRun, ImageCommand};
 pub use laws::{law_image_ends, law_image_text};
 pub use run_laws::law_runs;

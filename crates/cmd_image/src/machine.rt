@@ -2,9 +2,9 @@
 
 ghost use Rattle.std.specs.Prelude.{◌≡◌, [], None, Ok, IfOk};
 ghost use Rattle.m36_model.specs.Audit.{AreFindings};
-ghost use Rattle.m36_audit.specs.Findings.{pairs};
+ghost use Rattle.m36_audit.specs.Findings.{finding_pairs};
 ghost use Rattle.cmd_image.specs.Output.{end_status, status_after};
-ghost use Rattle.cmd_image.specs.ImageAudit.{is_run, IsIsolated};
+ghost use Rattle.cmd_image.specs.ImageAudit.{is_run_allowed, IsIsolated};
 
 use crate::command::BareRun;
 use m36_audit::{Finding, Verdict, audit};
@@ -52,17 +52,17 @@ pub fn machine_of(image: Image) -> Machine
 
 /// Whether the machine is run: if the audit passes, or `--unaudited` is given.
 #[tactic(auto, using(crate::proofs::AuditAnswers::passing))]
-pub fn is_run(findings: &[Finding], bare: BareRun) -> bool
-    ensures { result ≡ is_run (pairs findings.now) bare.unaudited }
+pub fn is_run_allowed(findings: &[Finding], bare: BareRun) -> bool
+    ensures { result ≡ is_run_allowed (finding_pairs findings.now) bare.unaudited }
 {
     findings.is_empty() || bare.unaudited
 }
 
 // Audits a core. If nothing is found, its tables isolate each ring from 1. Fails only with
 // `NoMemory`.
-fn audited(alloc: Global, core: &Core, dbr: Dbr) -> Result<Verdict, NoMemory>
-    ensures found { IfOk result (λ v. AreFindings core.now dbr (pairs v.findings.items)) }
-    ensures isolated { IfOk result (λ v. pairs v.findings.items ≡ [] → IsIsolated core.now dbr) }
+fn audit_core(alloc: Global, core: &Core, dbr: Dbr) -> Result<Verdict, NoMemory>
+    ensures found { IfOk result (λ v. AreFindings core.now dbr (finding_pairs v.findings.items)) }
+    ensures isolated { IfOk result (λ v. finding_pairs v.findings.items ≡ [] → IsIsolated core.now dbr) }
 {
     audit(alloc, core, dbr)
 }
@@ -71,10 +71,10 @@ fn audited(alloc: Global, core: &Core, dbr: Dbr) -> Result<Verdict, NoMemory>
 /// only with `NoMemory`.
 pub fn findings_in(alloc: Global, image: &Image) -> Result<Verdict, NoMemory>
     ensures found { IfOk result
-        (λ v. AreFindings image.now.store image.now.regs.dbr (pairs v.findings.items)) }
+        (λ v. AreFindings image.now.store image.now.regs.dbr (finding_pairs v.findings.items)) }
     ensures isolated { IfOk result
-        (λ v. pairs v.findings.items ≡ [] → IsIsolated image.now.store image.now.regs.dbr) }
+        (λ v. finding_pairs v.findings.items ≡ [] → IsIsolated image.now.store image.now.regs.dbr) }
 {
     let regs = &image.regs;
-    audited(alloc, &image.core, regs.dbr)
+    audit_core(alloc, &image.core, regs.dbr)
 }

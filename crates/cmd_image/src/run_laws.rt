@@ -1,6 +1,6 @@
 //! Laws of runs, and of the findings of an audit.
 
-ghost use Rattle.cmd_image.specs.RunLaws.{LimitIsMet, RunsAreTurns, PlacesAreWhole};
+ghost use Rattle.cmd_image.specs.RunLaws.{LimitIsMet, RunsAreTurns, PlacesFit};
 
 /// A run that did not end used up its limit of steps. The steps of a run are those among as many
 /// turns of a machine that begins in the same state. The place of a finding has no more digits than
@@ -8,5 +8,5 @@ ghost use Rattle.cmd_image.specs.RunLaws.{LimitIsMet, RunsAreTurns, PlacesAreWho
 pub fn law_runs()
     ensures limit { LimitIsMet }
     ensures turns { RunsAreTurns }
-    ensures places { PlacesAreWhole }
+    ensures places { PlacesFit }
 {}

@@ -8,14 +8,14 @@ ghost use Rattle.cmd_image.specs.Machine.{after};
 ghost use Rattle.m36_program.specs.Gathered.{Adds, Puts};
 ghost use Rattle.m36_program.specs.Performs.{Performs};
 ghost use Rattle.m36_program.specs.Program.{puts_all};
-ghost use Rattle.cmd_image.specs.ImageProgram.{run_ends, run_from};
+ghost use Rattle.cmd_image.specs.ImageProgram.{put_run_end, run_from};
 ghost use Rattle.cmd_image.specs.Running.{StepResult};
 
 use crate::machine::status_after;
 use arrayvec::ArrayString;
 use m36_model::{Outcome, Regs, Shown};
 use m36_outside::{Block, Put};
-use m36_program::{add_piece, early, finish};
+use m36_program::{add_piece, result_of_status, finish};
 use m36_status::Status;
 use m36_step::Machine;
 use m36_trace::{TraceText, end_line, push_shown, shown_line};
@@ -34,7 +34,7 @@ pub enum AfterStep {
 
 // Adds a line to a block as one piece, with a line feed at its end. A full block is handed to the
 // output first.
-fn add_text<W: World>(block: &mut Block, mut line: ArrayString<160>, world: &mut W) -> Put
+fn add_line<W: World>(block: &mut Block, mut line: ArrayString<160>, world: &mut W) -> Put
     requires { length line.bytes < 160 }
     ensures adds { Adds result block.old block.new (as_line line.bytes ∷ [])
         (W.seen world.old) (W.seen world.new) }
@@ -46,11 +46,11 @@ fn add_text<W: World>(block: &mut Block, mut line: ArrayString<160>, world: &mut
 // Adds the line of step n, formatted as a whole. Used if `push_shown` did not add it: the block has
 // no room for it, or no parts of an earlier line can be used again.
 #[inline(never)]
-fn add_whole<W: World>(n: u64, shown: &Shown, after: &Regs, block: &mut Block, world: &mut W) -> Put
+fn add_whole_line<W: World>(n: u64, shown: &Shown, after: &Regs, block: &mut Block, world: &mut W) -> Put
     ensures adds { Adds result block.old block.new
         (as_line (shown_line n shown.now after.now) ∷ []) (W.seen world.old) (W.seen world.new) }
 {
-    add_text(block, shown_line(n, shown, after), world)
+    add_line(block, shown_line(n, shown, after), world)
 }
 
 // Adds the line of step n with its line feed to a block, as one piece. `text` keeps an earlier
@@ -58,7 +58,7 @@ fn add_whole<W: World>(n: u64, shown: &Shown, after: &Regs, block: &mut Block, w
 // step.
 #[inline(always)]
 #[tactic(auto, using(m36_program::proofs::Gathered::gathering))]
-fn add_shown<W: World>(
+fn add_step_line<W: World>(
     text: &mut TraceText,
     n: u64,
     shown: &Shown,
@@ -72,13 +72,13 @@ fn add_shown<W: World>(
     if push_shown(text, n, shown, after, block) {
         return Put::Done;
     }
-    add_whole(n, shown, after, block, world)
+    add_whole_line(n, shown, after, block, world)
 }
 
 /// Takes step n of a run, counted from 1, and adds its line to the block. `shown` is overwritten
 /// with what the line shows of the step.
 #[inline]
-pub fn take_turn<W: World>(
+pub fn take_step<W: World>(
     machine: &mut Machine,
     n: u64,
     shown: &mut Shown,
@@ -93,7 +93,7 @@ pub fn take_turn<W: World>(
 {
     machine.step_shown(shown);
     let outcome = shown.outcome;
-    match add_shown(text, n, shown, machine.regs(), block, world) {
+    match add_step_line(text, n, shown, machine.regs(), block, world) {
         Put::Failed => AfterStep::WriteFailed,
         Put::Done => match outcome {
             Outcome::Next => AfterStep::Next,
@@ -121,11 +121,11 @@ fn end_run<W: World>(
     taken: u64,
     world: &mut W,
 ) -> Result<(), Status>
-    ensures { Performs (puts_all block.old (run_ends taken last.now)) result
+    ensures { Performs (puts_all block.old (put_run_end taken last.now)) result
         (W.seen world.old) (W.seen world.new) }
 {
     match finish_line(block, end_line(*last, taken), world) {
-        Put::Done => early(status_after(*last)),
+        Put::Done => result_of_status(status_after(*last)),
         Put::Failed => Err(Status::WriteFault),
     }
 }
@@ -143,7 +143,7 @@ pub fn run<W: World>(machine: &mut Machine, steps: u32, world: &mut W) -> Result
     let mut taken: u32 = 0;
     let mut left = steps;
     'steps: while left > 0 {
-        match take_turn(
+        match take_step(
             machine,
             taken as u64 + 1,
             &mut shown,

@@ -12,7 +12,7 @@ use Rattle.m36_program.specs.Found.{found_in}
 use Rattle.m36_program.specs.Goes.{Goes}
 use Rattle.m36_program.specs.Performs.{Performs}
 use Rattle.m36_program.specs.Program.{May, Program, done, stops, reads, writes, puts, takes, some, wants}
-use Rattle.m36_program.specs.Reader.{IsReader, outcome_in}
+use Rattle.m36_program.specs.Reader.{IsReader, reader_result}
 use Rattle.m36_program.proofs.ReaderLaws.{reader_outcome, performs_unless}
 use Rattle.cmd_make.specs.InMemory.{in_memory}
 
@@ -34,12 +34,12 @@ in_memory_reader files (wants p) is = in_memory_reader files p is
 -- There are no events. Memory ran out, or the result is that of the reader over the files.
 abbrev pub EndsInMemory :
     {may : May} {A : Type 0} → Files → Program may A → List Event → Result A Status → Type 0
-EndsInMemory files p events result = (events ≡ []) × ((result ≡ Err NoMemory) ⊎ (outcome_in files p ≡ Some result))
+EndsInMemory files p events result = (events ≡ []) × ((result ≡ Err NoMemory) ⊎ (reader_result files p ≡ Some result))
 
 pub in_memory_ends :
     {may : May} {A : Type 0} (files : Files) (p : Program may A) (events : List Event) (result : Result A Status)
     → IsReader p → Goes (in_memory files p) events result → EndsInMemory files p events result
-unfolding Goes IsReader in_memory outcome_in
+unfolding Goes IsReader in_memory reader_result
 in_memory_ends files (done a) events result is goes = (goes.none, inr (ap (λ r. Some r) (sym goes.result_is)))
 in_memory_ends files (stops s own) events result is goes = (goes.none, inr (ap (λ r. Some r) (sym goes.result_is)))
 in_memory_ends files (reads name go) events result is (inl goes) =
@@ -58,8 +58,8 @@ same_outcome a b is = cc
 -- It may end with that result.
 pub in_memory_goes :
     {may : May} {A : Type 0} (files : Files) (p : Program may A) (result : Result A Status)
-    → outcome_in files p ≡ Some result → Goes (in_memory files p) [] result
-unfolding Goes in_memory outcome_in
+    → reader_result files p ≡ Some result → Goes (in_memory files p) [] result
+unfolding Goes in_memory reader_result
 in_memory_goes files (done a) result is = record { none = refl; result_is = sym (same_outcome (Ok a) result is) }
 in_memory_goes files (stops s own) result is = record { none = refl; result_is = sym (same_outcome (Err s) result is) }
 in_memory_goes files (reads name go) result is = inl (in_memory_goes files (go (found_in (files name))) result is)
@@ -72,8 +72,8 @@ in_memory_goes files (wants p) result is = inl (in_memory_goes files p result is
 -- That result is an end of the program.
 pub outcome_end :
     {may : May} {A : Type 0} (files : Files) (p : Program may A) (result : Result A Status)
-    → outcome_in files p ≡ Some result → IsEnd result
-unfolding outcome_in
+    → reader_result files p ≡ Some result → IsEnd result
+unfolding reader_result
 outcome_end {may} {A} files (done a) result is = subst (IsEnd {A = A}) (same_outcome (Ok a) result is) tt
 outcome_end {may} {A} files (stops s own) result is = subst (IsEnd {A = A}) (same_outcome (Err s) result is) own
 outcome_end files (reads name go) result is = outcome_end files (go (found_in (files name))) result is

@@ -7,7 +7,7 @@ use Rattle.m36_super.specs.SuperFields.{SuperFields, booted_of}
 use Rattle.m36_world.specs.declared.event.Event.{Event}
 use Rattle.m36_status.specs.declared.setting.Set.{Set}
 use Rattle.m36_status.specs.declared.status.Status.{Status}
-use Rattle.m36_program.specs.Early.{early}
+use Rattle.m36_program.specs.Early.{result_of_status}
 use Rattle.cmd_folder.specs.declared.finish.Finish.{Finish}
 use Rattle.cmd_folder.specs.RunText.{finish_status}
 use Rattle.cmd_folder.specs.Needs.{EndsWithDis}
@@ -22,7 +22,7 @@ run_done :
     (sets : List Set) (lib : Library) (system : SuperFields) (events : List Event) (result : Result (Unit {0}) Status)
     → EndsWithDis lib run_limit (booted_of system) → PutsRun sets lib (booted_of system) events result → result ≡ Ok tt
 run_done sets lib system events result dis run =
-    run.puts.result_is ∙ ap (λ (h : Finish). early (finish_status (Some h)))
+    run.puts.result_is ∙ ap (λ (h : Finish). result_of_status (finish_status (Some h)))
     (dis run.turns run.last run.how run.goes run.finishes)
 
 -- A call that ends by itself ends with Done.

@@ -13,7 +13,7 @@ use Rattle.m36_super.specs.FlatRun.{FlatRun}
 use Rattle.m36_super.specs.BootedRun.{Booted}
 use Rattle.m36_super.specs.SuperFields.{SuperFields, booted_of}
 use Rattle.m36_super.specs.TurnLaws.{IsPlainTurn}
-use Rattle.m36_super.specs.BootSays.{IsBooted}
+use Rattle.m36_super.specs.BootResult.{IsBooted}
 use Rattle.m36_super.proofs.BootTurns.{start_next}
 use Rattle.m36_world.specs.Follow.{outputs}
 use Rattle.m36_world.specs.declared.event.Event.{Event}
@@ -24,20 +24,20 @@ use Rattle.m36_status.specs.declared.status.Status.{Status}
 use Rattle.m36_status.specs.declared.status.Status.TheVariants as status
 use Rattle.m36_status.specs.Refusing.{status_of, Early}
 use Rattle.m36_program.specs.Alike.{IsEnd}
-use Rattle.m36_program.specs.Early.{early, MayEnd, ends}
+use Rattle.m36_program.specs.Early.{result_of_status, MayEnd, ends}
 use Rattle.m36_program.specs.Ended.{HasEnd}
 use Rattle.m36_program.specs.Goes.{Ends, Goes}
 use Rattle.m36_program.specs.Program.{quiet, then_with}
 use Rattle.m36_program.proofs.GoesLaws.{goes_then}
 use Rattle.m36_program.proofs.ProgramLaws.{goes_ends}
 use Rattle.m36_program.proofs.PutLaws.{goes_puts}
-use Rattle.m36_files.specs.Deciding.{decides}
-use Rattle.m36_files.specs.Writing.{writing}
+use Rattle.m36_files.specs.Deciding.{rule_program}
+use Rattle.m36_files.specs.Writing.{may_write_files}
 use Rattle.cmd_image.specs.ImageAudit.{audit_status}
 use Rattle.cmd_image.proofs.SomeFindings.{some_findings}
 use Rattle.cmd_folder.specs.declared.finish.Finish.{Finish}
 use Rattle.cmd_folder.specs.Folder.{FolderFields}
-use Rattle.cmd_folder.specs.RunText.{steps_in, finish_status}
+use Rattle.cmd_folder.specs.RunText.{turns_step_count, finish_status}
 use Rattle.cmd_folder.specs.Runs.{Finishes}
 use Rattle.cmd_folder.specs.Runs as runs
 use Rattle.cmd_folder.proofs.OneRunLaws.{one_run_here}
@@ -45,12 +45,12 @@ use Rattle.cmd_folder.proofs.OneSystem.{one_system}
 use Rattle.cmd_image.specs.ImageProgram.{audit_may_end}
 use Rattle.cmd_folder.specs.RunProgram.{finish_may_end}
 use Rattle.cmd_folder.proofs.FolderSteps.{found_passes}
-use Rattle.cmd_make.specs.Made.{boots_from}
+use Rattle.cmd_make.specs.Made.{boot_outcome}
 use Rattle.cmd_make.specs.MadeLaw.{GoesToEnd, HasOneEnd, all_written, WritesAndPuts, PutsRun, PutsFindings, BootsTo}
 use Rattle.cmd_make.specs.MadeLaw.{MadeLaw}
-use Rattle.cmd_make.specs.MakeProgram.{summed_up, run_summed, found_told, write_and_boot, make_program}
-use Rattle.cmd_make.specs.Making.{sets_of}
-use Rattle.cmd_make.specs.QuietRun.{Ran, run_from}
+use Rattle.cmd_make.specs.MakeProgram.{put_summary, run_and_summarise, make_after_audit, write_and_boot, make_program}
+use Rattle.cmd_make.specs.Making.{files_of_seed}
+use Rattle.cmd_make.specs.QuietRun.{RunSummary, run_from}
 use Rattle.cmd_make.specs.Summary.{run_limit, segment_count, head_pieces, end_pieces}
 use Rattle.cmd_make.proofs.MakeGoes.{made_goes, made_then, WritesAndBoots, WriteEnds, write_split, write_then}
 use Rattle.cmd_make.proofs.MakeGoes.{BootsThen, BootSplit, boot_split, boot_then, boot_stop, refused_is_end}
@@ -76,7 +76,7 @@ all_end sets events result ended (inr ends) = absurd (ends.unended ended)
 -- the files booted, if they boot to this
 boots_end :
     (sets : List Set) (given : FolderFields) (events : List Event) (result : Result (Unit {0}) Status)
-    → boots_from sets ≡ Some (Ok given) → IsEnd result → BootSplit sets events result → BootsThen sets events result
+    → boot_outcome sets ≡ Some (Ok given) → IsEnd result → BootSplit sets events result → BootsThen sets events result
 boots_end sets given events result boots ended (inl then) = then
 boots_end sets given events result boots ended (inr (inl refused)) = absurd (let other = refused.boots in cc)
 boots_end sets given events result boots ended (inr (inr ends)) = no_memory events result ended ends
@@ -102,7 +102,7 @@ same_given a b is = cc
 
 pub ends_found :
     (sets : List Set) (given : FolderFields) (events : List Event) (result : Result (Unit {0}) Status)
-    → boots_from sets ≡ Some (Ok given) → GoesToEnd (write_and_boot sets) events result
+    → boot_outcome sets ≡ Some (Ok given) → GoesToEnd (write_and_boot sets) events result
     → EndsFound sets given events result
 ends_found sets given events result boots goes =
     let ended = goes.is_end in
@@ -142,7 +142,7 @@ found_by sets given system events result to goes =
 
 refused_end :
     (sets : List Set) (s : Status) (more events : List Event) (result : Result (Unit {0}) Status)
-    → boots_from sets ≡ Some (Err s) → IsEnd result → events ≡ all_written sets ++ more → BootSplit sets more result
+    → boot_outcome sets ≡ Some (Err s) → IsEnd result → events ≡ all_written sets ++ more → BootSplit sets more result
     → (events ≡ all_written sets) × (result ≡ Err s)
 refused_end sets s more events result boots ended is (inl then) = absurd (let other = then.boots in cc)
 refused_end sets s more events result boots ended is (inr (inl refused)) =
@@ -155,7 +155,7 @@ refused_end sets s more events result boots ended is (inr (inr ends)) = no_memor
 
 refused_by :
     (sets : List Set) (s : Status) (events : List Event) (result : Result (Unit {0}) Status)
-    → boots_from sets ≡ Some (Err s) → GoesToEnd (write_and_boot sets) events result
+    → boot_outcome sets ≡ Some (Err s) → GoesToEnd (write_and_boot sets) events result
     → (events ≡ all_written sets) × (result ≡ Err s)
 refused_by sets s events result boots goes =
     let all = all_end sets events result goes.is_end (write_split sets events result goes.goes) in
@@ -239,7 +239,7 @@ failed_one sets given system to fails =
 
 -- the lines of a run, by its turns, its end and the registers that it left
 abbrev run_lines : Library → List Turn → Finish → RegsFields → List (List ℕ)
-run_lines lib turns how regs = head_pieces (segment_count lib) [] ++ end_pieces (Some how) (steps_in turns) regs
+run_lines lib turns how regs = head_pieces (segment_count lib) [] ++ end_pieces (Some how) (turns_step_count turns) regs
 
 plain_run :
     (sets : List Set) (lib : Library) (system : SuperFields) (turns : List Turn) (last : Booted) (how : Finish)
@@ -259,7 +259,7 @@ plain_run sets lib system turns last how events result booted goes finishes plai
     λ i. run_lines lib (turns_are i) (end_is i) (regs i) in
     record {
       events_are = run.puts.events_are ∙ ap (λ l. all_written sets ++ outputs l) (sym lines);
-      result_is = run.puts.result_is ∙ ap (λ (h : Finish). early (finish_status (Some h))) (sym end_is);
+      result_is = run.puts.result_is ∙ ap (λ (h : Finish). result_of_status (finish_status (Some h))) (sym end_is);
     }
 
 plain_same :
@@ -286,7 +286,7 @@ plain_one sets given system turns last how to goes finishes plain =
 
 -- ---- some end
 
-refused_some : (sets : List Set) (s : Status) → boots_from sets ≡ Some (Err s) → HasEnd (write_and_boot sets)
+refused_some : (sets : List Set) (s : Status) → boot_outcome sets ≡ Some (Err s) → HasEnd (write_and_boot sets)
 refused_some sets s boots none =
     none (all_written sets ++ []) (Err s) (write_then sets [] (Err s) (boot_stop sets s boots))
     (refused_is_end sets s boots)
@@ -295,7 +295,7 @@ refused_some sets s boots none =
 pub record Way (lib : Library) (first : Booted) (findings : List (ℕ × ℕ)) : Type 0 where
   pub events : List Event
   pub result : Result (Unit {0}) Status
-  pub goes : Goes (found_told lib first findings) events result
+  pub goes : Goes (make_after_audit lib first findings) events result
   pub is_end : IsEnd result
 
 -- There is a list of findings, so it is enough to have a way for each list.
@@ -315,7 +315,7 @@ way_end sets given system to ways none =
     way.is_end)
 
 unrun_way : (lib : Library) (first : Booted) (f : ℕ × ℕ) (findings : List (ℕ × ℕ)) → Way lib first (f ∷ findings)
-unfolding found_told
+unfolding make_after_audit
 unrun_way lib first f findings = record {
   events = outputs (head_pieces (segment_count lib) (f ∷ findings)) ++ [];
   result = Err status.AuditNo;
@@ -338,7 +338,7 @@ failed_some :
 failed_some sets given system to fails =
     way_end sets given system to (λ findings found. failed_way findings given.lib system found fails)
 
-early_end : (s : Status) → MayEnd s → IsEnd (early s)
+early_end : (s : Status) → MayEnd s → IsEnd (result_of_status s)
 early_end status.Usage own = absurd own
 early_end status.ReadFault own = absurd own
 early_end status.WriteFault own = absurd own
@@ -346,25 +346,25 @@ early_end status.NoMemory own = absurd own
 early_end _ own = tt
 
 lines_go :
-    (r : Ran) → Goes (summed_up r) (outputs (end_pieces (Some r.how) r.steps r.regs) ++ [])
-    (early (finish_status (Some r.how)))
-unfolding summed_up
+    (r : RunSummary) → Goes (put_summary r) (outputs (end_pieces (Some r.how) r.steps r.regs) ++ [])
+    (result_of_status (finish_status (Some r.how)))
+unfolding put_summary
 lines_go r =
     goes_puts (end_pieces (Some r.how) r.steps r.regs)
     (ends {may = quiet} (finish_status (Some r.how)) (finish_may_end r.how)) []
-    (early (finish_status (Some r.how))) (goes_ends quiet (finish_status (Some r.how)) (finish_may_end r.how))
+    (result_of_status (finish_status (Some r.how))) (goes_ends quiet (finish_status (Some r.how)) (finish_may_end r.how))
 
 run_way : (lib : Library) (first : Booted) → Gone (run_from lib 0 run_limit first) → Way lib first []
-unfolding found_told run_summed
+unfolding make_after_audit run_and_summarise
 run_way lib first gone =
     let r = gone.0 in
     let lines = outputs (end_pieces (Some r.how) r.steps r.regs) ++ [] in
-    let result = early (finish_status (Some r.how)) in
+    let result = result_of_status (finish_status (Some r.how)) in
     record {
       events = outputs (head_pieces (segment_count lib) []) ++ lines;
       result = result;
-      goes = goes_puts (head_pieces (segment_count lib) []) (run_summed lib run_limit first) lines result
-          (goes_then (run_from lib 0 run_limit first) summed_up [] lines r result gone.1 (lines_go r));
+      goes = goes_puts (head_pieces (segment_count lib) []) (run_and_summarise lib run_limit first) lines result
+          (goes_then (run_from lib 0 run_limit first) put_summary [] lines r result gone.1 (lines_go r));
       is_end = early_end (finish_status (Some r.how)) (finish_may_end r.how);
     }
 
@@ -388,10 +388,10 @@ run_some sets given system turns last how to goes finishes =
 
 unmade_rule :
     (refusal : Refusal) (events : List Event) (result : Result (Unit {0}) Status)
-    → IsEnd result → Goes {may = writing} (then_with (decides {A = List Set} (Err refusal)) write_and_boot) events
+    → IsEnd result → Goes {may = may_write_files} (then_with (rule_program {A = List Set} (Err refusal)) write_and_boot) events
     result
     → (events ≡ []) × (result ≡ Err (status_of refusal))
-unfolding Goes then_with decides
+unfolding Goes then_with rule_program
 unmade_rule (BadFile bad) events result ended (inl goes) = (goes.none, goes.result_is)
 unmade_rule (BadFile bad) events result ended (inr ends) = no_memory events result ended ends
 unmade_rule NoMemory events result ended (inl goes) = absurd goes.value
@@ -399,12 +399,12 @@ unmade_rule NoMemory events result ended (inr ends) = no_memory events result en
 
 unmade_by :
     (seed : ℕ) (refusal : Refusal) (events : List Event) (result : Result (Unit {0}) Status)
-    → sets_of seed ≡ Err refusal → GoesToEnd (make_program seed) events result
+    → files_of_seed seed ≡ Err refusal → GoesToEnd (make_program seed) events result
     → (events ≡ []) × (result ≡ Err (status_of refusal))
 unfolding make_program
 unmade_by seed refusal events result is goes =
     unmade_rule refusal events result goes.is_end
-    (subst (λ (rule : Early (List Set)). Goes {may = writing} (then_with (decides rule) write_and_boot) events result)
+    (subst (λ (rule : Early (List Set)). Goes {may = may_write_files} (then_with (rule_program rule) write_and_boot) events result)
     is goes.goes)
 
 made_end :
@@ -416,13 +416,13 @@ made_end sets events result ended (inr ends) = no_memory events result ended end
 
 pub made_by :
     (seed : ℕ) (sets : List Set) (events : List Event) (result : Result (Unit {0}) Status)
-    → sets_of seed ≡ Ok sets → GoesToEnd (make_program seed) events result
+    → files_of_seed seed ≡ Ok sets → GoesToEnd (make_program seed) events result
     → GoesToEnd (write_and_boot sets) events result
 made_by seed sets events result is goes =
     made_end sets events result goes.is_end (made_goes seed sets events result is goes.goes)
 
 made_some :
-    (seed : ℕ) (sets : List Set) → sets_of seed ≡ Ok sets → HasEnd (write_and_boot sets) → HasEnd (make_program seed)
+    (seed : ℕ) (sets : List Set) → files_of_seed seed ≡ Ok sets → HasEnd (write_and_boot sets) → HasEnd (make_program seed)
 made_some seed sets is has none =
     has (λ events result goes ended. none events result (made_then seed sets events result is goes) ended)
 

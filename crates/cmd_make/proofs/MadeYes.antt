@@ -11,15 +11,15 @@ use Rattle.m36_status.specs.declared.status.Status.{Status}
 use Rattle.m36_status.specs.declared.status.Status.TheVariants.{NoMemory}
 use Rattle.m36_program.specs.Ended.{StartsWith}
 use Rattle.m36_program.specs.Goes.{Ends, Goes}
-use Rattle.m36_program.specs.Trail.{pieces_of}
+use Rattle.m36_program.specs.MayHappen.{pieces_of}
 use Rattle.cmd_image.specs.AuditText.{yes_line, audit_text}
 use Rattle.cmd_image.specs.ImageAudit.{passes}
 use Rattle.cmd_image.proofs.YesAnswers.{none_found}
 use Rattle.cmd_folder.specs.Folder.{FolderFields}
-use Rattle.cmd_folder.specs.Promise.{PassesBooted}
+use Rattle.cmd_folder.specs.Promise.{PassesFolderAudit}
 use Rattle.cmd_folder.proofs.PutsSplit.{PutsSplit, puts_split}
-use Rattle.cmd_make.specs.Made.{PassesBy, PassesMade, head_by, head_of}
-use Rattle.cmd_make.specs.MakeProgram.{runs_or_ends, found_told, write_and_boot}
+use Rattle.cmd_make.specs.Made.{PassesIfBooted, PassesMakeAudit, head_line_of_outcome, head_line_of_files}
+use Rattle.cmd_make.specs.MakeProgram.{runs_or_ends, make_after_audit, write_and_boot}
 use Rattle.cmd_make.specs.Summary.{head_line, segment_count, head_pieces}
 use Rattle.cmd_make.proofs.MakeGoes.{WritesAndBoots, WriteEnds, write_split, pieces_written, BootSplit, boot_split}
 use Rattle.cmd_make.proofs.MakeGoes.{SystemFound, booted_split}
@@ -82,8 +82,8 @@ none_in count findings pieces starts over =
 system_yes :
     (given : FolderFields) (events : List Event) (result : Result (Unit {0}) Status)
     → StartsWith (yes_after (head_line (segment_count given.lib))) (pieces_of events)
-    → SystemFound given events result ⊎ Ends (Err NoMemory) events result → PassesBooted given.lib
-unfolding found_told
+    → SystemFound given events result ⊎ Ends (Err NoMemory) events result → PassesFolderAudit given.lib
+unfolding make_after_audit
 system_yes given events result starts (inl found) =
     let count = segment_count given.lib in
     found.found.passes
@@ -98,34 +98,34 @@ system_yes given events result starts (inr ends) =
 
 boot_yes :
     (sets : List Set) (events : List Event) (result : Result (Unit {0}) Status)
-    → StartsWith (yes_after (head_of sets)) (pieces_of events) → BootSplit sets events result → PassesMade sets
+    → StartsWith (yes_after (head_line_of_files sets)) (pieces_of events) → BootSplit sets events result → PassesMakeAudit sets
 boot_yes sets events result starts (inl then) =
-    subst PassesBy (sym then.boots)
+    subst PassesIfBooted (sym then.boots)
     (system_yes then.given events result
-    (subst (λ b. StartsWith (yes_after (head_by b)) (pieces_of events)) then.boots starts)
+    (subst (λ b. StartsWith (yes_after (head_line_of_outcome b)) (pieces_of events)) then.boots starts)
     (booted_split then.given events result then.goes))
 boot_yes sets events result starts (inr (inl refused)) =
-    nothing_put (head_of sets) (pieces_of events) (ap pieces_of refused.none) starts
+    nothing_put (head_line_of_files sets) (pieces_of events) (ap pieces_of refused.none) starts
 boot_yes sets events result starts (inr (inr ends)) =
-    nothing_put (head_of sets) (pieces_of events) (ap pieces_of ends.none) starts
+    nothing_put (head_line_of_files sets) (pieces_of events) (ap pieces_of ends.none) starts
 
 write_yes :
     (sets : List Set) (events : List Event) (result : Result (Unit {0}) Status)
-    → StartsWith (yes_after (head_of sets)) (pieces_of events) → WritesAndBoots sets events result
+    → StartsWith (yes_after (head_line_of_files sets)) (pieces_of events) → WritesAndBoots sets events result
     ⊎ WriteEnds events result
-    → PassesMade sets
+    → PassesMakeAudit sets
 write_yes sets events result starts (inl then) =
     boot_yes sets then.more result
-    (subst (StartsWith (yes_after (head_of sets))) (ap pieces_of then.is ∙ pieces_written sets then.more) starts)
+    (subst (StartsWith (yes_after (head_line_of_files sets))) (ap pieces_of then.is ∙ pieces_written sets then.more) starts)
     (boot_split sets then.more result then.goes)
-write_yes sets events result starts (inr ends) = nothing_put (head_of sets) (pieces_of events) ends.none starts
+write_yes sets events result starts (inr ends) = nothing_put (head_line_of_files sets) (pieces_of events) ends.none starts
 
 -- If what is put begins so, the system passes.
 pub seed_yes :
     (sets : List Set) (events : List Event) (result : Result (Unit {0}) Status)
-    → StartsWith (yes_after (head_of sets)) (pieces_of events)
-    → Goes (write_and_boot sets) events result ⊎ Ends (Err NoMemory) events result → PassesMade sets
+    → StartsWith (yes_after (head_line_of_files sets)) (pieces_of events)
+    → Goes (write_and_boot sets) events result ⊎ Ends (Err NoMemory) events result → PassesMakeAudit sets
 seed_yes sets events result starts (inl goes) =
     write_yes sets events result starts (write_split sets events result goes)
 seed_yes sets events result starts (inr ends) =
-    nothing_put (head_of sets) (pieces_of events) (ap pieces_of ends.none) starts
+    nothing_put (head_line_of_files sets) (pieces_of events) (ap pieces_of ends.none) starts

@@ -6,7 +6,7 @@ use Rattle.m36_outside.specs.declared.folder.WriteAnswer.TheVariants as write
 use Rattle.m36_world.specs.declared.event.Event.{Event}
 use Rattle.m36_world.specs.declared.event.Event.TheVariants.{FileWrite}
 use Rattle.m36_super.specs.SuperFields.{SuperFields, booted_of}
-use Rattle.m36_super.specs.BootSays.{IsBooted}
+use Rattle.m36_super.specs.BootResult.{IsBooted}
 use Rattle.m36_status.specs.declared.setting.Set.{Set}
 use Rattle.m36_status.specs.declared.status.Status.{Status}
 use Rattle.m36_status.specs.declared.status.Status.TheVariants.{WriteFault, NoMemory}
@@ -16,11 +16,11 @@ use Rattle.m36_program.specs.Goes.{Ends, AfterWrite, Goes}
 use Rattle.m36_program.specs.Program.{quiet, Program, then_with}
 use Rattle.m36_program.specs.Reader.{IsReader}
 use Rattle.m36_program.specs.Split.{BothGo, FirstEnds}
-use Rattle.m36_program.specs.Trail.{pieces_of}
+use Rattle.m36_program.specs.MayHappen.{pieces_of}
 use Rattle.m36_program.proofs.GoesLaws.{goes_then, goes_stop}
 use Rattle.m36_program.proofs.ReaderLaws.{reader_wants, reader_split}
-use Rattle.m36_files.specs.Deciding.{decides}
-use Rattle.m36_files.specs.Writing.{writing}
+use Rattle.m36_files.specs.Deciding.{rule_program}
+use Rattle.m36_files.specs.Writing.{may_write_files}
 use Rattle.cmd_folder.specs.Folder.{FolderFields}
 use Rattle.cmd_folder.specs.FolderProgram.{folder_given}
 use Rattle.cmd_folder.specs.OnFolder.{AreFolderFindings}
@@ -28,10 +28,10 @@ use Rattle.cmd_folder.proofs.FolderReader.{folder_reader}
 use Rattle.cmd_tools.specs.Reporting.{writes_all}
 use Rattle.cmd_make.specs.InMemory.{in_memory}
 use Rattle.cmd_make.specs.MadeLaw.{all_written}
-use Rattle.cmd_make.specs.Made.{boot_files, boots_from}
-use Rattle.cmd_make.specs.MakeProgram.{found_told, on_system, on_booted, boot_made, write_and_boot, make_program}
-use Rattle.cmd_make.specs.Making.{files_in, sets_of}
-use Rattle.cmd_make.specs.Within.{within}
+use Rattle.cmd_make.specs.Made.{boot_files, boot_outcome}
+use Rattle.cmd_make.specs.MakeProgram.{make_after_audit, on_system, on_booted, boot_made, write_and_boot, make_program}
+use Rattle.cmd_make.specs.Making.{files_in, files_of_seed}
+use Rattle.cmd_make.specs.Within.{widen}
 use Rattle.cmd_make.proofs.InMemoryLaws.{in_memory_reader, in_memory_ends, in_memory_goes, outcome_end}
 use Rattle.cmd_make.proofs.SummaryEnds.{end_is}
 use Rattle.cmd_make.proofs.WithinLaws.{goes_within, goes_quiet}
@@ -41,25 +41,25 @@ use Rattle.cmd_make.proofs.WithinLaws.{goes_within, goes_quiet}
 -- The files of the seed were made, or memory ran out.
 pub made_goes :
     (seed : ℕ) (sets : List Set) (events : List Event) (result : Result (Unit {0}) Status)
-    → sets_of seed ≡ Ok sets → Goes (make_program seed) events result
+    → files_of_seed seed ≡ Ok sets → Goes (make_program seed) events result
     → Goes (write_and_boot sets) events result ⊎ Ends (Err NoMemory) events result
-unfolding Goes then_with decides make_program
+unfolding Goes then_with rule_program make_program
 made_goes seed sets events result is goes =
-    subst (λ (rule : Early (List Set)). Goes {may = writing} (then_with (decides rule) write_and_boot) events result) is
+    subst (λ (rule : Early (List Set)). Goes {may = may_write_files} (then_with (rule_program rule) write_and_boot) events result) is
     goes
 
 pub made_then :
     (seed : ℕ) (sets : List Set) (events : List Event) (result : Result (Unit {0}) Status)
-    → sets_of seed ≡ Ok sets → Goes (write_and_boot sets) events result → Goes (make_program seed) events result
-unfolding Goes then_with decides make_program
+    → files_of_seed seed ≡ Ok sets → Goes (write_and_boot sets) events result → Goes (make_program seed) events result
+unfolding Goes then_with rule_program make_program
 made_then seed sets events result is goes =
-    subst (λ (rule : Early (List Set)). Goes {may = writing} (then_with (decides rule) write_and_boot) events result)
+    subst (λ (rule : Early (List Set)). Goes {may = may_write_files} (then_with (rule_program rule) write_and_boot) events result)
     (sym is) (inl goes)
 
 -- ---- writing
 
 -- All files were written, and then the rest of the program followed.
-pub record WritesThen (sets : List Set) (rest : Program writing (Unit {0})) (events : List Event)
+pub record WritesThen (sets : List Set) (rest : Program may_write_files (Unit {0})) (events : List Event)
     (result : Result (Unit {0}) Status)
     : Type 0 where
   pub more : List Event
@@ -71,7 +71,7 @@ pub record WriteEnds (events : List Event) (result : Result (Unit {0}) Status) :
   pub none : pieces_of events ≡ []
   pub unended : IsEnd result → ⊥
 
-abbrev WritesSplit : List Set → Program writing (Unit {0}) → List Event → Result (Unit {0}) Status → Type 0
+abbrev WritesSplit : List Set → Program may_write_files (Unit {0}) → List Event → Result (Unit {0}) Status → Type 0
 WritesSplit sets rest events result = WritesThen sets rest events result ⊎ WriteEnds events result
 
 write_ends :
@@ -85,7 +85,7 @@ write_ends set answer s more events result first ends never = record {
 }
 
 first_written :
-    (answer : WriteAnswer) (set : Set) (sets : List Set) (rest : Program writing (Unit {0})) (more events : List Event)
+    (answer : WriteAnswer) (set : Set) (sets : List Set) (rest : Program may_write_files (Unit {0})) (more events : List Event)
     (result : Result (Unit {0}) Status)
     → events ≡ FileWrite set.name set.content answer ∷ more
     → (Goes (writes_all refl sets rest) more result → WritesSplit sets rest more result)
@@ -106,7 +106,7 @@ first_written write.NoMemory set sets rest more events result first on after =
     inr (write_ends set write.NoMemory NoMemory more events result first after (λ ended. ended))
 
 writes_split :
-    (sets : List Set) (rest : Program writing (Unit {0})) (events : List Event) (result : Result (Unit {0}) Status)
+    (sets : List Set) (rest : Program may_write_files (Unit {0})) (events : List Event) (result : Result (Unit {0}) Status)
     → Goes (writes_all refl sets rest) events result → WritesSplit sets rest events result
 unfolding Goes writes_all
 writes_split [] rest events result goes = inl (record { more = events; is = refl; goes = goes })
@@ -125,17 +125,17 @@ pub write_split :
     → Goes (write_and_boot sets) events result → WritesAndBoots sets events result ⊎ WriteEnds events result
 unfolding write_and_boot
 write_split sets events result goes =
-    elim (writes_split sets (within (boot_made sets)) events result goes) [
+    elim (writes_split sets (widen (boot_made sets)) events result goes) [
       | inl then ↦ inl (record {
         more = then.more;
         is = then.is;
-        goes = goes_quiet writing (boot_made sets) then.more result then.goes;
+        goes = goes_quiet may_write_files (boot_made sets) then.more result then.goes;
       })
       | inr ends ↦ inr ends
     ]
 
 writes_then :
-    (sets : List Set) (rest : Program writing (Unit {0})) (more : List Event) (result : Result (Unit {0}) Status)
+    (sets : List Set) (rest : Program may_write_files (Unit {0})) (more : List Event) (result : Result (Unit {0}) Status)
     → Goes rest more result → Goes (writes_all refl sets rest) (all_written sets ++ more) result
 unfolding Goes writes_all
 writes_then [] rest more result goes = goes
@@ -151,7 +151,7 @@ pub write_then :
     → Goes (boot_made sets) more result → Goes (write_and_boot sets) (all_written sets ++ more) result
 unfolding write_and_boot
 write_then sets more result goes =
-    writes_then sets (within (boot_made sets)) more result (goes_within writing (boot_made sets) more result goes)
+    writes_then sets (widen (boot_made sets)) more result (goes_within may_write_files (boot_made sets) more result goes)
 
 -- files put nothing
 pub pieces_written : (sets : List Set) (more : List Event) → pieces_of (all_written sets ++ more) ≡ pieces_of more
@@ -170,27 +170,27 @@ boots_reader sets =
 boots_end :
     (sets : List Set) (events : List Event) (result : Result FolderFields Status)
     → Goes (boot_files sets) events result
-    → (events ≡ []) × ((result ≡ Err NoMemory) ⊎ (boots_from sets ≡ Some result))
-unfolding Goes boot_files boots_from
+    → (events ≡ []) × ((result ≡ Err NoMemory) ⊎ (boot_outcome sets ≡ Some result))
+unfolding Goes boot_files boot_outcome
 boots_end sets events result (inl goes) =
     in_memory_ends (files_in sets) (folder_given {may = quiet} None) events result (folder_reader quiet None) goes
 boots_end sets events result (inr ends) = (ends.none, inl ends.result_is)
 
 boots_goes :
-    (sets : List Set) (result : Result FolderFields Status) → boots_from sets ≡ Some result
+    (sets : List Set) (result : Result FolderFields Status) → boot_outcome sets ≡ Some result
     → Goes (boot_files sets) [] result
-unfolding Goes boot_files boots_from
+unfolding Goes boot_files boot_outcome
 boots_goes sets result is = inl (in_memory_goes (files_in sets) (folder_given {may = quiet} None) result is)
 
 -- a refusal is an end of the program
-pub refused_is_end : (sets : List Set) (s : Status) → boots_from sets ≡ Some (Err s) → IsEnd {A = FolderFields} (Err s)
-unfolding boots_from
+pub refused_is_end : (sets : List Set) (s : Status) → boot_outcome sets ≡ Some (Err s) → IsEnd {A = FolderFields} (Err s)
+unfolding boot_outcome
 refused_is_end sets s boots = outcome_end (files_in sets) (folder_given {may = quiet} None) (Err s) boots
 
 -- The files booted.
 pub record BootsThen (sets : List Set) (events : List Event) (result : Result (Unit {0}) Status) : Type 0 where
   pub given : FolderFields
-  pub boots : boots_from sets ≡ Some (Ok given)
+  pub boots : boot_outcome sets ≡ Some (Ok given)
   pub goes : Goes (on_booted given) events result
 
 -- The files were refused.
@@ -198,7 +198,7 @@ pub record BootsNot (sets : List Set) (events : List Event) (result : Result (Un
   pub status : Status
   pub none : events ≡ []
   pub result_is : result ≡ Err status
-  pub boots : boots_from sets ≡ Some (Err status)
+  pub boots : boot_outcome sets ≡ Some (Err status)
 
 -- The files booted; or they were refused; or memory ran out.
 abbrev pub BootSplit : List Set → List Event → Result (Unit {0}) Status → Type 0
@@ -220,14 +220,14 @@ boots_on sets events result both =
     let same : events ≡ both.more = both.is ∙ ap (λ l. l ++ both.more) booted.0 in
     record {
       given = both.value;
-      boots = value_given sets both.first both.value (boots_from sets) booted.1;
+      boots = value_given sets both.first both.value (boot_outcome sets) booted.1;
       goes = subst (λ e. Goes (on_booted both.value) e result) (sym same) both.goes_on;
     }
 
 status_given :
     (sets : List Set) (events : List Event) (result : Result (Unit {0}) Status) (s : Status)
     → result ≡ Err s → events ≡ []
-    → (let r : Result FolderFields Status = Err s in r ≡ Err NoMemory) ⊎ (boots_from sets ≡ Some (Err s))
+    → (let r : Result FolderFields Status = Err s in r ≡ Err NoMemory) ⊎ (boot_outcome sets ≡ Some (Err s))
     → BootSplit sets events result
 status_given sets events result s is none (inl memory) =
     let same : s ≡ NoMemory = cc in
@@ -258,13 +258,13 @@ boot_split sets events result goes =
 
 pub boot_then :
     (sets : List Set) (given : FolderFields) (events : List Event) (result : Result (Unit {0}) Status)
-    → boots_from sets ≡ Some (Ok given) → Goes (on_booted given) events result → Goes (boot_made sets) events result
+    → boot_outcome sets ≡ Some (Ok given) → Goes (on_booted given) events result → Goes (boot_made sets) events result
 unfolding boot_made
 boot_then sets given events result boots goes =
     goes_then (boot_files sets) on_booted [] events given result (boots_goes sets (Ok given) boots) goes
 
 pub boot_stop :
-    (sets : List Set) (s : Status) → boots_from sets ≡ Some (Err s) → Goes (boot_made sets) [] (Err s)
+    (sets : List Set) (s : Status) → boot_outcome sets ≡ Some (Err s) → Goes (boot_made sets) [] (Err s)
 unfolding boot_made
 boot_stop sets s boots = goes_stop (boot_files sets) on_booted [] s (boots_goes sets (Err s) boots)
 
@@ -276,7 +276,7 @@ pub record SystemFound (given : FolderFields) (events : List Event) (result : Re
   pub booted : IsBooted given.lib system
   pub findings : List (ℕ × ℕ)
   pub found : AreFolderFindings given.lib system findings
-  pub goes : Goes (found_told given.lib (booted_of system) findings) events result
+  pub goes : Goes (make_after_audit given.lib (booted_of system) findings) events result
 
 system_split :
     (given : FolderFields) (system : SuperFields) (events : List Event) (result : Result (Unit {0}) Status)
@@ -297,7 +297,7 @@ pub booted_then :
     (given : FolderFields) (system : SuperFields) (findings : List (ℕ × ℕ)) (events : List Event)
     (result : Result (Unit {0}) Status)
     → IsBooted given.lib system → AreFolderFindings given.lib system findings
-    → Goes (found_told given.lib (booted_of system) findings) events result → Goes (on_booted given) events result
+    → Goes (make_after_audit given.lib (booted_of system) findings) events result → Goes (on_booted given) events result
 unfolding Goes on_booted on_system
 booted_then given system findings events result booted found goes =
     record { value = system; is = booted; rest = inl (record { value = findings; is = found; rest = goes }) }

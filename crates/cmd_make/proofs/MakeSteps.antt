@@ -4,38 +4,38 @@ use Rattle.m36_world.specs.Seen.{Seen}
 use Rattle.m36_status.specs.declared.refusal.Refusal.{Refusal}
 use Rattle.m36_status.specs.declared.setting.Set.{Set}
 use Rattle.m36_status.specs.declared.status.Status.{Status}
-use Rattle.m36_status.specs.Refusing.{status_of, Gives}
+use Rattle.m36_status.specs.Refusing.{status_of, IsRuleResult}
 use Rattle.m36_program.specs.Goes.{Goes}
 use Rattle.m36_program.specs.Performs.{Performs}
 use Rattle.m36_program.specs.Program.{May, Program, then_with}
 use Rattle.m36_program.proofs.Performing.{performs_none, performs_then, performs_stop}
-use Rattle.m36_files.specs.Deciding.{decides}
+use Rattle.m36_files.specs.Deciding.{rule_program}
 use Rattle.m36_files.specs.Writing as allows
 use Rattle.m36_files.proofs.DecidingLaws.{rule_given}
 use Rattle.cmd_folder.specs.Folder.{FolderFields}
 use Rattle.cmd_tools.specs.Reporting.{write_files}
 use Rattle.cmd_tools.proofs.ReportLaws.{then_rest}
-use Rattle.cmd_make.specs.Making.{sets_of}
+use Rattle.cmd_make.specs.Making.{files_of_seed}
 use Rattle.cmd_make.specs.Made.{boot_files}
 use Rattle.cmd_make.specs.MakeProgram.{on_booted, boot_made, write_and_boot, make_program}
-use Rattle.cmd_make.specs.Within.{within}
+use Rattle.cmd_make.specs.Within.{widen}
 use Rattle.cmd_make.proofs.WithinLaws.{performs_within}
 
 -- a rule gave a value
 given_then :
     (may : May) {A : Type 0} (rule : Result A Refusal) (next : A → Program may (Unit {0})) (a : A)
     (result : Result (Unit {0}) Status) (old new : Seen)
-    → Gives (Ok a) rule → Performs (next a) result old new → Performs (then_with (decides rule) next) result old new
+    → IsRuleResult (Ok a) rule → Performs (next a) result old new → Performs (then_with (rule_program rule) next) result old new
 given_then may rule next a result old new gives performs =
-    performs_then (decides rule) next a result old old new (rule_given may (Ok a) rule (Ok a) old gives refl) performs
+    performs_then (rule_program rule) next a result old old new (rule_given may (Ok a) rule (Ok a) old gives refl) performs
 
 -- a rule gave a refusal
 given_stop :
     (may : May) {A : Type 0} (rule : Result A Refusal) (next : A → Program may (Unit {0})) (r : Refusal) (s : Status)
     (seen : Seen)
-    → Gives {A = A} (Err r) rule → s ≡ status_of r → Performs (then_with (decides rule) next) (Err s) seen seen
+    → IsRuleResult {A = A} (Err r) rule → s ≡ status_of r → Performs (then_with (rule_program rule) next) (Err s) seen seen
 given_stop may {A} rule next r s seen gives is =
-    performs_stop (decides rule) next s seen seen
+    performs_stop (rule_program rule) next s seen seen
     (rule_given may (Err r) rule (let failed : Result A Status = Err s in failed) seen gives
     (ap (λ (t : Status). let failed : Result A Status = Err t in failed) is))
 
@@ -67,8 +67,8 @@ pub written_then :
     → Performs (write_and_boot sets) result old new
 unfolding write_and_boot
 written_then sets result old between new first second =
-    subst (λ p. Performs p result old new) (then_rest sets (within (boot_made sets)))
-    (performs_then (write_files sets) (λ u. within (boot_made sets)) tt result old between new first
+    subst (λ p. Performs p result old new) (then_rest sets (widen (boot_made sets)))
+    (performs_then (write_files sets) (λ u. widen (boot_made sets)) tt result old between new first
     (performs_within allows.writing (boot_made sets) result between new second))
 
 pub not_written :
@@ -76,8 +76,8 @@ pub not_written :
     → Performs (write_files sets) (Err s) old new → Performs (write_and_boot sets) (Err s) old new
 unfolding write_and_boot
 not_written sets s old new first =
-    subst (λ p. Performs p (Err s) old new) (then_rest sets (within (boot_made sets)))
-    (performs_stop (write_files sets) (λ u. within (boot_made sets)) s old new first)
+    subst (λ p. Performs p (Err s) old new) (then_rest sets (widen (boot_made sets)))
+    (performs_stop (write_files sets) (λ u. widen (boot_made sets)) s old new first)
 
 pub ruleset writing = (written_then, not_written)
 
@@ -85,16 +85,16 @@ pub ruleset writing = (written_then, not_written)
 
 pub make_given :
     (seed : ℕ) (sets : List Set) (result : Result (Unit {0}) Status) (old new : Seen)
-    → Gives (Ok sets) (sets_of seed) → Performs (write_and_boot sets) result old new
+    → IsRuleResult (Ok sets) (files_of_seed seed) → Performs (write_and_boot sets) result old new
     → Performs (make_program seed) result old new
 unfolding make_program
 make_given seed sets result old new gives performs =
-    given_then allows.writing (sets_of seed) write_and_boot sets result old new gives performs
+    given_then allows.writing (files_of_seed seed) write_and_boot sets result old new gives performs
 
 pub make_refused :
     (seed : ℕ) (r : Refusal) (s : Status) (seen : Seen)
-    → Gives {A = List Set} (Err r) (sets_of seed) → s ≡ status_of r → Performs (make_program seed) (Err s) seen seen
+    → IsRuleResult {A = List Set} (Err r) (files_of_seed seed) → s ≡ status_of r → Performs (make_program seed) (Err s) seen seen
 unfolding make_program
-make_refused seed r s seen gives is = given_stop allows.writing (sets_of seed) write_and_boot r s seen gives is
+make_refused seed r s seen gives is = given_stop allows.writing (files_of_seed seed) write_and_boot r s seen gives is
 
 pub ruleset making = (make_given, make_refused)

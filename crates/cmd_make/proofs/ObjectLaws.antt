@@ -3,7 +3,7 @@ use Rattle.std.proofs.Common.{◌≡◌, ℕ, ◌+◌, ◌<◌, ◌≤◌, List,
 use Rattle.std.proofs.Common.{sym, ap, subst, ◌∙◌}
 use Rattle.std.proofs.lemmas.List.{drop_more, at_drop_all}
 use Rattle.alm_parse.specs.SourceFields.{Source}
-use Rattle.alm_parse.specs.Sources.{parsed, Refuses}
+use Rattle.alm_parse.specs.Sources.{source_of_text, IsFaultOf}
 use Rattle.alm_parse.specs.declared.fault.AlmFault.{AlmFault}
 use Rattle.alm_parse.specs.declared.fault.AlmFault.TheVariants as alm
 use Rattle.alm_asm.specs.Assembly.{assembled}
@@ -15,11 +15,11 @@ use Rattle.m36_status.specs.declared.setting.Set.{Set}
 use Rattle.m36_status.specs.Refusing.{Early}
 use Rattle.m36_status.specs.Refusing as refusing
 use Rattle.m36_status.proofs.GivesLaws.{gives_by, memory_given}
-use Rattle.cmd_tools.specs.Assemblies.{Assembly, with_parts, assembly_by, assembly_of, object_bytes, IsMadeOf}
+use Rattle.cmd_tools.specs.Assemblies.{Assembly, with_parts, assembly_of_parsed, assembly_of, object_bytes, IsMadeOf}
 use Rattle.cmd_tools.specs.PrintAndAlm.{source_refused}
 use Rattle.cmd_tools.proofs.AlmLaws.{made_refused, read_refused}
 use Rattle.m36_text.specs.Results.{and_then}
-use Rattle.cmd_make.specs.Making.{object_name, object_by, object_of, with_objects, assembly_bytes, ObjectSays}
+use Rattle.cmd_make.specs.Making.{object_name, object_set_or_refusal, object_of, with_objects, assembly_bytes, ObjectResult}
 
 -- ---- one object
 
@@ -36,31 +36,31 @@ pub ruleset made = (content_made, made_refused)
 
 pub content_read :
     (bytes : List ℕ) (source : Source) (result : Result (List ℕ) AlmFault)
-    → parsed bytes ≡ Ok source → ObjectSays result (with_parts source (assembled source))
-    → ObjectSays result (assembly_of bytes)
+    → source_of_text bytes ≡ Ok source → ObjectResult result (with_parts source (assembled source))
+    → ObjectResult result (assembly_of bytes)
 unfolding assembly_of
-content_read bytes source result is says = subst (λ g. ObjectSays result (assembly_by g)) (sym is) says
+content_read bytes source result is says = subst (λ g. ObjectResult result (assembly_of_parsed g)) (sym is) says
 
 pub ruleset parsing = (content_read, read_refused)
 
 pub object_given :
     (source name content : List ℕ) (given : Result Assembly AlmFault)
     → name ≡ object_name source → IsMadeOf assembly_bytes content given
-    → refusing.Gives (Ok (record { name = name; content = content })) (object_by source given)
+    → refusing.Gives (Ok (record { name = name; content = content })) (object_set_or_refusal source given)
 object_given source name content given named is =
-    ap (object_by source) is.is
+    ap (object_set_or_refusal source) is.is
     ∙ (λ i. Ok (record { name = sym named i; content = sym is.made_is i }))
 
 -- the source is refused
 refused_by :
     (source : List ℕ) (given : Result Assembly AlmFault) (f : AlmFault) (r : Refusal)
-    → given ≡ Err f → refusing.Refuses r (source_refused source f) → refusing.Gives (Err r) (object_by source given)
+    → given ≡ Err f → refusing.IsFaultOf r (source_refused source f) → refusing.Gives (Err r) (object_set_or_refusal source given)
 refused_by source given f r is refuses =
-    gives_by Set r (source_refused source f) (object_by source given) (ap (object_by source) is) refuses
+    gives_by Set r (source_refused source f) (object_set_or_refusal source given) (ap (object_set_or_refusal source) is) refuses
 
 pub object_refused :
     (source : List ℕ) (given : Result Assembly AlmFault) (f : AlmFault) (r : Refusal)
-    → Refuses f given → refusing.Refuses r (source_refused source f) → refusing.Gives (Err r) (object_by source given)
+    → IsFaultOf f given → refusing.IsFaultOf r (source_refused source f) → refusing.Gives (Err r) (object_set_or_refusal source given)
 object_refused source given (alm.E1 line column) r is refuses =
     refused_by source given (alm.E1 line column) r is refuses
 object_refused source given (alm.E2 line column) r is refuses =
@@ -77,7 +77,7 @@ object_refused source given (alm.E7 line column) r is refuses =
     refused_by source given (alm.E7 line column) r is refuses
 object_refused source given (alm.E8 line column) r is refuses =
     refused_by source given (alm.E8 line column) r is refuses
-object_refused source given alm.NoMemory r is refuses = memory_given Set r (object_by source given) refuses
+object_refused source given alm.NoMemory r is refuses = memory_given Set r (object_set_or_refusal source given) refuses
 
 pub ruleset giving = (object_given, object_refused)
 

@@ -15,52 +15,52 @@ use Rattle.m36_super.specs.declared.coming.NextEvent.{NextEvent}
 use Rattle.m36_super.specs.declared.coming.NextEvent.TheVariants.{Step, Link, Print}
 use Rattle.m36_super.specs.declared.coming.NextEvent.TheVariants as coming
 use Rattle.m36_super.specs.BootedRun.{Booted, IsLinkTurn, IsConsoleTurn, IsTurnBy, IsTurn, AreTurns}
-use Rattle.m36_super.specs.SuperTurn.{IsQuiet, link_quiet}
+use Rattle.m36_super.specs.SuperTurn.{IsNoService, link_quiet}
 use Rattle.m36_status.specs.declared.status.Status.{Status}
 use Rattle.m36_status.specs.declared.status.Status.TheVariants.{NoMemory}
 use Rattle.m36_program.specs.Goes.{Ends, Goes}
 use Rattle.m36_program.specs.Program.{quiet, Program}
 use Rattle.cmd_folder.specs.declared.finish.Finish.{Finish}
 use Rattle.cmd_folder.specs.declared.finish.Finish.TheVariants.{Over, Limit}
-use Rattle.cmd_folder.specs.RunText.{steps_of, steps_in}
+use Rattle.cmd_folder.specs.RunText.{turn_step_count, turns_step_count}
 use Rattle.cmd_folder.specs.Runs.{IsEvent, Finishes}
 use Rattle.cmd_folder.specs.Runs as runs
 use Rattle.cmd_folder.proofs.TurnLaws.{IsStep, IsLink, step_is, ended_leaves}
-use Rattle.cmd_make.specs.QuietRun.{Ran, ran, after_service, serve_by, serve, run_from}
+use Rattle.cmd_make.specs.QuietRun.{RunSummary, summary_of_run, after_service, serve_event, serve, run_from}
 
 -- The run ended, after these turns.
-pub record HasRun (lib : Library) (taken left : ℕ) (b : Booted) (r : Ran) : Type 0 where
+pub record HasRun (lib : Library) (taken left : ℕ) (b : Booted) (r : RunSummary) : Type 0 where
   pub turns : List Turn
   pub last : Booted
   pub made : runs.Goes lib left b turns last
   pub finishes : Finishes r.how lib left turns last
-  pub steps : r.steps ≡ taken + steps_in turns
+  pub steps : r.steps ≡ taken + turns_step_count turns
   pub regs : r.regs ≡ last.state.regs
 
 -- The run ended, or memory ran out.
-abbrev pub RunBy : Library → ℕ → ℕ → Booted → Result Ran Status → Type 0
+abbrev pub RunBy : Library → ℕ → ℕ → Booted → Result RunSummary Status → Type 0
 RunBy lib taken left b (Ok r) = HasRun lib taken left b r
 RunBy lib taken left b (Err s) = s ≡ NoMemory
 
 -- The program of a run had no events, and one of these results.
 pub record RunGoes (lib : Library) (taken left : ℕ) (b : Booted) (events : List Event)
-    (result : Result Ran Status) : Type 0 where
+    (result : Result RunSummary Status) : Type 0 where
   pub none : events ≡ []
   pub run : RunBy lib taken left b result
 
 -- ---- no turn
 
 none_made : (lib : Library) (left : ℕ) (b : Booted) → runs.Goes lib left b [] b
-unfolding AreTurns steps_in
+unfolding AreTurns turns_step_count
 none_made lib left b = record { turns_are = refl; events = tt; few = omega arith }
 
 -- a run that ends here
 ends_here :
     (lib : Library) (taken left : ℕ) (b later : Booted) (how : Finish) (events : List Event)
-    (result : Result Ran Status)
+    (result : Result RunSummary Status)
     → Finishes how lib left [] b → later.state.regs ≡ b.state.regs
-    → Ends (Ok (ran how taken later)) events result → RunGoes lib taken left b events result
-unfolding steps_in
+    → Ends (Ok (summary_of_run how taken later)) events result → RunGoes lib taken left b events result
+unfolding turns_step_count
 ends_here lib taken left b later how events result finishes regs goes = record {
   none = goes.none;
   run = subst (λ r. RunBy lib taken left b r) (sym goes.result_is) (record {
@@ -77,17 +77,17 @@ ends_here lib taken left b later how events result finishes regs goes = record {
 
 finishes_on :
     (how : Finish) (lib : Library) (left all : ℕ) (told : Turn) (turns : List Turn) (last : Booted)
-    → all ≡ steps_of told + left → Finishes how lib left turns last → Finishes how lib all (told ∷ turns) last
-unfolding steps_in
+    → all ≡ turn_step_count told + left → Finishes how lib left turns last → Finishes how lib all (told ∷ turns) last
+unfolding turns_step_count
 finishes_on (Over e) lib left all told turns last is finishes = finishes
 finishes_on Limit lib left all told turns last is finishes =
-    (ap (λ n. steps_of told + n) finishes.0 ∙ sym is, finishes.1)
+    (ap (λ n. turn_step_count told + n) finishes.0 ∙ sym is, finishes.1)
 
 made_first :
     (lib : Library) (left all : ℕ) (b after : Booted) (told : Turn) (turns : List Turn) (last : Booted)
-    → IsTurn lib b told after → IsEvent told → all ≡ steps_of told + left → runs.Goes lib left after turns last
+    → IsTurn lib b told after → IsEvent told → all ≡ turn_step_count told + left → runs.Goes lib left after turns last
     → runs.Goes lib all b (told ∷ turns) last
-unfolding AreTurns steps_in
+unfolding AreTurns turns_step_count
 made_first lib left all b after told turns last is event all_is rest =
     let few = rest.few in record {
       turns_are = (after, is, rest.turns_are);
@@ -96,13 +96,13 @@ made_first lib left all b after told turns last is event all_is rest =
     }
 
 run_first :
-    (lib : Library) (taken now left all : ℕ) (b after : Booted) (told : Turn) (result : Result Ran Status)
-    → IsTurn lib b told after → IsEvent told → all ≡ steps_of told + left → now ≡ taken + steps_of told
+    (lib : Library) (taken now left all : ℕ) (b after : Booted) (told : Turn) (result : Result RunSummary Status)
+    → IsTurn lib b told after → IsEvent told → all ≡ turn_step_count told + left → now ≡ taken + turn_step_count told
     → RunBy lib now left after result → RunBy lib taken all b result
-unfolding steps_in
+unfolding turns_step_count
 run_first lib taken now left all b after told (Ok r) is event all_is now_is run =
-    let steps = steps_in run.turns in
-    let count : now + steps ≡ taken + (steps_of told + steps) = omega (arith, now_is) in
+    let steps = turns_step_count run.turns in
+    let count : now + steps ≡ taken + (turn_step_count told + steps) = omega (arith, now_is) in
     record {
       turns = told ∷ run.turns;
       last = run.last;
@@ -115,8 +115,8 @@ run_first lib taken now left all b after told (Err s) is event all_is now_is mem
 
 turn_goes :
     (lib : Library) (taken now left all : ℕ) (b after : Booted) (told : Turn) (events : List Event)
-    (result : Result Ran Status)
-    → IsTurn lib b told after → IsEvent told → all ≡ steps_of told + left → now ≡ taken + steps_of told
+    (result : Result RunSummary Status)
+    → IsTurn lib b told after → IsEvent told → all ≡ turn_step_count told + left → now ≡ taken + turn_step_count told
     → RunGoes lib now left after events result → RunGoes lib taken all b events result
 turn_goes lib taken now left all b after told events result is event all_is now_is goes = record {
   none = goes.none;
@@ -139,7 +139,7 @@ step_event (turn.Ended e) is = absurd is
 step_event turn.Full is = absurd is
 step_event turn.NoMemory is = absurd is
 
-pub step_counts : (told : Turn) → IsStep told → steps_of told ≡ 1
+pub step_counts : (told : Turn) → IsStep told → turn_step_count told ≡ 1
 step_counts (turn.Stepped told) is = refl
 step_counts (turn.Linked note) is = absurd is
 step_counts (turn.Console text) is = absurd is
@@ -150,8 +150,8 @@ step_counts turn.NoMemory is = absurd is
 -- A service was performed, and the run continues or ends.
 pub record IsServiceMade (told : Turn) (next : NextEvent) : Type 0 where
   pub event : IsEvent told
-  pub counts : steps_of told ≡ 0
-  pub silent : IsQuiet next
+  pub counts : turn_step_count told ≡ 0
+  pub silent : IsNoService next
 
 pub linked_made :
     (answer : Result SnapFields RefusedFields) (frames : ℕ) (at : AtFields) (before : Booted) (told : Turn)
@@ -184,8 +184,8 @@ printed :
     (text : List ℕ) (told : Turn) (next : NextEvent) → told ≡ turn.Console text → next ≡ Step → IsServiceMade told next
 printed text told next told_is next_is = record {
   event = subst IsEvent (sym told_is) tt;
-  counts = ap steps_of told_is;
-  silent = subst IsQuiet (sym next_is) tt;
+  counts = ap turn_step_count told_is;
+  silent = subst IsNoService (sym next_is) tt;
 }
 
 pub print_made :
@@ -203,14 +203,14 @@ print_made false (Ok text) before told after is =
 -- The program that follows a step or a service goes as a run.
 abbrev GoesOn : Library → ℕ → ℕ → Type 0
 GoesOn lib taken left =
-    (b : Booted) (events : List Event) (result : Result Ran Status)
+    (b : Booted) (events : List Event) (result : Result RunSummary Status)
     → b.coming ≡ Step → Goes (run_from lib taken left b) events result → RunGoes lib taken left b events result
 
-abbrev then_by : NextEvent → Library → ℕ → ℕ → Booted → Program quiet Ran
+abbrev then_by : NextEvent → Library → ℕ → ℕ → Booted → Program quiet RunSummary
 then_by next lib taken left b = after_service next taken (λ b. run_from lib taken left b) b
 
-abbrev served_by : NextEvent → Library → ℕ → ℕ → Booted → Program quiet Ran
-served_by next lib taken left b = serve_by next lib taken (λ b. run_from lib taken left b) b
+abbrev served_by : NextEvent → Library → ℕ → ℕ → Booted → Program quiet RunSummary
+served_by next lib taken left b = serve_event next lib taken (λ b. run_from lib taken left b) b
 
 over_turn : (lib : Library) (b : Booted) (e : End) → b.coming ≡ coming.Over e → IsTurn lib b (turn.Ended e) b
 unfolding IsTurn
@@ -218,8 +218,8 @@ over_turn lib b e is = subst (λ c. IsTurnBy c lib b (turn.Ended e) b) (sym is) 
 
 -- what follows a service
 after_goes :
-    (next : NextEvent) (lib : Library) (taken left : ℕ) (b : Booted) (events : List Event) (result : Result Ran Status)
-    → GoesOn lib taken left → IsQuiet next → b.coming ≡ next
+    (next : NextEvent) (lib : Library) (taken left : ℕ) (b : Booted) (events : List Event) (result : Result RunSummary Status)
+    → GoesOn lib taken left → IsNoService next → b.coming ≡ next
     → Goes (then_by next lib taken left b) events result → RunGoes lib taken left b events result
 unfolding Goes
 after_goes Step lib taken left b events result on silent is goes = on b events result is goes
@@ -230,7 +230,7 @@ after_goes (coming.Over e) lib taken left b events result on silent is goes =
 
 -- a service was made
 service_goes :
-    (lib : Library) (taken left : ℕ) (b after : Booted) (told : Turn) (events : List Event) (result : Result Ran Status)
+    (lib : Library) (taken left : ℕ) (b after : Booted) (told : Turn) (events : List Event) (result : Result RunSummary Status)
     → GoesOn lib taken left → IsTurn lib b told after → IsServiceMade told after.coming
     → Goes (then_by after.coming lib taken left after) events result → RunGoes lib taken left b events result
 service_goes lib taken left b after told events result on is made goes =
@@ -240,7 +240,7 @@ service_goes lib taken left b after told events result on is made goes =
     (after_goes after.coming lib taken left after events result on made.silent refl goes)
 
 print_goes :
-    (lib : Library) (taken left : ℕ) (b after : Booted) (told : Turn) (events : List Event) (result : Result Ran Status)
+    (lib : Library) (taken left : ℕ) (b after : Booted) (told : Turn) (events : List Event) (result : Result RunSummary Status)
     → GoesOn lib taken left → IsTurn lib b told after → PrintMade told after.coming
     → Goes (then_by after.coming lib taken left after) events result → RunGoes lib taken left b events result
 unfolding Goes
@@ -255,7 +255,7 @@ print_goes lib taken left b after told events result on is (inr over) goes =
 
 -- memory ran out for a link service
 no_memory_here :
-    (lib : Library) (taken left : ℕ) (b : Booted) (events : List Event) (result : Result Ran Status)
+    (lib : Library) (taken left : ℕ) (b : Booted) (events : List Event) (result : Result RunSummary Status)
     → Ends (Err NoMemory) events result → RunGoes lib taken left b events result
 no_memory_here lib taken left b events result ends = record {
   none = ends.none;
@@ -263,7 +263,7 @@ no_memory_here lib taken left b events result ends = record {
 }
 
 link_goes :
-    (lib : Library) (taken left : ℕ) (b : Booted) (at : AtFields) (events : List Event) (result : Result Ran Status)
+    (lib : Library) (taken left : ℕ) (b : Booted) (at : AtFields) (events : List Event) (result : Result RunSummary Status)
     → GoesOn lib taken left → b.coming ≡ Link at
     → Goes (served_by (Link at) lib taken left b) events result → RunGoes lib taken left b events result
 unfolding Goes IsTurn
@@ -278,7 +278,7 @@ link_goes lib taken left b at events result on is (inr ends) =
     no_memory_here lib taken left b events result ends
 
 print_serves :
-    (lib : Library) (taken left : ℕ) (b : Booted) (events : List Event) (result : Result Ran Status)
+    (lib : Library) (taken left : ℕ) (b : Booted) (events : List Event) (result : Result RunSummary Status)
     → GoesOn lib taken left → b.coming ≡ Print
     → Goes (served_by Print lib taken left b) events result → RunGoes lib taken left b events result
 unfolding Goes IsTurn
@@ -289,7 +289,7 @@ print_serves lib taken left b events result on is goes =
     (print_made _ _ b goes.value.turn goes.value.after turns) goes.rest
 
 serves_by :
-    (next : NextEvent) (lib : Library) (taken left : ℕ) (b : Booted) (events : List Event) (result : Result Ran Status)
+    (next : NextEvent) (lib : Library) (taken left : ℕ) (b : Booted) (events : List Event) (result : Result RunSummary Status)
     → GoesOn lib taken left → b.coming ≡ next
     → Goes (served_by next lib taken left b) events result → RunGoes lib taken left b events result
 unfolding Goes
@@ -300,7 +300,7 @@ serves_by (coming.Over e) lib taken left b events result on is goes =
     ends_here lib taken left b b (Over e) events result (b, over_turn lib b e is) refl goes
 
 serve_goes :
-    (lib : Library) (taken left : ℕ) (b : Booted) (events : List Event) (result : Result Ran Status)
+    (lib : Library) (taken left : ℕ) (b : Booted) (events : List Event) (result : Result RunSummary Status)
     → GoesOn lib taken left → Goes (serve lib taken (λ b. run_from lib taken left b) b) events result
     → RunGoes lib taken left b events result
 unfolding serve
@@ -309,7 +309,7 @@ serve_goes lib taken left b events result on goes = serves_by b.coming lib taken
 -- ---- the run
 
 step_goes :
-    (lib : Library) (taken left : ℕ) (b after : Booted) (told : Turn) (events : List Event) (result : Result Ran Status)
+    (lib : Library) (taken left : ℕ) (b after : Booted) (told : Turn) (events : List Event) (result : Result RunSummary Status)
     → GoesOn lib (taken + 1) left → b.coming ≡ Step → IsTurn lib b told after
     → Goes (serve lib (taken + 1) (λ b. run_from lib (taken + 1) left b) after) events result
     → RunGoes lib taken (suc left) b events result
@@ -321,7 +321,7 @@ step_goes lib taken left b after told events result on next is goes =
     (serve_goes lib (taken + 1) left after events result on goes)
 
 pub run_goes : (lib : Library) (left taken : ℕ) → GoesOn lib taken left
-unfolding Goes run_from steps_in
+unfolding Goes run_from turns_step_count
 run_goes lib zero taken b events result next goes = ends_here lib taken 0 b b Limit events result (refl, next) refl goes
 run_goes lib (suc left) taken b events result next goes =
     step_goes lib taken left b goes.value.after goes.value.turn events result

@@ -11,21 +11,21 @@ use Rattle.m36_super.specs.declared.coming.NextEvent.{NextEvent}
 use Rattle.m36_super.specs.declared.coming.NextEvent.TheVariants.{Step, Link, Print}
 use Rattle.m36_super.specs.declared.coming.NextEvent.TheVariants as coming
 use Rattle.m36_super.specs.BootedRun.{Booted, IsTurnBy, IsTurn, AreTurns}
-use Rattle.m36_super.specs.SuperTurn.{IsQuiet}
+use Rattle.m36_super.specs.SuperTurn.{IsNoService}
 use Rattle.m36_program.specs.Goes.{Goes}
 use Rattle.m36_program.specs.Program.{quiet, Program}
 use Rattle.m36_program.proofs.Performing.{goes_done}
 use Rattle.cmd_folder.specs.declared.finish.Finish.{Finish}
 use Rattle.cmd_folder.specs.declared.finish.Finish.TheVariants.{Over, Limit}
-use Rattle.cmd_folder.specs.RunText.{steps_of, steps_in}
+use Rattle.cmd_folder.specs.RunText.{turn_step_count, turns_step_count}
 use Rattle.cmd_folder.specs.Runs.{IsEvent, Finishes}
 use Rattle.cmd_folder.proofs.TurnLaws.{link_is}
-use Rattle.cmd_make.specs.QuietRun.{Ran, ran, after_service, serve_by, serve, run_from}
+use Rattle.cmd_make.specs.QuietRun.{RunSummary, summary_of_run, after_service, serve_event, serve, run_from}
 use Rattle.cmd_make.proofs.RunGoes.{is_step, step_counts, IsServiceMade, linked_made, PrintMade, print_made}
 
 -- The program ends with a value, without an event.
-abbrev pub Gone : Program quiet Ran → Type 0
-Gone p = (r : Ran) × Goes p [] (Ok r)
+abbrev pub Gone : Program quiet RunSummary → Type 0
+Gone p = (r : RunSummary) × Goes p [] (Ok r)
 
 -- Some turns from state b are a run that ends, with at most `left` steps.
 pub record RunsOn (how : Finish) (lib : Library) (left : ℕ) (b : Booted) (turns : List Turn)
@@ -45,12 +45,12 @@ Ends how lib taken left last =
 -- after one that counts so many steps
 finishes_left :
     (how : Finish) (lib : Library) (left all : ℕ) (told : Turn) (turns : List Turn) (last : Booted)
-    → all ≡ steps_of told + left → Finishes how lib all (told ∷ turns) last → Finishes how lib left turns last
-unfolding steps_in
+    → all ≡ turn_step_count told + left → Finishes how lib all (told ∷ turns) last → Finishes how lib left turns last
+unfolding turns_step_count
 finishes_left (Over e) lib left all told turns last is finishes = finishes
 finishes_left Limit lib left all told turns last is finishes =
     let steps = finishes.0 in
-    let count : steps_in turns ≡ left = omega (arith, is, steps) in
+    let count : turns_step_count turns ≡ left = omega (arith, is, steps) in
     (count, finishes.1)
 
 -- the first turn, and the others
@@ -59,7 +59,7 @@ pub record FirstTurn (how : Finish) (lib : Library) (all : ℕ) (b : Booted) (to
   pub mid : Booted
   pub is : IsTurn lib b told mid
   pub event : IsEvent told
-  pub on : (left : ℕ) → all ≡ steps_of told + left → RunsOn how lib left mid turns last
+  pub on : (left : ℕ) → all ≡ turn_step_count told + left → RunsOn how lib left mid turns last
 
 first_turn :
     (how : Finish) (lib : Library) (all : ℕ) (b : Booted) (told : Turn) (turns : List Turn) (last : Booted)
@@ -85,21 +85,21 @@ none_left how lib left b last runs = subst (λ l. Finishes how lib left [] l) ru
 
 -- ---- after a service
 
-abbrev then_by : NextEvent → Library → ℕ → ℕ → Booted → Program quiet Ran
+abbrev then_by : NextEvent → Library → ℕ → ℕ → Booted → Program quiet RunSummary
 then_by next lib taken left b = after_service next taken (λ b. run_from lib taken left b) b
 
-abbrev served_by : NextEvent → Library → ℕ → ℕ → Booted → Program quiet Ran
-served_by next lib taken left b = serve_by next lib taken (λ b. run_from lib taken left b) b
+abbrev served_by : NextEvent → Library → ℕ → ℕ → Booted → Program quiet RunSummary
+served_by next lib taken left b = serve_event next lib taken (λ b. run_from lib taken left b) b
 
 after_gone :
     (next : NextEvent) (how : Finish) (lib : Library) (taken left : ℕ) (b : Booted) (turns : List Turn) (last : Booted)
-    → Ends how lib taken left last → IsQuiet next → b.coming ≡ next → RunsOn how lib left b turns last
+    → Ends how lib taken left last → IsNoService next → b.coming ≡ next → RunsOn how lib left b turns last
     → Gone (then_by next lib taken left b)
 after_gone Step how lib taken left b turns last on silent is runs = on b turns is runs
 after_gone (Link at) how lib taken left b turns last on silent is runs = absurd silent
 after_gone Print how lib taken left b turns last on silent is runs = absurd silent
 after_gone (coming.Over e) how lib taken left b turns last on silent is runs =
-    (ran (Over e) taken b, goes_done quiet (ran (Over e) taken b))
+    (summary_of_run (Over e) taken b, goes_done quiet (summary_of_run (Over e) taken b))
 
 -- a console service that ended the run
 over_gone :
@@ -107,7 +107,7 @@ over_gone :
     → Gone (then_by b.coming lib taken left b)
 over_gone lib taken left b e is =
     subst (λ (c : NextEvent). Gone (then_by c lib taken left b)) (sym is)
-    (ran (Over e) taken b, goes_done quiet (ran (Over e) taken b))
+    (summary_of_run (Over e) taken b, goes_done quiet (summary_of_run (Over e) taken b))
 
 -- ---- services
 
@@ -211,7 +211,7 @@ serves_gone (Link at) how lib taken left b turns last on is runs =
     link_gone how lib taken left b turns last at on is runs
 serves_gone Print how lib taken left b turns last on is runs = print_gone how lib taken left b turns last on is runs
 serves_gone (coming.Over e) how lib taken left b turns last on is runs =
-    (ran (Over e) taken b, goes_done quiet (ran (Over e) taken b))
+    (summary_of_run (Over e) taken b, goes_done quiet (summary_of_run (Over e) taken b))
 
 serve_gone :
     (how : Finish) (lib : Library) (taken left : ℕ) (b : Booted) (turns : List Turn) (last : Booted)
@@ -225,13 +225,13 @@ serve_gone how lib taken left b turns last on runs = serves_gone b.coming how li
 -- No run ends before a step if one is left.
 step_left :
     (how : Finish) (lib : Library) (left : ℕ) (b : Booted) → b.coming ≡ Step → Finishes how lib (suc left) [] b → ⊥
-unfolding steps_in
+unfolding turns_step_count
 step_left (Over e) lib left b is ends = is_step lib b ends.0 (turn.Ended e) is ends.1
 step_left Limit lib left b is ends = let none = ends.0 in absurd (omega (arith, none))
 
 run_gone : (how : Finish) (lib : Library) (left taken : ℕ) (last : Booted) → Ends how lib taken left last
 unfolding Goes run_from
-run_gone how lib zero taken last b turns is runs = (ran Limit taken b, record { none = refl; result_is = refl })
+run_gone how lib zero taken last b turns is runs = (summary_of_run Limit taken b, record { none = refl; result_is = refl })
 run_gone how lib (suc left) taken last b [] is runs =
     absurd (step_left how lib left b is (none_left how lib (suc left) b last runs))
 run_gone how lib (suc left) taken last b (told ∷ turns) is runs =

@@ -10,72 +10,72 @@ use Rattle.m36_program.specs.Goes.{Goes}
 use Rattle.m36_program.specs.Program.{quiet, Program, done}
 use Rattle.m36_program.proofs.Performing.{goes_done}
 use Rattle.cmd_folder.specs.declared.finish.Finish.TheVariants.{Over, Limit}
-use Rattle.cmd_make.specs.QuietRun.{Ran, ran, run_from}
-use Rattle.cmd_make.specs.RunSays.{IsLeft, from_step, GoesOn, IsOver, HasNoMemory}
+use Rattle.cmd_make.specs.QuietRun.{RunSummary, summary_of_run, run_from}
+use Rattle.cmd_make.specs.RunSays.{IsRestOf, rest_from_step, GoesOn, RunIsOver, RunsOutOfMemory}
 
 -- what is left of a run
-abbrev pub Left : Library → ℕ → ℕ → SuperFields → Program quiet Ran → Type 0
-Left lib taken left now first = IsLeft (run_from lib taken left (booted_of now)) first
+abbrev pub Left : Library → ℕ → ℕ → SuperFields → Program quiet RunSummary → Type 0
+Left lib taken left now first = IsRestOf (run_from lib taken left (booted_of now)) first
 
 run_step :
-    (lib : Library) (taken left : ℕ) (b : Booted) → run_from lib taken (suc left) b ≡ from_step lib b (taken + 1) left
+    (lib : Library) (taken left : ℕ) (b : Booted) → run_from lib taken (suc left) b ≡ rest_from_step lib b (taken + 1) left
 unfolding run_from
 run_step lib taken left b = refl
 
 -- if at least one step is left
 one_left :
     (lib : Library) (taken left : ℕ) (b : Booted) → 0 < left
-    → run_from lib taken left b ≡ from_step lib b (taken + 1) (left - 1)
+    → run_from lib taken left b ≡ rest_from_step lib b (taken + 1) (left - 1)
 one_left lib taken left b more =
     let e : left ≡ suc (left - 1) = omega arith in
     ap (λ n. run_from lib taken n b) e ∙ run_step lib taken (left - 1) b
 
 -- a step was taken, and the rest of the program reached this result
 step_gone :
-    (lib : Library) (taken left : ℕ) (now : SuperFields) (first : Program quiet Ran) (result : Result Ran Status)
-    → Left lib taken left now first → 0 < left → Goes (from_step lib (booted_of now) (taken + 1) (left - 1)) [] result
+    (lib : Library) (taken left : ℕ) (now : SuperFields) (first : Program quiet RunSummary) (result : Result RunSummary Status)
+    → Left lib taken left now first → 0 < left → Goes (rest_from_step lib (booted_of now) (taken + 1) (left - 1)) [] result
     → Goes first [] result
 step_gone lib taken left now first result so_far more goes =
     so_far result (subst (λ p. Goes p [] result) (sym (one_left lib taken left (booted_of now) more)) goes)
 
 pub run_next :
-    (lib : Library) (taken left : ℕ) (now later : SuperFields) (first : Program quiet Ran)
+    (lib : Library) (taken left : ℕ) (now later : SuperFields) (first : Program quiet RunSummary)
     → Left lib taken left now first → 0 < left → now.lib ≡ lib
-    → GoesOn now.lib (from_step now.lib (booted_of now)) later
+    → GoesOn now.lib (rest_from_step now.lib (booted_of now)) later
     → Left lib (taken + 1) (left - 1) later first
 run_next lib taken left now later first so_far more same goes result rest =
-    let on = subst (λ l. GoesOn l (from_step l (booted_of now)) later) same goes in
+    let on = subst (λ l. GoesOn l (rest_from_step l (booted_of now)) later) same goes in
     step_gone lib taken left now first result so_far more (on.leads (taken + 1) (left - 1) result rest)
 
 pub run_over :
-    (e : End) (lib : Library) (taken left : ℕ) (now later : SuperFields) (first : Program quiet Ran)
+    (e : End) (lib : Library) (taken left : ℕ) (now later : SuperFields) (first : Program quiet RunSummary)
     → Left lib taken left now first → 0 < left → now.lib ≡ lib
-    → IsOver e (from_step now.lib (booted_of now)) later
-    → Goes first [] (Ok (ran (Over e) (taken + 1) (booted_of later)))
+    → RunIsOver e (rest_from_step now.lib (booted_of now)) later
+    → Goes first [] (Ok (summary_of_run (Over e) (taken + 1) (booted_of later)))
 run_over e lib taken left now later first so_far more same over =
-    let on = subst (λ l. IsOver e (from_step l (booted_of now)) later) same over in
-    step_gone lib taken left now first (Ok (ran (Over e) (taken + 1) (booted_of later))) so_far more
+    let on = subst (λ l. RunIsOver e (rest_from_step l (booted_of now)) later) same over in
+    step_gone lib taken left now first (Ok (summary_of_run (Over e) (taken + 1) (booted_of later))) so_far more
     (on.goes (taken + 1) (left - 1))
 
 pub run_starves :
-    (lib : Library) (taken left : ℕ) (now : SuperFields) (first : Program quiet Ran)
+    (lib : Library) (taken left : ℕ) (now : SuperFields) (first : Program quiet RunSummary)
     → Left lib taken left now first → 0 < left → now.lib ≡ lib
-    → HasNoMemory (from_step now.lib (booted_of now))
+    → RunsOutOfMemory (rest_from_step now.lib (booted_of now))
     → Goes first [] (Err NoMemory)
 run_starves lib taken left now first so_far more same starves =
-    let on = subst (λ l. HasNoMemory (from_step l (booted_of now))) same starves in
+    let on = subst (λ l. RunsOutOfMemory (rest_from_step l (booted_of now))) same starves in
     step_gone lib taken left now first (Err NoMemory) so_far more (on.goes (taken + 1) (left - 1))
 
 run_none :
-    (lib : Library) (taken left : ℕ) (b : Booted) → left ≡ 0 → run_from lib taken left b ≡ done (ran Limit taken b)
+    (lib : Library) (taken left : ℕ) (b : Booted) → left ≡ 0 → run_from lib taken left b ≡ done (summary_of_run Limit taken b)
 unfolding run_from
 run_none lib taken left b none = ap (λ n. run_from lib taken n b) none
 
 pub run_limit :
-    (lib : Library) (taken left : ℕ) (now : SuperFields) (first : Program quiet Ran)
-    → Left lib taken left now first → left ≡ 0 → Goes first [] (Ok (ran Limit taken (booted_of now)))
+    (lib : Library) (taken left : ℕ) (now : SuperFields) (first : Program quiet RunSummary)
+    → Left lib taken left now first → left ≡ 0 → Goes first [] (Ok (summary_of_run Limit taken (booted_of now)))
 run_limit lib taken left now first so_far none =
-    let result : Result Ran Status = Ok (ran Limit taken (booted_of now)) in
+    let result : Result RunSummary Status = Ok (summary_of_run Limit taken (booted_of now)) in
     so_far result
     (subst (λ p. Goes p [] result) (sym (run_none lib taken left (booted_of now) none))
-    (goes_done quiet (ran Limit taken (booted_of now))))
+    (goes_done quiet (summary_of_run Limit taken (booted_of now))))

@@ -19,23 +19,23 @@ use Rattle.m36_program.specs.Program.{quiet, Program, some}
 use Rattle.m36_program.proofs.Performing.{goes_done, goes_some, goes_wants, goes_no_memory}
 use Rattle.cmd_folder.specs.declared.finish.Finish.TheVariants as finish
 use Rattle.cmd_folder.proofs.TurnLaws.{turn_prints, link_behind, print_behind}
-use Rattle.cmd_folder.specs.RunProgram.{Made, IsMade, FindsMemory}
+use Rattle.cmd_folder.specs.RunProgram.{TurnAndState, IsPossibleTurn, FindsMemory}
 use Rattle.cmd_folder.proofs.Serving.{print_over}
 use Rattle.cmd_make.specs.declared.running.AfterTurn.{AfterTurn}
 use Rattle.cmd_make.specs.declared.running.AfterTurn.TheVariants as after
-use Rattle.cmd_make.specs.QuietRun.{Ran, ran, after_service, then_on, serve_by, serve, run_from}
-use Rattle.cmd_make.specs.RunSays.{IsLeft, from_step, from_service, TurnSays, LinkBefore}
+use Rattle.cmd_make.specs.QuietRun.{RunSummary, summary_of_run, after_service, continue_after_service, serve_event, serve, run_from}
+use Rattle.cmd_make.specs.RunSays.{IsRestOf, rest_from_step, rest_from_service, TurnResult, MatchesNextEvent}
 
 -- the program of what follows a step
-abbrev served : Library → ℕ → ℕ → Booted → Program quiet Ran
+abbrev served : Library → ℕ → ℕ → Booted → Program quiet RunSummary
 served lib taken left b = serve lib taken (λ b. run_from lib taken left b) b
 
 -- the program after a step, by what is next
-abbrev served_by : NextEvent → Library → ℕ → ℕ → Booted → Program quiet Ran
-served_by coming lib taken left b = serve_by coming lib taken (λ b. run_from lib taken left b) b
+abbrev served_by : NextEvent → Library → ℕ → ℕ → Booted → Program quiet RunSummary
+served_by coming lib taken left b = serve_event coming lib taken (λ b. run_from lib taken left b) b
 
 -- the program after a service, by what is next
-abbrev then_by : NextEvent → Library → ℕ → ℕ → Booted → Program quiet Ran
+abbrev then_by : NextEvent → Library → ℕ → ℕ → Booted → Program quiet RunSummary
 then_by coming lib taken left b = after_service coming taken (λ b. run_from lib taken left b) b
 
 serve_is :
@@ -49,10 +49,10 @@ serve_is coming lib taken left b is = ap (λ c. served_by c lib taken left b) is
 link_as :
     (lib : Library) (taken left : ℕ) (b later : Booted) (note : LinkNoteFields) (at : AtFields)
     → b.coming ≡ Link at → IsTurn lib b (turn.Linked note) later
-    → IsLeft (then_by later.coming lib taken left later) (served lib taken left b)
+    → IsRestOf (then_by later.coming lib taken left later) (served lib taken left b)
 link_as lib taken left b later note at is turns result goes =
-    let made : Made = record { turn = turn.Linked note; after = later } in
-    let go = then_on taken (λ b. run_from lib taken left b) in
+    let made : TurnAndState = record { turn = turn.Linked note; after = later } in
+    let go = continue_after_service taken (λ b. run_from lib taken left b) in
     subst (λ p. Goes p [] result) (sym (serve_is (Link at) lib taken left b is))
     (goes_wants (some (FindsMemory lib b) go) [] result
     (goes_some (FindsMemory lib b) go made [] result (record { is = turns; found = λ e. cc }) goes))
@@ -60,41 +60,41 @@ link_as lib taken left b later note at is turns result goes =
 print_as :
     (lib : Library) (taken left : ℕ) (b later : Booted) (told : Turn)
     → b.coming ≡ Print → IsTurn lib b told later
-    → IsLeft (then_by later.coming lib taken left later) (served lib taken left b)
+    → IsRestOf (then_by later.coming lib taken left later) (served lib taken left b)
 print_as lib taken left b later told is turns result goes =
-    let made : Made = record { turn = told; after = later } in
-    let go = then_on taken (λ b. run_from lib taken left b) in
+    let made : TurnAndState = record { turn = told; after = later } in
+    let go = continue_after_service taken (λ b. run_from lib taken left b) in
     subst (λ p. Goes p [] result) (sym (serve_is Print lib taken left b is))
-    (goes_some (IsMade lib b) go made [] result turns goes)
+    (goes_some (IsPossibleTurn lib b) go made [] result turns goes)
 
 step_as :
     (lib : Library) (taken left : ℕ) (b later : Booted) (told : Turn)
-    → IsTurn lib b told later → IsLeft (served lib taken left later) (from_step lib b taken left)
+    → IsTurn lib b told later → IsRestOf (served lib taken left later) (rest_from_step lib b taken left)
 step_as lib taken left b later told turns result goes =
-    goes_some (IsMade lib b) (λ made. served lib taken left made.after)
+    goes_some (IsPossibleTurn lib b) (λ made. served lib taken left made.after)
     (record { turn = told; after = later }) [] result turns goes
 
 -- ---- by what is next after it
 
 then_next :
     (lib : Library) (taken left : ℕ) (b later : Booted)
-    → later.coming ≡ Step → IsLeft (then_by later.coming lib taken left later) (served lib taken left b)
-    → IsLeft (run_from lib taken left later) (served lib taken left b)
+    → later.coming ≡ Step → IsRestOf (then_by later.coming lib taken left later) (served lib taken left b)
+    → IsRestOf (run_from lib taken left later) (served lib taken left b)
 then_next lib taken left b later is on result goes =
     on result (subst (λ c. Goes (then_by c lib taken left later) [] result) (sym is) goes)
 
 then_over :
     (lib : Library) (taken left : ℕ) (b later : Booted) (e : End)
-    → later.coming ≡ Over e → IsLeft (then_by later.coming lib taken left later) (served lib taken left b)
-    → Goes (served lib taken left b) [] (Ok (ran (finish.Over e) taken later))
+    → later.coming ≡ Over e → IsRestOf (then_by later.coming lib taken left later) (served lib taken left b)
+    → Goes (served lib taken left b) [] (Ok (summary_of_run (finish.Over e) taken later))
 then_over lib taken left b later e is on =
-    let result : Result Ran Status = Ok (ran (finish.Over e) taken later) in
+    let result : Result RunSummary Status = Ok (summary_of_run (finish.Over e) taken later) in
     on result (subst (λ c. Goes (then_by c lib taken left later) [] result) (sym is)
-    (goes_done quiet (ran (finish.Over e) taken later)))
+    (goes_done quiet (summary_of_run (finish.Over e) taken later)))
 
 -- ---- services
 
-pub serve_none : (s : SuperFields) → s.coming ≡ Step → TurnSays after.Next s.lib (from_service s.lib (booted_of s)) s
+pub serve_none : (s : SuperFields) → s.coming ≡ Step → TurnResult after.Next s.lib (rest_from_service s.lib (booted_of s)) s
 serve_none s is = record {
   leads = λ taken left result goes.
       subst (λ p. Goes p [] result) (sym (serve_is Step s.lib taken left (booted_of s) is)) goes;
@@ -104,28 +104,28 @@ serve_none s is = record {
 
 pub serve_over :
     (s : SuperFields) (e : End) → s.coming ≡ Over e
-    → TurnSays (after.Ended e) s.lib (from_service s.lib (booted_of s)) s
+    → TurnResult (after.Ended e) s.lib (rest_from_service s.lib (booted_of s)) s
 serve_over s e is = record {
   goes = λ taken left.
-      subst (λ p. Goes p [] (Ok (ran (finish.Over e) taken (booted_of s))))
+      subst (λ p. Goes p [] (Ok (summary_of_run (finish.Over e) taken (booted_of s))))
       (sym (serve_is (Over e) s.lib taken left (booted_of s) is))
-      (goes_done quiet (ran (finish.Over e) taken (booted_of s)));
+      (goes_done quiet (summary_of_run (finish.Over e) taken (booted_of s)));
 }
 
 pub link_starves :
     (before later : SuperFields) (at : AtFields)
-    → before.coming ≡ Link at → TurnSays after.NoMemory before.lib (from_service before.lib (booted_of before)) later
+    → before.coming ≡ Link at → TurnResult after.NoMemory before.lib (rest_from_service before.lib (booted_of before)) later
 link_starves before later at is = record {
   goes = λ taken left.
       subst (λ p. Goes p [] (Err NoMemory)) (sym (serve_is (Link at) before.lib taken left (booted_of before) is))
       (goes_no_memory (some (FindsMemory before.lib (booted_of before))
-      (then_on taken (λ b. run_from before.lib taken left b))));
+      (continue_after_service taken (λ b. run_from before.lib taken left b))));
 }
 
 pub link_goes :
     (p : AfterTurn) (before later : SuperFields) (note : LinkNoteFields) (at : AtFields)
-    → before.coming ≡ Link at → SuperTurns before (turn.Linked note) later → LinkBefore p later.coming
-    → TurnSays p before.lib (from_service before.lib (booted_of before)) later
+    → before.coming ≡ Link at → SuperTurns before (turn.Linked note) later → MatchesNextEvent p later.coming
+    → TurnResult p before.lib (rest_from_service before.lib (booted_of before)) later
 link_goes after.Next before later note at is turns next = record {
   leads = λ taken left.
       then_next before.lib taken left (booted_of before) (booted_of later) next
@@ -143,7 +143,7 @@ link_goes after.NoMemory before later note at is turns next = absurd next
 pub print_goes :
     (before later : SuperFields) (told : List ℕ)
     → before.coming ≡ Print → SuperTurns before (turn.Console told) later
-    → TurnSays after.Next before.lib (from_service before.lib (booted_of before)) later
+    → TurnResult after.Next before.lib (rest_from_service before.lib (booted_of before)) later
 print_goes before later told is turns =
     let next : later.coming ≡ Step = print_behind before later told is turns in record {
       leads = λ taken left.
@@ -156,7 +156,7 @@ print_goes before later told is turns =
 pub print_ends :
     (before later : SuperFields) (e : End)
     → before.coming ≡ Print → SuperTurns before (turn.Ended e) later
-    → TurnSays (after.Ended e) before.lib (from_service before.lib (booted_of before)) later
+    → TurnResult (after.Ended e) before.lib (rest_from_service before.lib (booted_of before)) later
 print_ends before later e is turns = record {
   goes = λ taken left.
       then_over before.lib taken left (booted_of before) (booted_of later) e
@@ -171,8 +171,8 @@ pub ruleset services =
 
 step_on :
     (p : AfterTurn) (lib : Library) (b : Booted) (mid later : SuperFields) (told : StepRecord)
-    → IsTurn lib b (turn.Stepped told) (booted_of mid) → TurnSays p lib (from_service lib (booted_of mid)) later
-    → TurnSays p lib (from_step lib b) later
+    → IsTurn lib b (turn.Stepped told) (booted_of mid) → TurnResult p lib (rest_from_service lib (booted_of mid)) later
+    → TurnResult p lib (rest_from_step lib b) later
 step_on after.Next lib b mid later told turns says = record {
   leads = λ taken left result goes.
       step_as lib taken left b (booted_of mid) (turn.Stepped told) turns result (says.leads taken left result goes);
@@ -188,8 +188,8 @@ step_on after.NoMemory lib b mid later told turns says = record {
 
 pub step_goes :
     (p : AfterTurn) (before mid later : SuperFields) (told : StepRecord)
-    → SuperTurns before (turn.Stepped told) mid → TurnSays p mid.lib (from_service mid.lib (booted_of mid)) later
-    → TurnSays p before.lib (from_step before.lib (booted_of before)) later
+    → SuperTurns before (turn.Stepped told) mid → TurnResult p mid.lib (rest_from_service mid.lib (booted_of mid)) later
+    → TurnResult p before.lib (rest_from_step before.lib (booted_of before)) later
 step_goes p before mid later told turns says =
     step_on p before.lib (booted_of before) mid later told turns.0
-    (subst (λ l. TurnSays p l (from_service l (booted_of mid)) later) turns.1 says)
+    (subst (λ l. TurnResult p l (rest_from_service l (booted_of mid)) later) turns.1 says)

@@ -23,14 +23,14 @@ use Rattle.m36_program.proofs.TextLaws.{trail_put}
 use Rattle.m36_program.proofs.TrailLaws.{goes_trail}
 use Rattle.cmd_image.specs.ImageAudit.{audit_status}
 use Rattle.cmd_folder.specs.declared.finish.Finish.{Finish}
-use Rattle.cmd_folder.specs.RunText.{steps_in, finish_status}
+use Rattle.cmd_folder.specs.RunText.{turns_step_count, finish_status}
 use Rattle.cmd_folder.specs.Runs.{Finishes}
 use Rattle.cmd_folder.specs.Runs as runs
 use Rattle.cmd_image.specs.ImageProgram.{audit_may_end}
 use Rattle.cmd_folder.specs.RunProgram.{finish_may_end}
 use Rattle.cmd_make.specs.MadeLaw.{all_written, WritesAndPuts, PutsRun}
-use Rattle.cmd_make.specs.MakeProgram.{summed_up, run_summed, found_told}
-use Rattle.cmd_make.specs.QuietRun.{Ran, run_from}
+use Rattle.cmd_make.specs.MakeProgram.{put_summary, run_and_summarise, make_after_audit}
+use Rattle.cmd_make.specs.QuietRun.{RunSummary, run_from}
 use Rattle.cmd_make.specs.Summary.{run_limit, segment_count, head_pieces, end_pieces}
 use Rattle.cmd_make.proofs.RunGoes.{HasRun, run_goes}
 
@@ -69,22 +69,22 @@ pub record RunPuts (lib : Library) (limit : ℕ) (first : Booted) (events : List
   pub how : Finish
   pub goes : runs.Goes lib limit first turns last
   pub finishes : Finishes how lib limit turns last
-  pub puts : PutsWhole (end_pieces (Some how) (steps_in turns) last.state.regs) (finish_status (Some how)) events result
+  pub puts : PutsWhole (end_pieces (Some how) (turns_step_count turns) last.state.regs) (finish_status (Some how)) events result
 
 -- the lines by the turns
 lines_are :
-    (lib : Library) (limit : ℕ) (first : Booted) (r : Ran) (run : HasRun lib 0 limit first r)
-    → end_pieces (Some r.how) r.steps r.regs ≡ end_pieces (Some r.how) (steps_in run.turns) run.last.state.regs
+    (lib : Library) (limit : ℕ) (first : Booted) (r : RunSummary) (run : HasRun lib 0 limit first r)
+    → end_pieces (Some r.how) r.steps r.regs ≡ end_pieces (Some r.how) (turns_step_count run.turns) run.last.state.regs
 lines_are lib limit first r run =
-    let steps : r.steps ≡ steps_in run.turns = run.steps ∙ zero-add (steps_in run.turns) in
+    let steps : r.steps ≡ turns_step_count run.turns = run.steps ∙ zero-add (turns_step_count run.turns) in
     let regs = run.regs in
     λ i. end_pieces (Some r.how) (steps i) (regs i)
 
 run_ended :
-    (lib : Library) (limit : ℕ) (first : Booted) (r : Ran) (events : List Event) (result : Result (Unit {0}) Status)
-    → IsEnd result → HasRun lib 0 limit first r → Goes (summed_up r) events result
+    (lib : Library) (limit : ℕ) (first : Booted) (r : RunSummary) (events : List Event) (result : Result (Unit {0}) Status)
+    → IsEnd result → HasRun lib 0 limit first r → Goes (put_summary r) events result
     → RunPuts lib limit first events result
-unfolding summed_up
+unfolding put_summary
 run_ended lib limit first r events result ended run goes = record {
   turns = run.turns;
   last = run.last;
@@ -98,29 +98,29 @@ run_ended lib limit first r events result ended run goes = record {
 
 run_split :
     (lib : Library) (limit : ℕ) (first : Booted) (events : List Event) (result : Result (Unit {0}) Status)
-    → first.coming ≡ Step → IsEnd result → Split (run_from lib 0 limit first) summed_up events result
+    → first.coming ≡ Step → IsEnd result → Split (run_from lib 0 limit first) put_summary events result
     → RunPuts lib limit first events result
 run_split lib limit first events result next ended (inl both) =
     let run = run_goes lib limit 0 first both.first (Ok both.value) next both.begins in
     let same : events ≡ both.more = both.is ∙ ap (λ l. l ++ both.more) run.none in
     run_ended lib limit first both.value events result ended run.run
-    (subst (λ e. Goes (summed_up both.value) e result) (sym same) both.goes_on)
+    (subst (λ e. Goes (put_summary both.value) e result) (sym same) both.goes_on)
 run_split lib limit first events result next ended (inr (inl stops)) =
     let run = run_goes lib limit 0 first events (Err stops.status) next stops.goes in
     let memory = run.run in
     absurd (end_is result _ (stops.result_is ∙ ap (λ (s : Status). let failed : Result (Unit {0}) Status = Err s in
     failed) memory) ended)
 run_split lib limit first events result next ended (inr (inr across)) =
-    absurd (end_is result _ (goes_failed (summed_up across.value) across.rest result across.goes_on) ended)
+    absurd (end_is result _ (goes_failed (put_summary across.value) across.rest result across.goes_on) ended)
 
 run_puts :
     (lib : Library) (limit : ℕ) (first : Booted) (events : List Event) (result : Result (Unit {0}) Status)
-    → first.coming ≡ Step → IsEnd result → Goes (run_summed lib limit first) events result
+    → first.coming ≡ Step → IsEnd result → Goes (run_and_summarise lib limit first) events result
     → RunPuts lib limit first events result
-unfolding run_summed
+unfolding run_and_summarise
 run_puts lib limit first events result next ended goes =
     run_split lib limit first events result next ended
-    (goes_split (run_from lib 0 limit first) summed_up events result goes)
+    (goes_split (run_from lib 0 limit first) put_summary events result goes)
 
 -- ---- by the findings
 
@@ -137,15 +137,15 @@ PutsFor (f ∷ findings) sets lib first events result =
 
 run_after :
     (sets : List Set) (lib : Library) (first : Booted) (more events : List Event) (result : Result (Unit {0}) Status)
-    → events ≡ all_written sets ++ more → ThenGoes (head_pieces (segment_count lib) []) (run_summed lib run_limit first)
+    → events ≡ all_written sets ++ more → ThenGoes (head_pieces (segment_count lib) []) (run_and_summarise lib run_limit first)
     more result
-    → ((rest : List Event) → Goes (run_summed lib run_limit first) rest result
+    → ((rest : List Event) → Goes (run_and_summarise lib run_limit first) rest result
     → RunPuts lib run_limit first rest result)
     → PutsRun sets lib first events result
 run_after sets lib first more events result is then on =
     let run = on then.more then.goes in
     let head = head_pieces (segment_count lib) [] in
-    let tail = end_pieces (Some run.how) (steps_in run.turns) run.last.state.regs in
+    let tail = end_pieces (Some run.how) (turns_step_count run.turns) run.last.state.regs in
     record {
       turns = run.turns;
       last = run.last;
@@ -164,12 +164,12 @@ pub found_puts :
     (findings : List (ℕ × ℕ)) (sets : List Set) (lib : Library) (first : Booted) (more events : List Event)
     (result : Result (Unit {0}) Status)
     → first.coming ≡ Step → IsEnd result → events ≡ all_written sets ++ more
-    → Goes (found_told lib first findings) more result
+    → Goes (make_after_audit lib first findings) more result
     → PutsFor findings sets lib first events result
-unfolding found_told
+unfolding make_after_audit
 found_puts [] sets lib first more events result next ended is goes =
     run_after sets lib first more events result is
-    (puts_end (head_pieces (segment_count lib) []) (run_summed lib run_limit first) more result ended goes)
+    (puts_end (head_pieces (segment_count lib) []) (run_and_summarise lib run_limit first) more result ended goes)
     (λ rest on. run_puts lib run_limit first rest result next ended on)
 found_puts (f ∷ findings) sets lib first more events result next ended is goes =
     let whole =

@@ -2,7 +2,7 @@
 use Rattle.std.proofs.Common.{◌≡◌, ℕ, ◌<◌, false, List, [], ◌∷◌, length, Some, Result, Ok, Err, refl, sym, ap, subst}
 use Rattle.std.proofs.Common.{◌∙◌, arith}
 use Rattle.m36_text.specs.Lines.{as_line}
-use Rattle.m36_audit.specs.Findings.{pairs}
+use Rattle.m36_audit.specs.Findings.{finding_pairs}
 use Rattle.m36_audit.specs.declared.verdict.Finding.{Finding}
 use Rattle.m36_desc.specs.Fields.{DbrFields}
 use Rattle.m36_model.specs.Audit.{AreFindings}
@@ -10,11 +10,11 @@ use Rattle.m36_model.specs.Registers.{RegsFields}
 use Rattle.m36_super.specs.Library.{Library}
 use Rattle.m36_super.specs.BootedRun.{Booted}
 use Rattle.m36_super.specs.SuperFields.{SuperFields, booted_of}
-use Rattle.m36_super.specs.BootSays.{IsBooted}
+use Rattle.m36_super.specs.BootResult.{IsBooted}
 use Rattle.m36_world.specs.Seen.{Seen}
 use Rattle.m36_status.specs.declared.status.Status.{Status}
 use Rattle.m36_status.specs.declared.status.Status.TheVariants.{AuditNo, NoMemory}
-use Rattle.m36_program.specs.Early.{early, ends}
+use Rattle.m36_program.specs.Early.{result_of_status, ends}
 use Rattle.m36_program.specs.Goes.{Goes}
 use Rattle.m36_program.specs.Performs.{Performs}
 use Rattle.m36_program.specs.Program.{quiet, Program, puts, puts_all}
@@ -33,8 +33,8 @@ use Rattle.cmd_image.proofs.AuditPuts.{all_put, put_more, all_then, all_stop}
 use Rattle.cmd_folder.specs.OnFolder.{AreFolderFindings}
 use Rattle.cmd_folder.specs.RunProgram.{finish_may_end}
 use Rattle.cmd_folder.proofs.FolderSteps.{found_passes}
-use Rattle.cmd_make.specs.MakeProgram.{summed_up, run_summed, runs_or_ends, found_told, on_system, on_booted}
-use Rattle.cmd_make.specs.QuietRun.{Ran, run_from}
+use Rattle.cmd_make.specs.MakeProgram.{put_summary, run_and_summarise, runs_or_ends, make_after_audit, on_system, on_booted}
+use Rattle.cmd_make.specs.QuietRun.{RunSummary, run_from}
 use Rattle.cmd_make.specs.Summary.{run_limit, segment_count, segments_line, head_pieces, sum_line}
 
 -- ---- a line, and what follows it
@@ -87,12 +87,12 @@ pub sum_put :
     (text : List ℕ) (regs : RegsFields) (how : Finish) (status : Status) (result : Result (Unit {0}) Status)
     (old new : Seen)
     → text ≡ sum_line regs → Performs {may = quiet} (put_one (as_line text)) (Ok tt) old new
-    → status ≡ finish_status (Some how) → result ≡ early status
+    → status ≡ finish_status (Some how) → result ≡ result_of_status status
     → Performs (puts (as_line (sum_line regs)) (ended how)) result old new
 sum_put text regs how status result old new is put status_is result_is =
     line_put text (sum_line regs) (ended how) result old new new is put
     (performs_none (ended how) result new
-    (subst (λ r. Goes (ended how) [] r) (sym (result_is ∙ ap early status_is))
+    (subst (λ r. Goes (ended how) [] r) (sym (result_is ∙ ap result_of_status status_is))
     (goes_ends quiet (finish_status (Some how)) (finish_may_end how))))
 
 pub sum_unput :
@@ -104,41 +104,41 @@ sum_unput text regs how s old new is put = line_unput text (sum_line regs) (ende
 pub ruleset summing = (sum_put, sum_unput)
 
 summed_is :
-    (ran : Ran) → summed_up ran ≡ puts (as_line (finish_line ran.how ran.steps))
-    (puts (as_line (sum_line ran.regs)) (ended ran.how))
-unfolding summed_up puts_all
-summed_is ran = refl
+    (summary_of_run : RunSummary) → put_summary summary_of_run ≡ puts (as_line (finish_line summary_of_run.how summary_of_run.steps))
+    (puts (as_line (sum_line summary_of_run.regs)) (ended summary_of_run.how))
+unfolding put_summary puts_all
+summed_is summary_of_run = refl
 
 pub end_put :
-    (text : List ℕ) (ran : Ran) (result : Result (Unit {0}) Status) (old between new : Seen)
-    → text ≡ finish_line ran.how ran.steps → Performs {may = quiet} (put_one (as_line text)) (Ok tt) old between
-    → Performs (puts (as_line (sum_line ran.regs)) (ended ran.how)) result between new
-    → Performs (summed_up ran) result old new
-end_put text ran result old between new is put performs =
-    subst (λ p. Performs p result old new) (sym (summed_is ran))
-    (line_put text (finish_line ran.how ran.steps) _ result old between new is put performs)
+    (text : List ℕ) (summary_of_run : RunSummary) (result : Result (Unit {0}) Status) (old between new : Seen)
+    → text ≡ finish_line summary_of_run.how summary_of_run.steps → Performs {may = quiet} (put_one (as_line text)) (Ok tt) old between
+    → Performs (puts (as_line (sum_line summary_of_run.regs)) (ended summary_of_run.how)) result between new
+    → Performs (put_summary summary_of_run) result old new
+end_put text summary_of_run result old between new is put performs =
+    subst (λ p. Performs p result old new) (sym (summed_is summary_of_run))
+    (line_put text (finish_line summary_of_run.how summary_of_run.steps) _ result old between new is put performs)
 
 pub end_unput :
-    (text : List ℕ) (ran : Ran) (s : Status) (old new : Seen)
-    → text ≡ finish_line ran.how ran.steps → Performs {may = quiet} (put_one (as_line text)) (Err s) old new
-    → Performs (summed_up ran) (Err s) old new
-end_unput text ran s old new is put =
-    subst (λ p. Performs p (Err s) old new) (sym (summed_is ran))
-    (line_unput text (finish_line ran.how ran.steps) _ s old new is put)
+    (text : List ℕ) (summary_of_run : RunSummary) (s : Status) (old new : Seen)
+    → text ≡ finish_line summary_of_run.how summary_of_run.steps → Performs {may = quiet} (put_one (as_line text)) (Err s) old new
+    → Performs (put_summary summary_of_run) (Err s) old new
+end_unput text summary_of_run s old new is put =
+    subst (λ p. Performs p (Err s) old new) (sym (summed_is summary_of_run))
+    (line_unput text (finish_line summary_of_run.how summary_of_run.steps) _ s old new is put)
 
 -- ---- the run
 
 run_then :
-    (lib : Library) (steps : ℕ) (first : Booted) (ran : Ran) (result : Result (Unit {0}) Status) (old new : Seen)
-    → Goes (run_from lib 0 steps first) [] (Ok ran) → Performs (summed_up ran) result old new
-    → Performs (run_summed lib steps first) result old new
-unfolding run_summed
-run_then lib steps first ran result old new goes performs =
-    performs_then (run_from lib 0 steps first) summed_up ran result old old new
-    (performs_none (run_from lib 0 steps first) (Ok ran) old goes) performs
+    (lib : Library) (steps : ℕ) (first : Booted) (summary_of_run : RunSummary) (result : Result (Unit {0}) Status) (old new : Seen)
+    → Goes (run_from lib 0 steps first) [] (Ok summary_of_run) → Performs (put_summary summary_of_run) result old new
+    → Performs (run_and_summarise lib steps first) result old new
+unfolding run_and_summarise
+run_then lib steps first summary_of_run result old new goes performs =
+    performs_then (run_from lib 0 steps first) put_summary summary_of_run result old old new
+    (performs_none (run_from lib 0 steps first) (Ok summary_of_run) old goes) performs
 
 -- a run that has left these registers
-abbrev left_with : Finish → ℕ → RegsFields → Ran
+abbrev left_with : Finish → ℕ → RegsFields → RunSummary
 left_with how steps regs = record { how = how; steps = steps; regs = regs }
 
 pub run_ended :
@@ -146,30 +146,30 @@ pub run_ended :
     (result : Result (Unit {0}) Status)
     (old new : Seen)
     → Goes (run_from lib 0 limit first) [] (Ok (left_with how steps regs)) → lent ≡ regs
-    → Performs (summed_up (left_with how steps lent)) result old new
-    → Performs (run_summed lib limit first) result old new
+    → Performs (put_summary (left_with how steps lent)) result old new
+    → Performs (run_and_summarise lib limit first) result old new
 run_ended lib limit first how steps regs lent result old new goes is performs =
     run_then lib limit first (left_with how steps regs) result old new goes
-    (subst (λ r. Performs (summed_up (left_with how steps r)) result old new) is performs)
+    (subst (λ r. Performs (put_summary (left_with how steps r)) result old new) is performs)
 
 pub run_stops :
     (lib : Library) (steps : ℕ) (first : Booted) (s : Status) (seen : Seen)
-    → Goes (run_from lib 0 steps first) [] (Err s) → Performs (run_summed lib steps first) (Err s) seen seen
-unfolding run_summed
+    → Goes (run_from lib 0 steps first) [] (Err s) → Performs (run_and_summarise lib steps first) (Err s) seen seen
+unfolding run_and_summarise
 run_stops lib steps first s seen goes =
-    performs_stop (run_from lib 0 steps first) summed_up s seen seen
+    performs_stop (run_from lib 0 steps first) put_summary s seen seen
     (performs_none (run_from lib 0 steps first) (Err s) seen goes)
 
 pub run_where_none :
     (findings : List Finding) (lib : Library) (first : Booted) (result : Result (Unit {0}) Status) (old new : Seen)
-    → length findings ≡ 0 → Performs (run_summed lib run_limit first) result old new
-    → Performs (runs_or_ends (passes (pairs findings)) lib first) result old new
+    → length findings ≡ 0 → Performs (run_and_summarise lib run_limit first) result old new
+    → Performs (runs_or_ends (passes (finding_pairs findings)) lib first) result old new
 run_where_none [] lib first result old new none performs = performs
 run_where_none (f ∷ findings) lib first result old new none performs = absurd (omega (arith, none))
 
 pub end_where_some :
     (findings : List Finding) (lib : Library) (first : Booted) (seen : Seen)
-    → 0 < length findings → Performs (runs_or_ends (passes (pairs findings)) lib first) (Err AuditNo) seen seen
+    → 0 < length findings → Performs (runs_or_ends (passes (finding_pairs findings)) lib first) (Err AuditNo) seen seen
 end_where_some [] lib first seen some = absurd (omega (arith, some))
 end_where_some (f ∷ findings) lib first seen some =
     performs_none (ends (audit_status false) (audit_may_end false)) (Err AuditNo) seen
@@ -184,8 +184,8 @@ pub found_put :
     (old between new : Seen)
     → count ≡ segment_count lib → Performs (all_put (head_pieces count findings)) (Ok tt) old between
     → Performs (runs_or_ends (passes findings) lib first) result between new
-    → Performs (found_told lib first findings) result old new
-unfolding found_told
+    → Performs (make_after_audit lib first findings) result old new
+unfolding make_after_audit
 found_put count lib first findings result old between new counts put performs =
     all_then (head_pieces (segment_count lib) findings)
     (runs_or_ends (passes findings) lib first) result old between new
@@ -194,8 +194,8 @@ found_put count lib first findings result old between new counts put performs =
 pub found_unput :
     (count : ℕ) (lib : Library) (first : Booted) (findings : List (ℕ × ℕ)) (s : Status) (old new : Seen)
     → count ≡ segment_count lib → Performs (all_put (head_pieces count findings)) (Err s) old new
-    → Performs (found_told lib first findings) (Err s) old new
-unfolding found_told
+    → Performs (make_after_audit lib first findings) (Err s) old new
+unfolding make_after_audit
 found_unput count lib first findings s old new counts put =
     all_stop (head_pieces (segment_count lib) findings) (runs_or_ends (passes findings) lib first) s old new
     (subst (λ n. Performs (all_put (head_pieces n findings)) (Err s) old new) counts put)
@@ -204,7 +204,7 @@ pub found_in :
     (system : SuperFields) (denied : List (List ℕ)) (findings : List (ℕ × ℕ)) (result : Result (Unit {0}) Status)
     (old new : Seen)
     → IsFresh system → AreFindings system.core system.regs.dbr findings
-    → Performs (found_told system.lib (booted_of system) findings) result old new
+    → Performs (make_after_audit system.lib (booted_of system) findings) result old new
     → Performs (on_booted (record { lib = system.lib; denied = denied })) result old new
 unfolding on_booted on_system
 found_in system denied findings result old new fresh found performs =
@@ -212,7 +212,7 @@ found_in system denied findings result old new fresh found performs =
     performs_some (IsBooted system.lib) (on_system system.lib) system result old new fresh
     (performs_wants _ result old new
     (performs_some (AreFolderFindings system.lib system)
-    (found_told system.lib (booted_of system)) findings result old new
+    (make_after_audit system.lib (booted_of system)) findings result old new
     (record { found = so; passes = found_passes system.lib system findings fresh so }) performs))
 
 -- the audit ran out of memory

@@ -9,7 +9,7 @@ use Rattle.m36_status.specs.declared.status.Status.{Status}
 use Rattle.m36_program.specs.Goes.{AfterRead, FailsWith, Goes}
 use Rattle.m36_program.specs.Performs.{Performs}
 use Rattle.m36_program.specs.Program.{Found, May, quiet, Program, done, stops, reads, writes, puts, takes, some, wants}
-use Rattle.cmd_make.specs.Within.{within}
+use Rattle.cmd_make.specs.Within.{widen}
 
 read_as :
     {A : Type 0} (answer : ReadAnswer) (goes goes' : Found → List Event → Type 0) (more : List Event)
@@ -31,8 +31,8 @@ fails_as (piece ∷ pieces) goes goes' result on fails = on (OutputFailed (piece
 
 pub goes_within :
     (may : May) {A : Type 0} (p : Program quiet A) (events : List Event) (result : Result A Status)
-    → Goes p events result → Goes {may = may} (within p) events result
-unfolding Goes within
+    → Goes p events result → Goes {may = may} (widen p) events result
+unfolding Goes widen
 goes_within may (done a) events result goes = goes
 goes_within may (stops status own) events result goes = goes
 goes_within may (reads name go) events result goes = record {
@@ -40,7 +40,7 @@ goes_within may (reads name go) events result goes = record {
   more = goes.more;
   first = goes.first;
   rest = read_as goes.answer (λ found more. Goes (go found) more result)
-      (λ found more. Goes {may = may} (within (go found)) more result)
+      (λ found more. Goes {may = may} (widen (go found)) more result)
       goes.more result (λ found on. goes_within may (go found) goes.more result on) goes.rest;
 }
 goes_within may (writes allowed name content rest) events result goes = absurd (cc)
@@ -53,7 +53,7 @@ goes_within may (puts piece rest) events result (inr failed) = inr (record {
   pieces = failed.pieces;
   only = failed.only;
   rest = fails_as failed.pieces (λ more. Goes rest more result)
-      (λ more. Goes {may = may} (within rest) more result) result
+      (λ more. Goes {may = may} (widen rest) more result) result
       (λ more on. goes_within may rest more result on) failed.rest;
 })
 goes_within may (takes allowed go) events result goes = absurd (cc)
@@ -67,15 +67,15 @@ goes_within may (wants rest) events result (inr ends) = inr ends
 
 pub goes_quiet :
     (may : May) {A : Type 0} (p : Program quiet A) (events : List Event) (result : Result A Status)
-    → Goes {may = may} (within p) events result → Goes p events result
-unfolding Goes within
+    → Goes {may = may} (widen p) events result → Goes p events result
+unfolding Goes widen
 goes_quiet may (done a) events result goes = goes
 goes_quiet may (stops status own) events result goes = goes
 goes_quiet may (reads name go) events result goes = record {
   answer = goes.answer;
   more = goes.more;
   first = goes.first;
-  rest = read_as goes.answer (λ found more. Goes {may = may} (within (go found)) more result)
+  rest = read_as goes.answer (λ found more. Goes {may = may} (widen (go found)) more result)
       (λ found more. Goes (go found) more result)
       goes.more result (λ found on. goes_quiet may (go found) goes.more result on) goes.rest;
 }
@@ -88,7 +88,7 @@ goes_quiet may (puts piece rest) events result (inl goes) = inl (record {
 goes_quiet may (puts piece rest) events result (inr failed) = inr (record {
   pieces = failed.pieces;
   only = failed.only;
-  rest = fails_as failed.pieces (λ more. Goes {may = may} (within rest) more result)
+  rest = fails_as failed.pieces (λ more. Goes {may = may} (widen rest) more result)
       (λ more. Goes rest more result) result
       (λ more on. goes_quiet may rest more result on) failed.rest;
 })
@@ -105,7 +105,7 @@ goes_quiet may (wants rest) events result (inr ends) = inr ends
 
 pub performs_within :
     (may : May) {A : Type 0} (p : Program quiet A) (result : Result A Status) (old new : Seen)
-    → Performs p result old new → Performs {may = may} (within p) result old new
+    → Performs p result old new → Performs {may = may} (widen p) result old new
 performs_within may p result old new performs = record {
   events = performs.events;
   follow = performs.follow;

@@ -10,7 +10,7 @@ use Rattle.m36_super.specs.Library.{Library}
 use Rattle.m36_super.specs.BootedRun.{Booted}
 use Rattle.m36_super.specs.SuperFields.{SuperFields, booted_of}
 use Rattle.m36_super.specs.TurnLaws.{IsPlainTurn}
-use Rattle.m36_super.specs.BootSays.{IsBooted}
+use Rattle.m36_super.specs.BootResult.{IsBooted}
 use Rattle.m36_world.specs.Follow.{outputs}
 use Rattle.m36_world.specs.declared.event.Event.{Event}
 use Rattle.m36_world.specs.declared.event.Event.TheVariants.{FileWrite}
@@ -20,17 +20,17 @@ use Rattle.m36_status.specs.declared.status.Status.{Status}
 use Rattle.m36_status.specs.declared.status.Status.TheVariants.{AuditNo}
 use Rattle.m36_status.specs.Refusing.{status_of}
 use Rattle.m36_program.specs.Alike.{IsEnd}
-use Rattle.m36_program.specs.Early.{early}
+use Rattle.m36_program.specs.Early.{result_of_status}
 use Rattle.m36_program.specs.Ended.{HasEnd}
 use Rattle.m36_program.specs.Goes.{Goes}
 use Rattle.m36_program.specs.Program.{May, Program}
 use Rattle.cmd_folder.specs.declared.finish.Finish.{Finish}
 use Rattle.cmd_folder.specs.Folder.{FolderFields}
-use Rattle.cmd_folder.specs.RunText.{steps_in, finish_status}
+use Rattle.cmd_folder.specs.RunText.{turns_step_count, finish_status}
 use Rattle.cmd_folder.specs.Runs.{Finishes}
 use Rattle.cmd_folder.specs.Runs as runs
-use Rattle.cmd_make.specs.Making.{sets_of}
-use Rattle.cmd_make.specs.Made.{boots_from}
+use Rattle.cmd_make.specs.Making.{files_of_seed}
+use Rattle.cmd_make.specs.Made.{boot_outcome}
 use Rattle.cmd_make.specs.MakeProgram.{write_and_boot, make_program}
 use Rattle.cmd_make.specs.Summary.{run_limit, segment_count, head_pieces, end_pieces}
 
@@ -61,7 +61,7 @@ all_written sets = map (λ (set : Set). FileWrite set.name set.content Written) 
 pub record WritesAndPuts (sets : List Set) (pieces : List (List ℕ)) (status : Status)
     (events : List Event) (result : Result (Unit {0}) Status) : Type 0 where
   pub events_are : events ≡ all_written sets ++ outputs pieces
-  pub result_is : result ≡ early status
+  pub result_is : result ≡ result_of_status status
 
 -- The lines are those without findings, and those of a run of the system that ended.
 pub record PutsRun (sets : List Set) (lib : Library) (first : Booted) (events : List Event)
@@ -74,7 +74,7 @@ pub record PutsRun (sets : List Set) (lib : Library) (first : Booted) (events : 
   pub puts :
       WritesAndPuts sets
       (head_pieces (segment_count lib) []
-      ++ end_pieces (Some how) (steps_in turns) last.state.regs)
+      ++ end_pieces (Some how) (turns_step_count turns) last.state.regs)
       (finish_status (Some how)) events result
 
 -- The lines are those of some findings, at least one. There is no run.
@@ -87,7 +87,7 @@ pub record PutsFindings (sets : List Set) (lib : Library) (events : List Event)
 
 -- The files boot to this system.
 pub record BootsTo (sets : List Set) (given : FolderFields) (system : SuperFields) : Type 0 where
-  pub boots : boots_from sets ≡ Some (Ok given)
+  pub boots : boot_outcome sets ≡ Some (Ok given)
   pub booted : IsBooted given.lib system
 
 -- ---- the law
@@ -97,22 +97,22 @@ pub record MadeLaw : Type 0 where
   -- If a source is refused, nothing happens, and the status is that of the refusal.
   pub unmade :
       (seed : ℕ) (refusal : Refusal) (events : List Event) (result : Result (Unit {0}) Status)
-      → sets_of seed ≡ Err refusal → GoesToEnd (make_program seed) events result
+      → files_of_seed seed ≡ Err refusal → GoesToEnd (make_program seed) events result
       → (events ≡ []) × (result ≡ Err (status_of refusal))
   -- A call of `make` ends as `write_and_boot` does with the files of the seed.
   pub made :
       (seed : ℕ) (sets : List Set) (events : List Event) (result : Result (Unit {0}) Status)
-      → sets_of seed ≡ Ok sets → GoesToEnd (make_program seed) events result
+      → files_of_seed seed ≡ Ok sets → GoesToEnd (make_program seed) events result
       → GoesToEnd (write_and_boot sets) events result
   -- If some call of the one ends, some call of the other does.
   pub some_made :
-      (seed : ℕ) (sets : List Set) → sets_of seed ≡ Ok sets → HasEnd (write_and_boot sets)
+      (seed : ℕ) (sets : List Set) → files_of_seed seed ≡ Ok sets → HasEnd (write_and_boot sets)
       → HasEnd (make_program seed)
   -- If the folder of the files is refused, they are written, no line is put, and the status is that
   -- of the refusal.
   pub refused :
       (sets : List Set) (status : Status) (events : List Event) (result : Result (Unit {0}) Status)
-      → boots_from sets ≡ Some (Err status) → GoesToEnd (write_and_boot sets) events result
+      → boot_outcome sets ≡ Some (Err status) → GoesToEnd (write_and_boot sets) events result
       → (events ≡ all_written sets) × (result ≡ Err status)
   -- If all conditions of the audit hold of the booted core, the lines are those without findings,
   -- and those of a run.
@@ -142,7 +142,7 @@ pub record MadeLaw : Type 0 where
       → HasOneEnd (write_and_boot sets)
   -- If the folder of the files is refused, it cannot be that no call ends.
   pub some_refused :
-      (sets : List Set) (status : Status) → boots_from sets ≡ Some (Err status)
+      (sets : List Set) (status : Status) → boot_outcome sets ≡ Some (Err status)
       → HasEnd (write_and_boot sets)
   -- The same if some condition of the audit fails.
   pub some_failed :

@@ -8,12 +8,12 @@ use Rattle.m36_text.specs.FileNames.{object_of_source}
 use Rattle.m36_text.specs.Results.{and_then}
 use Rattle.alm_parse.specs.declared.fault.AlmFault.{AlmFault}
 use Rattle.m36_gen.specs.declared.files.File.{File}
-use Rattle.m36_gen.specs.Folder.{sources_of, other_files}
+use Rattle.m36_gen.specs.Folder.{sources_of, fixed_files}
 use Rattle.m36_status.specs.declared.setting.Set.{Set}
 use Rattle.m36_status.specs.declared.status.Code.TheVariants as code
 use Rattle.m36_status.specs.Refusing.{Early}
-use Rattle.m36_status.specs.Rules.{refused}
-use Rattle.cmd_tools.specs.Assemblies.{Assembly, assembly_of, object_bytes, object_set, MakingSays}
+use Rattle.m36_status.specs.Rules.{file_refusal}
+use Rattle.cmd_tools.specs.Assemblies.{Assembly, assembly_of, object_bytes, object_set, IsMadeOrFault}
 use Rattle.cmd_tools.specs.PrintAndAlm.{source_refused}
 
 -- a file of the generator, as a file to write
@@ -27,20 +27,20 @@ unfoldable pub object_name : List ℕ → List ℕ
 object_name source = object_of_source source
 
 -- the file of the object that the source of this name assembles to, or the refusal of the source
-abbrev pub object_by : List ℕ → Result Assembly AlmFault → Early Set
-object_by source (Ok a) = Ok (object_set (object_name source) a.parts)
-object_by source (Err fault) = Err (source_refused source fault)
+abbrev pub object_set_or_refusal : List ℕ → Result Assembly AlmFault → Early Set
+object_set_or_refusal source (Ok a) = Ok (object_set (object_name source) a.parts)
+object_set_or_refusal source (Err fault) = Err (source_refused source fault)
 
 -- the bytes of a source, or F2 if there are more than a file may have
 abbrev pub source_bytes : File → Early (List ℕ)
 source_bytes source =
-    if nat_lt file_limit (length source.content) then Err (refused source.name code.F2 0)
+    if nat_lt file_limit (length source.content) then Err (file_refusal source.name code.F2 0)
     else Ok source.content
 
 -- what `alm` makes of a source, or why the source is refused
 unfoldable pub object_of : File → Early Set
 object_of source =
-    and_then (source_bytes source) (λ bytes. object_by source.name (assembly_of bytes))
+    and_then (source_bytes source) (λ bytes. object_set_or_refusal source.name (assembly_of bytes))
 
 -- the files with the objects of the sources appended, or the refusal of the first source that is
 -- refused
@@ -52,13 +52,13 @@ with_objects sets (source ∷ sources) =
 -- ---- all files
 
 -- these files, and after them the data and the boot text
-abbrev pub and_others : List Set → Early (List Set)
-and_others sets = Ok (sets ++ map set_of other_files)
+abbrev pub with_other_files : List Set → Early (List Set)
+with_other_files sets = Ok (sets ++ map set_of fixed_files)
 
 -- all files of a seed, or the refusal of a source
-unfoldable pub sets_of : ℕ → Early (List Set)
-sets_of seed =
-    and_then (with_objects (map set_of (sources_of seed)) (sources_of seed)) and_others
+unfoldable pub files_of_seed : ℕ → Early (List Set)
+files_of_seed seed =
+    and_then (with_objects (map set_of (sources_of seed)) (sources_of seed)) with_other_files
 
 -- ---- the folder that these files are
 
@@ -83,5 +83,5 @@ assembly_bytes a = object_bytes a.parts
 
 -- The result of the code: the packed words of the object that the source assembles to, the fault of
 -- a refused source, or NoMemory for any source.
-abbrev pub ObjectSays : Result (List ℕ) AlmFault → Result Assembly AlmFault → Type 0
-ObjectSays result given = MakingSays assembly_bytes result given
+abbrev pub ObjectResult : Result (List ℕ) AlmFault → Result Assembly AlmFault → Type 0
+ObjectResult result given = IsMadeOrFault assembly_bytes result given

@@ -12,60 +12,60 @@ use Rattle.m36_super.specs.SuperFields.{SuperFields, booted_of}
 use Rattle.m36_program.specs.Goes.{Goes}
 use Rattle.m36_program.specs.Program.{quiet, Program, some}
 use Rattle.cmd_folder.specs.declared.finish.Finish.TheVariants.{Over}
-use Rattle.cmd_folder.specs.RunProgram.{IsMade}
+use Rattle.cmd_folder.specs.RunProgram.{IsPossibleTurn}
 use Rattle.cmd_make.specs.declared.running.AfterTurn.{AfterTurn}
 use Rattle.cmd_make.specs.declared.running.AfterTurn.TheVariants as turn
 use Rattle.cmd_make.specs.declared.running.RunEnd.{RunEnd}
-use Rattle.cmd_make.specs.QuietRun.{Ran, ran, serve, run_from}
+use Rattle.cmd_make.specs.QuietRun.{RunSummary, summary_of_run, serve, run_from}
 
 -- `now` is a rest of `first`: each result that `now` reaches without an event, `first` reaches
 -- without an event.
-abbrev pub IsLeft : Program quiet Ran → Program quiet Ran → Type 0
-IsLeft now first = (result : Result Ran Status) → Goes now [] result → Goes first [] result
+abbrev pub IsRestOf : Program quiet RunSummary → Program quiet RunSummary → Type 0
+IsRestOf now first = (result : Result RunSummary Status) → Goes now [] result → Goes first [] result
 
 -- the rest of a run: a program that depends on the count of steps taken and of those left
-abbrev pub Rest : Type 1
-Rest = ℕ → ℕ → Program quiet Ran
+abbrev pub RestOfRun : Type 1
+RestOfRun = ℕ → ℕ → Program quiet RunSummary
 
 -- what is left before a step, which is counted in `taken` already
-abbrev pub from_step : Library → Booted → Rest
-from_step lib b taken left =
-    some (IsMade lib b) (λ made. serve lib taken (λ b. run_from lib taken left b) made.after)
+abbrev pub rest_from_step : Library → Booted → RestOfRun
+rest_from_step lib b taken left =
+    some (IsPossibleTurn lib b) (λ made. serve lib taken (λ b. run_from lib taken left b) made.after)
 
 -- what is left after a step, before its service if it has one
-abbrev pub from_service : Library → Booted → Rest
-from_service lib b taken left = serve lib taken (λ b. run_from lib taken left b) b
+abbrev pub rest_from_service : Library → Booted → RestOfRun
+rest_from_service lib b taken left = serve lib taken (λ b. run_from lib taken left b) b
 
 -- A step follows, over the same library.
-pub record GoesOn (lib : Library) (first : Rest) (after : SuperFields) : Type 0 where
+pub record GoesOn (lib : Library) (first : RestOfRun) (after : SuperFields) : Type 0 where
   pub leads :
-      (taken left : ℕ) → IsLeft (run_from lib taken left (booted_of after)) (first taken left)
+      (taken left : ℕ) → IsRestOf (run_from lib taken left (booted_of after)) (first taken left)
   pub next : after.coming ≡ Step
   pub same : after.lib ≡ lib
 
 -- The run has ended in this way.
-pub record IsOver (e : End) (first : Rest) (after : SuperFields) : Type 0 where
+pub record RunIsOver (e : End) (first : RestOfRun) (after : SuperFields) : Type 0 where
   pub goes :
-      (taken left : ℕ) → Goes (first taken left) [] (Ok (ran (Over e) taken (booted_of after)))
+      (taken left : ℕ) → Goes (first taken left) [] (Ok (summary_of_run (Over e) taken (booted_of after)))
 
 -- A link service ran out of memory.
-pub record HasNoMemory (first : Rest) : Type 0 where
+pub record RunsOutOfMemory (first : RestOfRun) : Type 0 where
   pub goes : (taken left : ℕ) → Goes (first taken left) [] (Err status.NoMemory)
 
 -- what the result of a turn implies for the program that is left
-abbrev pub TurnSays : AfterTurn → Library → Rest → SuperFields → Type 0
-TurnSays turn.Next lib first after = GoesOn lib first after
-TurnSays (turn.Ended e) lib first after = IsOver e first after
-TurnSays turn.NoMemory lib first after = HasNoMemory first
+abbrev pub TurnResult : AfterTurn → Library → RestOfRun → SuperFields → Type 0
+TurnResult turn.Next lib first after = GoesOn lib first after
+TurnResult (turn.Ended e) lib first after = RunIsOver e first after
+TurnResult turn.NoMemory lib first after = RunsOutOfMemory first
 
 -- An answer after a link service agrees with what is next: a step, or the end of the run.
-abbrev pub LinkBefore : AfterTurn → NextEvent → Type 0
-LinkBefore turn.Next next = next ≡ Step
-LinkBefore (turn.Ended e) next = next ≡ coming.Over e
-LinkBefore turn.NoMemory next = ⊥
+abbrev pub MatchesNextEvent : AfterTurn → NextEvent → Type 0
+MatchesNextEvent turn.Next next = next ≡ Step
+MatchesNextEvent (turn.Ended e) next = next ≡ coming.Over e
+MatchesNextEvent turn.NoMemory next = ⊥
 
 -- the value of the program, from the result of the code and the system that it left
-abbrev pub ran_in : Result RunEnd Status → SuperFields → Result Ran Status
-ran_in (Ok end) system =
+abbrev pub summary_in_result : Result RunEnd Status → SuperFields → Result RunSummary Status
+summary_in_result (Ok end) system =
     Ok (record { how = end.how; steps = end.steps; regs = system.regs })
-ran_in (Err status) system = Err status
+summary_in_result (Err status) system = Err status

@@ -7,7 +7,7 @@ use Rattle.m36_model.specs.Registers.{RegsFields}
 use Rattle.m36_super.specs.Library.{Library}
 use Rattle.cmd_image.specs.AuditText.{audit_pieces}
 use Rattle.cmd_folder.specs.declared.finish.Finish.{Finish}
-use Rattle.cmd_folder.specs.RunText.{ended_with}
+use Rattle.cmd_folder.specs.RunText.{end_line_and_rest}
 
 -- the maximum number of steps of the run
 abbrev pub run_limit : ℕ
@@ -33,7 +33,7 @@ head_pieces count findings = head_line count ∷ audit_pieces findings
 
 -- the lines after the run, if it has ended: the end line, and X1
 abbrev pub end_pieces : Option Finish → ℕ → RegsFields → List (List ℕ)
-end_pieces how steps regs = ended_with how steps (λ (last : Finish). as_line (sum_line regs) ∷ [])
+end_pieces how steps regs = end_line_and_rest how steps (λ (last : Finish). as_line (sum_line regs) ∷ [])
 
 -- how many segments a system has
 abbrev pub segment_count : Library → ℕ

@@ -11,12 +11,12 @@ IsFalse true = ⊥
 IsFalse false = Unit {0}
 
 -- a quiet program with a type that may also write files or take input; it has the same steps
-unfoldable pub within : {may : May} {A : Type 0} → Program quiet A → Program may A
-within (done a) = done a
-within (stops status own) = stops status own
-within (reads name go) = reads name (λ found. within (go found))
-within (writes allowed name content rest) = absurd (subst IsFalse allowed tt)
-within (puts piece rest) = puts piece (within rest)
-within (takes allowed go) = absurd (subst IsFalse allowed tt)
-within (some Is go) = some Is (λ b. within (go b))
-within (wants rest) = wants (within rest)
+unfoldable pub widen : {may : May} {A : Type 0} → Program quiet A → Program may A
+widen (done a) = done a
+widen (stops status own) = stops status own
+widen (reads name go) = reads name (λ found. widen (go found))
+widen (writes allowed name content rest) = absurd (subst IsFalse allowed tt)
+widen (puts piece rest) = puts piece (widen rest)
+widen (takes allowed go) = absurd (subst IsFalse allowed tt)
+widen (some Is go) = some Is (λ b. widen (go b))
+widen (wants rest) = wants (widen rest)

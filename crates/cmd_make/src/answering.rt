@@ -3,8 +3,8 @@
 ghost use Rattle.m36_program.specs.Performs.{Performs};
 ghost use Rattle.cmd_make.specs.MakeProgram.{boot_made, write_and_boot, make_program};
 
-use crate::folder::system_of;
-use crate::making::made_from;
+use crate::folder::boot_in_memory;
+use crate::making::files_of_seed;
 use crate::sets::Sets;
 use crate::summary::summarise;
 use cmd_tools::reporting::write_files;
@@ -17,7 +17,7 @@ use std::alloc::Global;
 fn boot_made<W: World>(alloc: Global, sets: &Sets, world: &mut W) -> Result<(), Status>
     ensures { Performs (boot_made sets.now) result (W.seen world.old) (W.seen world.new) }
 {
-    match system_of(alloc, sets) {
+    match boot_in_memory(alloc, sets) {
         Ok(booted) => summarise(alloc, booted.system, world),
         Err(status) => Err(status),
     }
@@ -38,10 +38,10 @@ fn write_and_boot<W: World>(alloc: Global, sets: &Sets, world: &mut W) -> Result
 /// the core, runs the system if the audit passes, and puts the lines of it. An error is the status
 /// of the command.
 #[tactic(auto, using(crate::proofs::MakeSteps::making))]
-pub fn make_files<W: World>(alloc: Global, seed: u64, world: &mut W) -> Result<(), Status>
+pub fn perform_make<W: World>(alloc: Global, seed: u64, world: &mut W) -> Result<(), Status>
     ensures { Performs (make_program seed) result (W.seen world.old) (W.seen world.new) }
 {
-    match made_from(alloc, seed) {
+    match files_of_seed(alloc, seed) {
         Ok(sets) => {
             let answer = write_and_boot(alloc, &sets, world);
             // Dropped by a call, so that the drop is proved once for its type.

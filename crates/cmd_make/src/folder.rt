@@ -4,7 +4,7 @@ ghost use Rattle.std.specs.Prelude.{◌≡◌, [], IfOk};
 ghost use Rattle.m36_outside.specs.FileList.{file_named};
 ghost use Rattle.m36_program.specs.Goes.{Goes};
 ghost use Rattle.cmd_folder.specs.BootedSystems.{IsFresh};
-ghost use Rattle.cmd_folder.specs.Systems.{given_in};
+ghost use Rattle.cmd_folder.specs.Systems.{folder_result};
 ghost use Rattle.cmd_make.specs.Making.{files_in};
 ghost use Rattle.cmd_make.specs.Made.{boot_files};
 
@@ -44,8 +44,8 @@ fn world_of(
 /// Boots a folder in memory with these files, as `run` boots a folder, or refuses it. Nothing
 /// outside is read. An error is the status of the command.
 #[tactic(auto, using(crate::proofs::Files::no_world))]
-pub fn system_of(alloc: Global, sets: &Sets) -> Result<BootedFolder, Status>
-    ensures goes { Goes (boot_files sets.now) [] (given_in result) }
+pub fn boot_in_memory(alloc: Global, sets: &Sets) -> Result<BootedFolder, Status>
+    ensures goes { Goes (boot_files sets.now) [] (folder_result result) }
     ensures fresh { IfOk result (λ booted. IsFresh booted.system) }
 {
     match world_of(alloc, sets.items()) {

@@ -24,7 +24,7 @@
 //! (`specs/InMemory.antt`). Neither are the turns of the run, so no contract says when a turn is
 //! made: only the lines after the run depend on it.
 //!
-//! [`make_files`] performs the program over any world, so its contract has the order of the events:
+//! [`perform_make`] performs the program over any world, so its contract has the order of the events:
 //! all files are written before the first line is put. By its type the program takes no input.
 //!
 //! `specs/Making.antt` says which files a seed makes, `specs/Made.antt` what they boot to,
@@ -51,6 +51,6 @@ pub mod running;
 pub mod sets;
 pub mod summary;
 
-pub use answering::make_files;
+pub use answering::perform_make;
 pub use laws::law_made;
 pub use sets::Sets;

@@ -4,9 +4,9 @@ ghost use Rattle.std.specs.Prelude.{◌≡◌, ◌<◌, ◌≤◌, ◌^◌, leng
 ghost use Rattle.alm_asm.specs.Assembly.{assembled};
 ghost use Rattle.m36_text.specs.Texts.{name_limit};
 ghost use Rattle.m36_outside.specs.ReadAnswer.{file_limit};
-ghost use Rattle.m36_status.specs.Refusing.{Gives};
+ghost use Rattle.m36_status.specs.Refusing.{IsRuleResult};
 ghost use Rattle.cmd_tools.specs.Assemblies.{with_parts, assembly_of};
-ghost use Rattle.cmd_make.specs.Making.{object_name, object_by, object_of, with_objects, ObjectSays};
+ghost use Rattle.cmd_make.specs.Making.{object_name, object_set_or_refusal, object_of, with_objects, ObjectResult};
 
 use crate::sets::Sets;
 use alm_asm::assemble;
@@ -33,8 +33,8 @@ fn object_name(source: &[u8]) -> Name
 
 // The packed words of the object that parsed lines assemble to.
 #[tactic(auto, using(crate::proofs::ObjectLaws::made))]
-fn content_with(alloc: Global, lines: &Lines36) -> Result<Text, AlmFault>
-    ensures { ObjectSays result (with_parts lines.now (assembled lines.now)) }
+fn content_of_lines(alloc: Global, lines: &Lines36) -> Result<Text, AlmFault>
+    ensures { ObjectResult result (with_parts lines.now (assembled lines.now)) }
 {
     match assemble(alloc, lines) {
         Ok(object) => Ok(object_bytes(alloc, &object)?),
@@ -46,10 +46,10 @@ fn content_with(alloc: Global, lines: &Lines36) -> Result<Text, AlmFault>
 #[tactic(auto, using(crate::proofs::ObjectLaws::parsing))]
 fn content_of(alloc: Global, source: &[u8]) -> Result<Text, AlmFault>
     requires { length source.now < 2 ^ 32 }
-    ensures { ObjectSays result (assembly_of source.now) }
+    ensures { ObjectResult result (assembly_of source.now) }
 {
     match parse(alloc, source) {
-        Ok(lines) => content_with(alloc, &lines),
+        Ok(lines) => content_of_lines(alloc, &lines),
         Err(fault) => Err(fault),
     }
 }
@@ -60,7 +60,7 @@ fn content_of(alloc: Global, source: &[u8]) -> Result<Text, AlmFault>
 fn object_of_bytes(alloc: Global, name: &[u8], source: &[u8]) -> Result<Set, Refusal>
     requires name { length name.now ≤ name_limit }
     requires source { length source.now ≤ file_limit }
-    ensures { Gives result (object_by name.now (assembly_of source.now)) }
+    ensures { IsRuleResult result (object_set_or_refusal name.now (assembly_of source.now)) }
 {
     match content_of(alloc, source) {
         Ok(content) => Ok(Set {
@@ -74,7 +74,7 @@ fn object_of_bytes(alloc: Global, name: &[u8], source: &[u8]) -> Result<Set, Ref
 /// The object that `alm` makes of a source.
 #[tactic(auto, unfolding(crate::specs::Making::object_of), using(m36_status::proofs::GivesLaws::gives_refusal))]
 pub fn object_of(alloc: Global, source: &File) -> Result<Set, Refusal>
-    ensures { Gives result (object_of source.now) }
+    ensures { IsRuleResult result (object_of source.now) }
 {
     let bytes = source.content.bytes();
     if bytes.len() > FILE_LIMIT {
@@ -87,7 +87,7 @@ pub fn object_of(alloc: Global, source: &File) -> Result<Set, Refusal>
 /// source that is refused.
 #[tactic(auto, using(crate::proofs::ObjectLaws::objects_in_turn))]
 pub fn with_objects(alloc: Global, mut sets: Sets, sources: &[File]) -> Result<Sets, Refusal>
-    ensures { Gives result (with_objects sets sources.now) }
+    ensures { IsRuleResult result (with_objects sets sources.now) }
 {
     for source in sources {
         sets.push(object_of(alloc, source)?)?;

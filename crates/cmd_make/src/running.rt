@@ -3,10 +3,10 @@
 ghost use Rattle.std.specs.Prelude.{◌≡◌, []};
 ghost use Rattle.m36_super.specs.declared.coming.NextEvent.TheVariants.{Step, Link, Print};
 ghost use Rattle.m36_super.specs.SuperFields.{booted_of};
-ghost use Rattle.m36_super.specs.SuperTurn.{IsQuiet};
+ghost use Rattle.m36_super.specs.SuperTurn.{IsNoService};
 ghost use Rattle.m36_program.specs.Goes.{Goes};
 ghost use Rattle.cmd_make.specs.QuietRun.{run_from};
-ghost use Rattle.cmd_make.specs.RunSays.{from_step, from_service, TurnSays, LinkBefore, ran_in};
+ghost use Rattle.cmd_make.specs.RunSays.{rest_from_step, rest_from_service, TurnResult, MatchesNextEvent, summary_in_result};
 
 use cmd_folder::finish::Finish;
 use m36_model::{At, End, StepRecord};
@@ -35,8 +35,8 @@ pub enum AfterTurn {
 
 // What follows a link service: a step, or the end of the run if the link was refused.
 fn after_link(system: &Super) -> AfterTurn
-    requires { IsQuiet system.now.coming }
-    ensures { LinkBefore result system.now.coming }
+    requires { IsNoService system.now.coming }
+    ensures { MatchesNextEvent result system.now.coming }
 {
     match system.coming() {
         NextEvent::Step => AfterTurn::Next,
@@ -47,9 +47,9 @@ fn after_link(system: &Super) -> AfterTurn
 
 // Performs the link service for the link at `at`.
 #[tactic(auto, using(crate::proofs::Serving::services))]
-fn link(system: &mut Super, at: At) -> AfterTurn
+fn perform_link_service(system: &mut Super, at: At) -> AfterTurn
     requires { system.old.coming ≡ Link at }
-    ensures { TurnSays result system.old.lib (from_service system.old.lib (booted_of system.old))
+    ensures { TurnResult result system.old.lib (rest_from_service system.old.lib (booted_of system.old))
         system.new }
 {
     match system.serve_link(at) {
@@ -60,9 +60,9 @@ fn link(system: &mut Super, at: At) -> AfterTurn
 
 // Performs a console service. What the console writes is not put.
 #[tactic(auto, using(crate::proofs::Serving::services))]
-fn print(system: &mut Super) -> AfterTurn
+fn perform_console_service(system: &mut Super) -> AfterTurn
     requires { system.old.coming ≡ Print }
-    ensures { TurnSays result system.old.lib (from_service system.old.lib (booted_of system.old))
+    ensures { TurnResult result system.old.lib (rest_from_service system.old.lib (booted_of system.old))
         system.new }
 {
     match system.turn() {
@@ -75,13 +75,13 @@ fn print(system: &mut Super) -> AfterTurn
 // Performs the service that is next, if there is one.
 #[tactic(auto, using(crate::proofs::Serving::services))]
 fn serve(system: &mut Super) -> AfterTurn
-    ensures { TurnSays result system.old.lib (from_service system.old.lib (booted_of system.old))
+    ensures { TurnResult result system.old.lib (rest_from_service system.old.lib (booted_of system.old))
         system.new }
 {
     match system.coming() {
         NextEvent::Step => AfterTurn::Next,
-        NextEvent::Link(at) => link(system, at),
-        NextEvent::Print => print(system),
+        NextEvent::Link(at) => perform_link_service(system, at),
+        NextEvent::Print => perform_console_service(system),
         NextEvent::Over(end) => AfterTurn::Ended(end),
     }
 }
@@ -90,7 +90,7 @@ fn serve(system: &mut Super) -> AfterTurn
 // overwritten.
 fn take_step(system: &mut Super, told: &mut StepRecord) -> AfterTurn
     requires { system.old.coming ≡ Step }
-    ensures { TurnSays result system.old.lib (from_step system.old.lib (booted_of system.old))
+    ensures { TurnResult result system.old.lib (rest_from_step system.old.lib (booted_of system.old))
         system.new }
 {
     system.step_told(told);
@@ -101,7 +101,7 @@ fn take_step(system: &mut Super, told: &mut StepRecord) -> AfterTurn
 pub fn run_quietly(system: &mut Super, steps: u32) -> Result<RunEnd, Status>
     requires { system.old.coming ≡ Step }
     ensures { Goes (run_from system.old.lib 0 steps (booted_of system.old)) []
-        (ran_in result system.new) }
+        (summary_in_result result system.new) }
 {
     let mut told = system.untold();
     let mut taken: u32 = 0;

@@ -4,7 +4,7 @@ ghost use Rattle.std.specs.Prelude.{ℕ, ◌≡◌, ◌<◌, List, [], ◌∷◌
 ghost use Rattle.m36_text.specs.Lines.{as_line};
 ghost use Rattle.m36_super.specs.declared.coming.NextEvent.TheVariants.{Step};
 ghost use Rattle.m36_super.specs.SuperFields.{booted_of};
-ghost use Rattle.m36_audit.specs.Findings.{pairs};
+ghost use Rattle.m36_audit.specs.Findings.{finding_pairs};
 ghost use Rattle.m36_program.specs.Early.{ends};
 ghost use Rattle.m36_program.specs.Performs.{Performs};
 ghost use Rattle.m36_program.specs.Program.{quiet, done, puts, puts_all};
@@ -13,15 +13,15 @@ ghost use Rattle.cmd_folder.specs.RunText.{finish_status};
 ghost use Rattle.cmd_folder.specs.BootedSystems.{IsFresh};
 ghost use Rattle.cmd_folder.specs.RunProgram.{finish_may_end};
 ghost use Rattle.cmd_make.specs.Summary.{segments_line, sum_line, head_pieces};
-ghost use Rattle.cmd_make.specs.MakeProgram.{summed_up, run_summed, runs_or_ends, found_told, on_booted};
+ghost use Rattle.cmd_make.specs.MakeProgram.{put_summary, run_and_summarise, runs_or_ends, make_after_audit, on_booted};
 
 use crate::running::{RunEnd, run_quietly};
 use arrayvec::ArrayString;
-use cmd_folder::{audited, finish_line, finish_status};
+use cmd_folder::{audit_system, finish_line, finish_status};
 use cmd_image::findings::{put_audit, put_line};
 use m36_audit::Finding;
 use m36_model::Regs;
-use m36_program::early;
+use m36_program::result_of_status;
 use m36_status::Status;
 use m36_step::Stepper;
 use m36_super::Super;
@@ -61,7 +61,7 @@ fn sum_line(regs: &Regs) -> ArrayString<160>
 // Puts the lines before the run: the count of segments, and the audit's text.
 #[tactic(auto, using(crate::proofs::SummarySteps::heading))]
 fn put_head<W: World>(count: u64, findings: &[Finding], world: &mut W) -> Result<(), Status>
-    ensures { Performs {may = quiet} (puts_all (head_pieces count (pairs findings.now)) (done tt))
+    ensures { Performs {may = quiet} (puts_all (head_pieces count (finding_pairs findings.now)) (done tt))
         result (W.seen world.old) (W.seen world.new) }
 {
     match put_line(segments_line(count), world) {
@@ -78,14 +78,14 @@ fn put_sum<W: World>(end: RunEnd, regs: &Regs, world: &mut W) -> Result<(), Stat
         (W.seen world.old) (W.seen world.new) }
 {
     match put_line(sum_line(regs), world) {
-        Ok(()) => early(finish_status(end.how)),
+        Ok(()) => result_of_status(finish_status(end.how)),
         Err(status) => Err(status),
     }
 }
 
 // Puts the lines after a run: the end line, and the line with index register 1.
-fn sum_up<W: World>(end: RunEnd, regs: &Regs, world: &mut W) -> Result<(), Status>
-    ensures { Performs (summed_up
+fn put_summary<W: World>(end: RunEnd, regs: &Regs, world: &mut W) -> Result<(), Status>
+    ensures { Performs (put_summary
         record { how = end.how; steps = end.steps; regs = regs.now }) result
         (W.seen world.old) (W.seen world.new) }
 {
@@ -98,13 +98,13 @@ fn sum_up<W: World>(end: RunEnd, regs: &Regs, world: &mut W) -> Result<(), Statu
 // ---- answers
 
 // Runs the system for at most `steps` steps, and puts the lines after the run.
-fn run_and_sum<W: World>(system: &mut Super, steps: u32, world: &mut W) -> Result<(), Status>
+fn run_and_summarise<W: World>(system: &mut Super, steps: u32, world: &mut W) -> Result<(), Status>
     requires { system.old.coming ≡ Step }
-    ensures { Performs (run_summed system.old.lib steps (booted_of system.old)) result
+    ensures { Performs (run_and_summarise system.old.lib steps (booted_of system.old)) result
         (W.seen world.old) (W.seen world.new) }
 {
     match run_quietly(system, steps) {
-        Ok(end) => sum_up(end, system.regs(), world),
+        Ok(end) => put_summary(end, system.regs(), world),
         Err(status) => Err(status),
     }
 }
@@ -117,11 +117,11 @@ fn run_or_end<W: World>(
     world: &mut W,
 ) -> Result<(), Status>
     requires { system.old.coming ≡ Step }
-    ensures { Performs (runs_or_ends (passes (pairs findings.now)) system.old.lib
+    ensures { Performs (runs_or_ends (passes (finding_pairs findings.now)) system.old.lib
         (booted_of system.old)) result (W.seen world.old) (W.seen world.new) }
 {
     if findings.is_empty() {
-        run_and_sum(system, RUN_LIMIT, world)
+        run_and_summarise(system, RUN_LIMIT, world)
     } else {
         Err(Status::AuditNo)
     }
@@ -129,13 +129,13 @@ fn run_or_end<W: World>(
 
 // Puts the lines of a system, given the findings of the audit of its core, and runs it if there are
 // none.
-fn answer_found<W: World>(
+fn perform_for_findings<W: World>(
     system: &mut Super,
     findings: &[Finding],
     world: &mut W,
 ) -> Result<(), Status>
     requires { system.old.coming ≡ Step }
-    ensures { Performs (found_told system.old.lib (booted_of system.old) (pairs findings.now))
+    ensures { Performs (make_after_audit system.old.lib (booted_of system.old) (finding_pairs findings.now))
         result (W.seen world.old) (W.seen world.new) }
 {
     let count = system.catalog().count() as u64;
@@ -153,9 +153,9 @@ pub fn summarise<W: World>(alloc: Global, mut system: Super, world: &mut W) -> R
         → Performs (on_booted record { lib = system.lib; denied = denied }) result
         (W.seen world.old) (W.seen world.new) }
 {
-    match audited(alloc, &system) {
+    match audit_system(alloc, &system) {
         Ok(verdict) => {
-            let answer = answer_found(&mut system, verdict.findings.as_slice(), world);
+            let answer = perform_for_findings(&mut system, verdict.findings.as_slice(), world);
             // Dropped by a call, so that the drop is proved once for its type.
             drop(verdict);
             drop(system);

@@ -14,24 +14,24 @@ use Rattle.m36_program.proofs.Performing.{goes_done, performs_none}
 use Rattle.m36_program.proofs.PutLaws.{puts_none}
 use Rattle.cmd_image.specs.AuditText.{yes_line}
 use Rattle.cmd_image.proofs.AuditPuts.{all_put, put_more, one_is}
-use Rattle.cmd_procs.specs.JointText.{found_line, found_pieces, joint_pieces}
+use Rattle.cmd_procs.specs.JointText.{joint_finding_line, joint_finding_pieces, joint_audit_pieces}
 
 -- ---- the lines of findings
 
 abbrev pub pieces_of_findings : List JointFinding → List (List ℕ)
-pieces_of_findings findings = found_pieces (all_found findings)
+pieces_of_findings findings = joint_finding_pieces (all_found findings)
 
 abbrev pub line_at : List JointFinding → ℕ → JointFinding → List ℕ
-line_at findings i d = as_line (found_line (found_of (get_or findings i d)))
+line_at findings i d = as_line (joint_finding_line (found_of (get_or findings i d)))
 
 piece_first :
     (f : JointFinding) (findings : List JointFinding)
-    → pieces_of_findings (f ∷ findings) ≡ as_line (found_line (found_of f)) ∷ pieces_of_findings findings
-unfolding found_pieces
+    → pieces_of_findings (f ∷ findings) ≡ as_line (joint_finding_line (found_of f)) ∷ pieces_of_findings findings
+unfolding joint_finding_pieces
 piece_first f findings = refl
 
 piece_none : pieces_of_findings [] ≡ []
-unfolding found_pieces
+unfolding joint_finding_pieces
 piece_none = refl
 
 left_at :
@@ -82,25 +82,25 @@ pub ruleset findings_in_turn = (findings_start, finding_put, finding_unput, find
 
 -- ---- the whole text
 
-pieces_of_none : (findings : List JointFinding) → length findings ≡ 0 → joint_pieces (all_found findings) ≡ yes_line ∷ []
+pieces_of_none : (findings : List JointFinding) → length findings ≡ 0 → joint_audit_pieces (all_found findings) ≡ yes_line ∷ []
 pieces_of_none [] none = refl
 pieces_of_none (f ∷ findings) none = absurd (omega (arith, none))
 
-pieces_of_some : (findings : List JointFinding) → 0 < length findings → joint_pieces (all_found findings) ≡ pieces_of_findings findings
+pieces_of_some : (findings : List JointFinding) → 0 < length findings → joint_audit_pieces (all_found findings) ≡ pieces_of_findings findings
 pieces_of_some [] some = absurd (omega arith)
 pieces_of_some (f ∷ findings) some = refl
 
 pub yes_put :
     (findings : List JointFinding) (result : Result (Unit {0}) Status) (old new : Seen)
     → length findings ≡ 0 → Performs {may = quiet} (put_one yes_line) result old new
-    → Performs (all_put (joint_pieces (all_found findings))) result old new
+    → Performs (all_put (joint_audit_pieces (all_found findings))) result old new
 yes_put findings result old new none put =
     subst (λ p. Performs p result old new) (one_is yes_line ∙ sym (ap all_put (pieces_of_none findings none))) put
 
 pub lines_put :
     (findings : List JointFinding) (result : Result (Unit {0}) Status) (old new : Seen)
     → 0 < length findings → Performs (all_put (pieces_of_findings findings)) result old new
-    → Performs (all_put (joint_pieces (all_found findings))) result old new
+    → Performs (all_put (joint_audit_pieces (all_found findings))) result old new
 lines_put findings result old new some put =
     subst (λ p. Performs p result old new) (sym (ap all_put (pieces_of_some findings some))) put
 

@@ -6,7 +6,7 @@ use Rattle.m36_model.specs.Core.{core_store}
 use Rattle.m36_model.specs.Schedule.{Processes, process_of, stepped}
 use Rattle.m36_model.specs.Step.{record_of}
 use Rattle.m36_model.specs.declared.record.StepRecord.{StepRecord}
-use Rattle.m36_procs.specs.EventSays.{EventSays, IsEvent}
+use Rattle.m36_procs.specs.EventResult.{EventResult, IsEvent}
 use Rattle.m36_procs.specs.ProcsFields.{ProcsFields}
 use Rattle.m36_procs.specs.ScheduleText.{event_line, end_line, pieces_from, schedule_pieces}
 use Rattle.m36_procs.proofs.EventsRun.{pieces_first, pieces_last, get_of}
@@ -19,7 +19,7 @@ use Rattle.m36_program.specs.Performs.{Performs, Leads}
 use Rattle.m36_program.specs.Program.{quiet, Program, puts, puts_all}
 use Rattle.m36_program.proofs.LeadLaws.{leads_start, leads_as, leads_adds, leads_lost_one, leads_lost, leads_finished, leads_empty}
 use Rattle.m36_program.proofs.ProgramLaws.{goes_ends}
-use Rattle.cmd_procs.specs.ProcsProgram.{run_all}
+use Rattle.cmd_procs.specs.ProcsProgram.{run_schedule}
 use Rattle.cmd_procs.proofs.Registers.{drop_at}
 
 -- the end of a run
@@ -37,14 +37,14 @@ put_more piece pieces = refl
 -- no event was made
 pub run_starts :
     (p : ProcsFields) (block : List (List ℕ)) (seen : Seen) → block ≡ []
-    → Leads (puts_all block (left_at p.schedule 0 p.state)) (run_all p) seen seen
-unfolding run_all schedule_pieces
-run_starts p block seen none = leads_empty block (run_all p) (run_all p) seen seen none (leads_start (run_all p) seen)
+    → Leads (puts_all block (left_at p.schedule 0 p.state)) (run_schedule p) seen seen
+unfolding run_schedule schedule_pieces
+run_starts p block seen none = leads_empty block (run_schedule p) (run_schedule p) seen seen none (leads_start (run_schedule p) seen)
 
 -- the line of the next event, and what is left after it
 event_left :
     (schedule : List ℕ) (n i : ℕ) (s new : Processes (List ℕ)) (step : StepRecord)
-    → slice_get schedule n ≡ Some i → i < length s.regs → EventSays i s new step
+    → slice_get schedule n ≡ Some i → i < length s.regs → EventResult i s new step
     → left_at schedule n s ≡ puts (event_line (n + 1) i step) (left_at schedule (n + 1) new)
 event_left schedule n i s new step at inside says =
     let own = get_of s.regs i inside in
@@ -63,7 +63,7 @@ pub run_next :
     (first : Program quiet (Unit {0})) (schedule : List ℕ) (n i : ℕ) (s new : Processes (List ℕ)) (step : StepRecord)
     (block block' : List (List ℕ)) (old between now : Seen)
     → Leads (puts_all block (left_at schedule n s)) first old between
-    → slice_get schedule n ≡ Some i → i < length s.regs → EventSays i s new step
+    → slice_get schedule n ≡ Some i → i < length s.regs → EventResult i s new step
     → Gathers block block' (event_line (n + 1) i step ∷ []) between now
     → Leads (puts_all block' (left_at schedule (n + 1) new)) first old now
 run_next first schedule n i s new step block block' old between now so_far at inside says added =
@@ -77,7 +77,7 @@ pub run_lost :
     (first : Program quiet (Unit {0})) (schedule : List ℕ) (n i : ℕ) (s new : Processes (List ℕ)) (step : StepRecord)
     (block : List (List ℕ)) (old between now : Seen)
     → Leads (puts_all block (left_at schedule n s)) first old between
-    → slice_get schedule n ≡ Some i → i < length s.regs → EventSays i s new step
+    → slice_get schedule n ≡ Some i → i < length s.regs → EventResult i s new step
     → Loses (block ++ event_line (n + 1) i step ∷ []) between now
     → Performs first (Err WriteFault) old now
 run_lost first schedule n i s new step block old between now so_far at inside says lost =

@@ -6,36 +6,36 @@ use Rattle.std.specs.Prelude.{ℕ, List, [], ◌∷◌, ◌++◌, codes, Option,
 use Rattle.m36_outside.specs.Passing.{joined}
 use Rattle.m36_text.specs.Digits.{decimal_text, core_word_digits}
 use Rattle.m36_text.specs.Lines.{as_line}
-use Rattle.m36_model.specs.JointAudit.{JointFound}
-use Rattle.cmd_image.specs.AuditText.{place_text, found_text, yes_or}
+use Rattle.m36_model.specs.JointAudit.{JointFindingFields}
+use Rattle.cmd_image.specs.AuditText.{place_text, finding_text, lines_or_yes}
 
 -- the line of a finding of a process, without its line feed
 unfoldable pub process_line : ℕ → ℕ → ℕ → List ℕ
 process_line process condition place =
-    codes "audit no " ++ decimal_text process ++ codes " A" ++ found_text condition place
+    codes "audit no " ++ decimal_text process ++ codes " A" ++ finding_text condition place
 
 -- the line of a finding between processes, without its line feed
 unfoldable pub between_line : ℕ → ℕ → List ℕ
 between_line condition place = codes "audit no J" ++ place_text condition core_word_digits place
 
 -- the line of a finding: with the number of its process, or between processes if it has none
-abbrev pub line_by : Option ℕ → ℕ → ℕ → List ℕ
-line_by (Some process) condition place = process_line process condition place
-line_by None condition place = between_line condition place
+abbrev pub process_or_between_line : Option ℕ → ℕ → ℕ → List ℕ
+process_or_between_line (Some process) condition place = process_line process condition place
+process_or_between_line None condition place = between_line condition place
 
 -- the line of a finding of a joint audit, without its line feed
-abbrev pub found_line : JointFound → List ℕ
-found_line f = line_by f.process f.condition f.place
+abbrev pub joint_finding_line : JointFindingFields → List ℕ
+joint_finding_line f = process_or_between_line f.process f.condition f.place
 
 -- a line for each finding, in the order of the findings
-unfoldable pub found_pieces : List JointFound → List (List ℕ)
-found_pieces [] = []
-found_pieces (f ∷ findings) = as_line (found_line f) ∷ found_pieces findings
+unfoldable pub joint_finding_pieces : List JointFindingFields → List (List ℕ)
+joint_finding_pieces [] = []
+joint_finding_pieces (f ∷ findings) = as_line (joint_finding_line f) ∷ joint_finding_pieces findings
 
 -- the lines of a joint audit with these findings
-abbrev pub joint_pieces : List JointFound → List (List ℕ)
-joint_pieces findings = yes_or found_pieces findings
+abbrev pub joint_audit_pieces : List JointFindingFields → List (List ℕ)
+joint_audit_pieces findings = lines_or_yes joint_finding_pieces findings
 
 -- the text of a joint audit: its lines, one after another
-abbrev pub joint_text : List JointFound → List ℕ
-joint_text findings = joined (joint_pieces findings)
+abbrev pub joint_audit_text : List JointFindingFields → List ℕ
+joint_audit_text findings = joined (joint_audit_pieces findings)

@@ -1,7 +1,7 @@
 -- How `procs FILE` ends on its processes: what it puts and which status it has, by the findings of
 -- the joint audit; and which findings there are, by the conditions of the joint audit.
 use Rattle.std.specs.Prelude.{ℕ, ◌≡◌, Bool, true, false, List, [], ◌∷◌, ◌++◌, Result}
-use Rattle.m36_model.specs.JointAudit.{JointFound, IsJointlyAudited}
+use Rattle.m36_model.specs.JointAudit.{JointFindingFields, IsJointlyAudited}
 use Rattle.m36_procs.specs.ProcsFields.{ProcsFields}
 use Rattle.m36_procs.specs.ScheduleText.{schedule_pieces}
 use Rattle.m36_world.specs.declared.event.Event.{Event}
@@ -10,9 +10,9 @@ use Rattle.m36_status.specs.declared.status.Status.TheVariants.{Done}
 use Rattle.m36_program.specs.Alike.{IsEnd}
 use Rattle.m36_program.specs.Ended.{HasEnd}
 use Rattle.m36_program.specs.Goes.{Goes}
-use Rattle.cmd_image.specs.ImageAudit.{is_run, audit_status}
+use Rattle.cmd_image.specs.ImageAudit.{is_run_allowed, audit_status}
 use Rattle.cmd_image.specs.ImageEnds.{EndsWith}
-use Rattle.cmd_procs.specs.JointText.{joint_pieces}
+use Rattle.cmd_procs.specs.JointText.{joint_audit_pieces}
 use Rattle.cmd_procs.specs.Scheduled.{dbrs_of}
 use Rattle.cmd_procs.specs.ProcsProgram.{AreScheduleFindings, on_procs}
 
@@ -20,9 +20,9 @@ use Rattle.cmd_procs.specs.ProcsProgram.{AreScheduleFindings, on_procs}
 
 -- The pieces: those of the audit and, if the schedule is run, those of the whole schedule. The
 -- Boolean is whether it is run.
-abbrev pub procs_pieces : Bool → ProcsFields → List JointFound → List (List ℕ)
-procs_pieces true p findings = joint_pieces findings ++ schedule_pieces p.schedule p.state
-procs_pieces false p findings = joint_pieces findings
+abbrev pub procs_pieces : Bool → ProcsFields → List JointFindingFields → List (List ℕ)
+procs_pieces true p findings = joint_audit_pieces findings ++ schedule_pieces p.schedule p.state
+procs_pieces false p findings = joint_audit_pieces findings
 
 -- the status: Done if the schedule is run, otherwise AuditNo
 abbrev pub procs_status : Bool → Status
@@ -30,20 +30,20 @@ procs_status true = Done
 procs_status false = audit_status false
 
 -- The call put what these findings require, and has their status.
-abbrev pub EndsByFound : Bool → ProcsFields → List JointFound → List Event
+abbrev pub EndsByJointFindings : Bool → ProcsFields → List JointFindingFields → List Event
     → Result (Unit {0}) Status → Type 0
-EndsByFound unaudited p findings events result =
-    EndsWith (procs_pieces (is_run findings unaudited) p findings)
-    (procs_status (is_run findings unaudited)) events result
+EndsByJointFindings unaudited p findings events result =
+    EndsWith (procs_pieces (is_run_allowed findings unaudited) p findings)
+    (procs_status (is_run_allowed findings unaudited)) events result
 
 -- The joint audit has at least one finding. The call put what the findings require, and has their
 -- status.
-pub record EndsBySomeFound (unaudited : Bool) (p : ProcsFields) (events : List Event)
+pub record EndsBySomeJointFindings (unaudited : Bool) (p : ProcsFields) (events : List Event)
     (result : Result (Unit {0}) Status) : Type 0 where
-  pub first : JointFound
-  pub others : List JointFound
+  pub first : JointFindingFields
+  pub others : List JointFindingFields
   pub are : AreScheduleFindings p.state (first ∷ others)
-  pub ends : EndsByFound unaudited p (first ∷ others) events result
+  pub ends : EndsByJointFindings unaudited p (first ∷ others) events result
 
 -- ---- the law
 
@@ -51,12 +51,12 @@ pub record EndsBySomeFound (unaudited : Bool) (p : ProcsFields) (events : List E
 pub record ProcsEndLaw : Type 0 where
   -- Processes have one list of findings.
   pub one_list :
-      (p : ProcsFields) (findings others : List JointFound)
+      (p : ProcsFields) (findings others : List JointFindingFields)
       → AreScheduleFindings p.state findings → AreScheduleFindings p.state others
       → findings ≡ others
   -- It is empty if all conditions of the joint audit hold, and only then.
   pub none :
-      (p : ProcsFields) (findings : List JointFound) → AreScheduleFindings p.state findings
+      (p : ProcsFields) (findings : List JointFindingFields) → AreScheduleFindings p.state findings
       → IsJointlyAudited p.state.store (dbrs_of p.state) → findings ≡ []
   pub only :
       (p : ProcsFields) → AreScheduleFindings p.state []
@@ -76,11 +76,11 @@ pub record ProcsEndLaw : Type 0 where
       (result : Result (Unit {0}) Status)
       → Goes (on_procs unaudited p) events result → IsEnd result
       → IsJointlyAudited p.state.store (dbrs_of p.state)
-      → EndsByFound unaudited p [] events result
+      → EndsByJointFindings unaudited p [] events result
   -- Otherwise it put what is required by some findings.
   pub failed :
       (unaudited : Bool) (p : ProcsFields) (events : List Event)
       (result : Result (Unit {0}) Status)
       → Goes (on_procs unaudited p) events result → IsEnd result
       → ¬ IsJointlyAudited p.state.store (dbrs_of p.state)
-      → EndsBySomeFound unaudited p events result
+      → EndsBySomeJointFindings unaudited p events result

@@ -32,6 +32,6 @@ pub record SchedulesAreIsolated (s : Processes (List ℕ)) : Type 0 where
 
 -- All conditions of the joint audit hold, and every schedule of the processes is isolated in each
 -- ring from 1.
-pub record PassesJoint (s : Processes (List ℕ)) : Type 0 where
+pub record PassesJointAudit (s : Processes (List ℕ)) : Type 0 where
   pub conditions : IsJointlyAudited s.store (dbrs_of s)
   pub isolates : SchedulesAreIsolated s

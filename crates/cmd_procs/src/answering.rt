@@ -4,14 +4,14 @@ ghost use Rattle.std.specs.Prelude.{◌≡◌, ◌≤◌, [], IfOk, length};
 ghost use Rattle.m36_model.specs.JointAudit.{AreJointFindings, most_processes};
 ghost use Rattle.m36_audit.specs.Joints.{all_found};
 ghost use Rattle.m36_program.specs.Performs.{Performs};
-ghost use Rattle.cmd_image.specs.ImageAudit.{is_run};
+ghost use Rattle.cmd_image.specs.ImageAudit.{is_run_allowed};
 ghost use Rattle.cmd_procs.specs.Scheduled.{dbrs_of, SchedulesAreIsolated};
-ghost use Rattle.cmd_procs.specs.ProcsProgram.{audit_only, audit_and_run, by_found, on_procs, procs_program};
+ghost use Rattle.cmd_procs.specs.ProcsProgram.{audit_only, audit_and_run, procs_after_audit, on_procs, procs_program};
 
-use crate::findings::put_joint;
+use crate::findings::put_joint_audit;
 use crate::reading::read_procs;
 use crate::running::run;
-use m36_audit::{Joint, JointFinding, joint};
+use m36_audit::{JointVerdict, JointFinding, joint_audit};
 use m36_desc::Dbr;
 use m36_model::Regs;
 use m36_procs::Procs;
@@ -21,7 +21,7 @@ use m36_world::World;
 use std::alloc::Global;
 
 /// Puts the audit's text line by line, and then runs the schedule.
-#[tactic(auto, using(crate::proofs::ProcsSteps::audited))]
+#[tactic(auto, using(crate::proofs::ProcsSteps::audit_jointly))]
 fn run_audited<W: World>(
     findings: &[JointFinding],
     procs: &mut Procs,
@@ -30,7 +30,7 @@ fn run_audited<W: World>(
     ensures { Performs (audit_and_run procs.old (all_found findings.now)) result
         (W.seen world.old) (W.seen world.new) }
 {
-    match put_joint(findings, world) {
+    match put_joint_audit(findings, world) {
         Ok(()) => run(procs, world),
         Err(status) => Err(status),
     }
@@ -42,7 +42,7 @@ fn refuse_run<W: World>(findings: &[JointFinding], world: &mut W) -> Result<(), 
     ensures { Performs (audit_only (all_found findings.now)) result
         (W.seen world.old) (W.seen world.new) }
 {
-    match put_joint(findings, world) {
+    match put_joint_audit(findings, world) {
         Ok(()) => Err(Status::AuditNo),
         Err(status) => Err(status),
     }
@@ -50,24 +50,24 @@ fn refuse_run<W: World>(findings: &[JointFinding], world: &mut W) -> Result<(), 
 
 // Whether the schedule is run: if the audit found nothing, or `--unaudited` is given.
 #[tactic(auto, using(crate::proofs::ProcsSteps::passing))]
-fn is_run(findings: &[JointFinding], unaudited: bool) -> bool
-    ensures { result ≡ is_run (all_found findings.now) unaudited }
+fn is_run_allowed(findings: &[JointFinding], unaudited: bool) -> bool
+    ensures { result ≡ is_run_allowed (all_found findings.now) unaudited }
 {
     findings.is_empty() || unaudited
 }
 
 // Performs the command, given the findings of the joint audit: runs the schedule if that is
 // allowed, and otherwise ends with AuditNo.
-fn answer_found<W: World>(
+fn perform_for_findings<W: World>(
     findings: &[JointFinding],
     procs: &mut Procs,
     unaudited: bool,
     world: &mut W,
 ) -> Result<(), Status>
-    ensures { Performs (by_found unaudited procs.old (all_found findings.now)) result
+    ensures { Performs (procs_after_audit unaudited procs.old (all_found findings.now)) result
         (W.seen world.old) (W.seen world.new) }
 {
-    if is_run(findings, unaudited) {
+    if is_run_allowed(findings, unaudited) {
         run_audited(findings, procs, world)
     } else {
         refuse_run(findings, world)
@@ -97,20 +97,20 @@ fn dbrs_of(alloc: Global, procs: &Procs) -> Result<Vec<Dbr>, NoMemory>
 
 // Audits processes jointly. If there are no findings, every schedule of them is isolated. Fails
 // only with `NoMemory`.
-fn audited(alloc: Global, procs: &Procs) -> Result<Joint, NoMemory>
+fn audit_jointly(alloc: Global, procs: &Procs) -> Result<JointVerdict, NoMemory>
     ensures found { IfOk result (λ j. AreJointFindings procs.now.state.store
         (dbrs_of procs.now.state) (all_found j.findings.items)) }
     ensures isolated { IfOk result (λ j. all_found j.findings.items ≡ []
         → SchedulesAreIsolated procs.now.state) }
 {
     let dbrs = dbrs_of(alloc, procs)?;
-    let verdict = joint(alloc, procs.core(), dbrs.as_slice())?;
+    let verdict = joint_audit(alloc, procs.core(), dbrs.as_slice())?;
     Ok(verdict)
 }
 
 /// Audits processes, and performs the command on them. NoMemory if the audit runs out of memory.
 #[tactic(auto, using(crate::proofs::ProcsSteps::found))]
-fn with_procs<W: World>(
+fn audit_procs_and_answer<W: World>(
     alloc: Global,
     mut procs: Procs,
     unaudited: bool,
@@ -118,10 +118,10 @@ fn with_procs<W: World>(
 ) -> Result<(), Status>
     ensures { Performs (on_procs unaudited procs) result (W.seen world.old) (W.seen world.new) }
 {
-    match audited(alloc, &procs) {
+    match audit_jointly(alloc, &procs) {
         Ok(verdict) => {
             let findings = verdict.findings.as_slice();
-            let answer = answer_found(findings, &mut procs, unaudited, world);
+            let answer = perform_for_findings(findings, &mut procs, unaudited, world);
             // Dropped by calls, so that each drop is proved once for its type.
             drop(verdict);
             drop(procs);
@@ -137,7 +137,7 @@ fn with_procs<W: World>(
 /// Performs `procs FILE` over any world, with or without `--unaudited`. An error is the status of
 /// the command.
 #[tactic(auto, unfolding(crate::specs::ProcsProgram::procs_program), using(m36_program::proofs::Performing::performing))]
-pub fn procs_file<W: World>(
+pub fn perform_procs_command<W: World>(
     alloc: Global,
     name: &[u8],
     unaudited: bool,
@@ -147,7 +147,7 @@ pub fn procs_file<W: World>(
         (W.seen world.old) (W.seen world.new) }
 {
     match read_procs(alloc, name, world) {
-        Ok(procs) => with_procs(alloc, procs, unaudited, world),
+        Ok(procs) => audit_procs_and_answer(alloc, procs, unaudited, world),
         Err(status) => Err(status),
     }
 }

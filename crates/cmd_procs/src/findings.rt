@@ -6,7 +6,7 @@ ghost use Rattle.m36_audit.specs.Joints.{found_of, all_found};
 ghost use Rattle.m36_program.specs.Performs.{Performs};
 ghost use Rattle.m36_program.specs.Program.{quiet, done, puts_all};
 ghost use Rattle.m36_program.specs.Readers.{put_one};
-ghost use Rattle.cmd_procs.specs.JointText.{process_line, between_line, found_line, found_pieces, joint_pieces};
+ghost use Rattle.cmd_procs.specs.JointText.{process_line, between_line, joint_finding_line, joint_finding_pieces, joint_audit_pieces};
 
 use arrayvec::ArrayString;
 use cmd_image::audit_lines::place_text;
@@ -47,8 +47,8 @@ fn between_line(condition: u8, place: u32) -> ArrayString<160>
 }
 
 /// The line of a finding, without its line feed.
-fn found_line(finding: &JointFinding) -> ArrayString<160>
-    ensures text { result.bytes ≡ found_line (found_of finding.now) }
+fn joint_finding_line(finding: &JointFinding) -> ArrayString<160>
+    ensures text { result.bytes ≡ joint_finding_line (found_of finding.now) }
     ensures len { length result.bytes ≤ 61 }
 {
     match finding.process {
@@ -58,21 +58,21 @@ fn found_line(finding: &JointFinding) -> ArrayString<160>
 }
 
 // Puts the line of a finding.
-fn put_found<W: World>(finding: &JointFinding, world: &mut W) -> Result<(), Status>
-    ensures { Performs {may = quiet} (put_one (as_line (found_line (found_of finding.now)))) result
+fn put_joint_finding<W: World>(finding: &JointFinding, world: &mut W) -> Result<(), Status>
+    ensures { Performs {may = quiet} (put_one (as_line (joint_finding_line (found_of finding.now)))) result
         (W.seen world.old) (W.seen world.new) }
 {
-    put_line(found_line(finding), world)
+    put_line(joint_finding_line(finding), world)
 }
 
 // Puts a line for each finding.
 #[tactic(auto, using(crate::proofs::JointTexts::findings_in_turn))]
-fn put_all<W: World>(findings: &[JointFinding], world: &mut W) -> Result<(), Status>
-    ensures { Performs {may = quiet} (puts_all (found_pieces (all_found findings.now)) (done tt))
+fn put_joint_findings<W: World>(findings: &[JointFinding], world: &mut W) -> Result<(), Status>
+    ensures { Performs {may = quiet} (puts_all (joint_finding_pieces (all_found findings.now)) (done tt))
         result (W.seen world.old) (W.seen world.new) }
 {
     for finding in findings {
-        match put_found(finding, world) {
+        match put_joint_finding(finding, world) {
             Ok(()) => {}
             Err(status) => return Err(status),
         }
@@ -82,12 +82,12 @@ fn put_all<W: World>(findings: &[JointFinding], world: &mut W) -> Result<(), Sta
 
 /// Puts the text of a joint audit, line by line.
 #[tactic(auto, using(crate::proofs::JointTexts::joint_texts))]
-pub fn put_joint<W: World>(findings: &[JointFinding], world: &mut W) -> Result<(), Status>
-    ensures { Performs {may = quiet} (puts_all (joint_pieces (all_found findings.now)) (done tt))
+pub fn put_joint_audit<W: World>(findings: &[JointFinding], world: &mut W) -> Result<(), Status>
+    ensures { Performs {may = quiet} (puts_all (joint_audit_pieces (all_found findings.now)) (done tt))
         result (W.seen world.old) (W.seen world.new) }
 {
     if findings.is_empty() {
         return put_yes(world);
     }
-    put_all(findings, world)
+    put_joint_findings(findings, world)
 }

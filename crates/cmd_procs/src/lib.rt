@@ -10,7 +10,7 @@
 //! 4. If nothing was found, or with `--unaudited`, the schedule is run: a line is put for each of
 //!    its steps, and the last line.
 //!
-//! Memory does not run out once a line was put. [`procs_file`] performs this program over any
+//! Memory does not run out once a line was put. [`perform_procs_command`] performs this program over any
 //! world.
 //!
 //! By its type the program writes no file and takes no input.
@@ -34,5 +34,5 @@ pub mod laws;
 pub mod reading;
 pub mod running;
 
-pub use answering::procs_file;
+pub use answering::perform_procs_command;
 pub use laws::{law_procs_ends, law_procs_text};

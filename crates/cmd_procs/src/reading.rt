@@ -5,7 +5,7 @@ ghost use Rattle.m36_outside.specs.ReadAnswer.{file_limit};
 ghost use Rattle.m36_program.specs.Goes.{Goes};
 ghost use Rattle.m36_program.specs.Performs.{Performs};
 ghost use Rattle.m36_program.specs.Program.{quiet};
-ghost use Rattle.cmd_procs.specs.ProcsProgram.{decode, procs_of};
+ghost use Rattle.cmd_procs.specs.ProcsProgram.{decode, procs_in_file};
 
 use m36_procs::{Procs, ProcsFault};
 use m36_program::{read_bytes, refuse};
@@ -30,7 +30,7 @@ fn decode(alloc: Global, name: &[u8], bytes: &[u8]) -> Result<Procs, Status>
 /// Reads and decodes a file of processes. An error is the status of the command.
 #[tactic(auto, using(crate::proofs::ProcsSteps::reading))]
 pub fn read_procs<W: World>(alloc: Global, name: &[u8], world: &mut W) -> Result<Procs, Status>
-    ensures { Performs {may = quiet} (procs_of name.now) result
+    ensures { Performs {may = quiet} (procs_in_file name.now) result
         (W.seen world.old) (W.seen world.new) }
 {
     match read_bytes(alloc, name, world) {

@@ -4,7 +4,7 @@ ghost use Rattle.std.specs.Prelude.{◌≡◌, ◌<◌, ◌++◌, ◌∷◌, [],
 ghost use Rattle.m36_procs.specs.ScheduleText.{event_line, end_line};
 ghost use Rattle.m36_program.specs.Gathered.{Adds, Puts};
 ghost use Rattle.m36_program.specs.Performs.{Performs};
-ghost use Rattle.cmd_procs.specs.ProcsProgram.{run_all};
+ghost use Rattle.cmd_procs.specs.ProcsProgram.{run_schedule};
 
 use m36_model::StepRecord;
 use m36_outside::{Block, Put};
@@ -44,7 +44,7 @@ fn finish_run<W: World>(events: u64, block: &mut Block, world: &mut W) -> Put
 /// with WriteFault.
 #[tactic(auto, using(crate::proofs::ScheduleLoop::running))]
 pub fn run<W: World>(procs: &mut Procs, world: &mut W) -> Result<(), Status>
-    ensures { Performs (run_all procs.old) result (W.seen world.old) (W.seen world.new) }
+    ensures { Performs (run_schedule procs.old) result (W.seen world.old) (W.seen world.new) }
 {
     let mut block = Block::new();
     let mut step = procs.new_record();

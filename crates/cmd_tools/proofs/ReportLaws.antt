@@ -6,13 +6,13 @@ use Rattle.m36_world.specs.Seen.{Seen}
 use Rattle.m36_status.specs.declared.setting.Set.{Set}
 use Rattle.m36_status.specs.declared.status.Status.{Status}
 use Rattle.cmd_tools.specs.LinesIn.{lines_in}
-use Rattle.cmd_tools.specs.Reports.{ToldFields}
+use Rattle.cmd_tools.specs.Reports.{ReportFields}
 use Rattle.m36_program.specs.Performs.{Performs, Leads}
 use Rattle.m36_program.specs.Program.{May, Program, done, puts, puts_all, writes, then_with}
 use Rattle.m36_program.specs.Readers.{put_one, write_one}
 use Rattle.m36_program.proofs.LeadLaws.{leads_start, leads_as, leads_then, leads_stop, leads_ends, leads_put, leads_unput}
 use Rattle.m36_program.proofs.Performing.{goes_done, performs_none, performs_then, performs_stop}
-use Rattle.m36_files.specs.Writing.{writing}
+use Rattle.m36_files.specs.Writing.{may_write_files}
 use Rattle.cmd_tools.specs.Reporting.{writes_all, put_text, write_files, write_report}
 
 -- ---- a text
@@ -75,18 +75,18 @@ files_start files seen = leads_start (write_files files) seen
 written_as :
     (file : Set) (name content : List ℕ) (result : Result (Unit {0}) Status) (old new : Seen)
     → name ≡ file.name → content ≡ file.content
-    → Performs {may = writing} (write_one refl name content) result old new
-    → Performs {may = writing} (write_one refl file.name file.content) result old new
+    → Performs {may = may_write_files} (write_one refl name content) result old new
+    → Performs {may = may_write_files} (write_one refl file.name file.content) result old new
 written_as file name content result old new named filled performs =
-    subst (λ (n : List ℕ). Performs {may = writing} (write_one refl n file.content) result old new) named
-    (subst (λ (t : List ℕ). Performs {may = writing} (write_one refl name t) result old new) filled performs)
+    subst (λ (n : List ℕ). Performs {may = may_write_files} (write_one refl n file.content) result old new) named
+    (subst (λ (t : List ℕ). Performs {may = may_write_files} (write_one refl name t) result old new) filled performs)
 
 -- a file was written
 pub file_written :
-    (files : List Set) (i : ℕ) (file : Set) (name content : List ℕ) (first : Program writing (Unit {0})) (old between new : Seen)
+    (files : List Set) (i : ℕ) (file : Set) (name content : List ℕ) (first : Program may_write_files (Unit {0})) (old between new : Seen)
     → i < length files → file ≡ get_or files i file → name ≡ file.name → content ≡ file.content
     → Leads (write_files (drop i files)) first old between
-    → Performs {may = writing} (write_one refl name content) (Ok tt) between new
+    → Performs {may = may_write_files} (write_one refl name content) (Ok tt) between new
     → Leads (write_files (drop (i + 1) files)) first old new
 file_written files i file name content first old between new inside at named filled left performs =
     leads_then (write_one refl file.name file.content) (λ u. write_files (drop (i + 1) files)) first tt old between new
@@ -95,10 +95,10 @@ file_written files i file name content first old between new inside at named fil
 
 -- a file was not written
 pub file_unwritten :
-    (files : List Set) (i : ℕ) (file : Set) (name content : List ℕ) (first : Program writing (Unit {0})) (s : Status) (old between new : Seen)
+    (files : List Set) (i : ℕ) (file : Set) (name content : List ℕ) (first : Program may_write_files (Unit {0})) (s : Status) (old between new : Seen)
     → i < length files → file ≡ get_or files i file → name ≡ file.name → content ≡ file.content
     → Leads (write_files (drop i files)) first old between
-    → Performs {may = writing} (write_one refl name content) (Err s) between new
+    → Performs {may = may_write_files} (write_one refl name content) (Err s) between new
     → Performs first (Err s) old new
 file_unwritten files i file name content first s old between new inside at named filled left performs =
     leads_stop (write_one refl file.name file.content) (λ u. write_files (drop (i + 1) files)) first s old between new
@@ -111,16 +111,16 @@ none_more files i past = ap write_files (drop_all i files past)
 
 -- all files were written
 pub files_end :
-    (files : List Set) (i : ℕ) (first : Program writing (Unit {0})) (old new : Seen)
+    (files : List Set) (i : ℕ) (first : Program may_write_files (Unit {0})) (old new : Seen)
     → length files ≤ i → Leads (write_files (drop i files)) first old new → Performs first (Ok tt) old new
 files_end files i first old new past left =
     leads_ends (done tt) first (Ok tt) old new new (leads_as (write_files (drop i files)) (done tt) first old new (none_more files i past) left)
-    (performs_none (done tt) (Ok tt) new (goes_done writing tt))
+    (performs_none (done tt) (Ok tt) new (goes_done may_write_files tt))
 
 -- ---- a report
 
 pub then_rest :
-    (files : List Set) (rest : Program writing (Unit {0}))
+    (files : List Set) (rest : Program may_write_files (Unit {0}))
     → then_with (write_files files) (λ u. rest) ≡ writes_all refl files rest
 unfolding then_with write_files writes_all
 then_rest [] rest = refl
@@ -128,9 +128,9 @@ then_rest (file ∷ files) rest = ap (writes refl file.name file.content) (then_
 
 -- The files were written, and then the text was put.
 pub report_put :
-    (report : ToldFields) (files : List Set) (text : List ℕ) (result : Result (Unit {0}) Status) (old between new : Seen)
+    (report : ReportFields) (files : List Set) (text : List ℕ) (result : Result (Unit {0}) Status) (old between new : Seen)
     → files ≡ report.sets → text ≡ report.text
-    → Performs (write_files files) (Ok tt) old between → Performs {may = writing} (put_text text) result between new
+    → Performs (write_files files) (Ok tt) old between → Performs {may = may_write_files} (put_text text) result between new
     → Performs (write_report report) result old new
 unfolding write_report
 report_put report files text result old between new files_are text_is first second =
@@ -141,7 +141,7 @@ report_put report files text result old between new files_are text_is first seco
 
 -- not all files of a report were written
 pub report_unwritten :
-    (report : ToldFields) (files : List Set) (s : Status) (old new : Seen) → files ≡ report.sets
+    (report : ReportFields) (files : List Set) (s : Status) (old new : Seen) → files ≡ report.sets
     → Performs (write_files files) (Err s) old new → Performs (write_report report) (Err s) old new
 unfolding write_report
 report_unwritten report files s old new files_are first =

@@ -3,24 +3,24 @@ use Rattle.std.proofs.Common.{◌≡◌, ℕ, false, List, [], ◌∷◌, Result
 use Rattle.m36_outside.specs.declared.folder.WriteAnswer.{WriteAnswer}
 use Rattle.m36_outside.specs.declared.folder.WriteAnswer.TheVariants as write
 use Rattle.m36_dir.specs.Catalog.{CatalogFields}
-use Rattle.m36_bindfile.specs.BindFile.{bind_lines, names_by}
-use Rattle.m36_bind.specs.Bound.{bound_of}
+use Rattle.m36_bindfile.specs.BindFile.{bind_lines, names_or_fault}
+use Rattle.m36_bind.specs.Bound.{bound_object_of}
 use Rattle.m36_world.specs.declared.event.Event.{Event}
 use Rattle.m36_status.specs.declared.setting.Set.{Set}
 use Rattle.m36_status.specs.declared.status.Status.{Status}
 use Rattle.m36_status.specs.declared.status.Status.TheVariants.{WriteFault, NoMemory}
 use Rattle.cmd_tools.specs.declared.alm_files.AlmFiles.{AlmFiles}
 use Rattle.cmd_tools.specs.declared.bind_files.BindFiles.{BindFiles}
-use Rattle.cmd_tools.specs.Accesses.{access_told}
+use Rattle.cmd_tools.specs.Accesses.{report_of_access}
 use Rattle.cmd_tools.specs.Assemblies.{assembly_of}
-use Rattle.cmd_tools.specs.Binding.{names_told, bind_told}
+use Rattle.cmd_tools.specs.Binding.{names_or_refusal, bind_report_or_refusal}
 use Rattle.cmd_tools.specs.LinesIn.{lines_in}
-use Rattle.cmd_tools.specs.PrintAndAlm.{printed, told_by}
-use Rattle.cmd_tools.specs.Reports.{ToldFields}
+use Rattle.cmd_tools.specs.PrintAndAlm.{report_of_print, alm_report_or_refusal}
+use Rattle.cmd_tools.specs.Reports.{ReportFields}
 use Rattle.cmd_tools.proofs.LineLaws.{lines_joined}
 use Rattle.m36_program.specs.Alike.{Alike, IsEnd}
 use Rattle.m36_program.specs.Goes.{AfterWrite, Goes}
-use Rattle.m36_program.specs.Lives.{Lives}
+use Rattle.m36_program.specs.HasNoDeadEnd.{HasNoDeadEnd}
 use Rattle.m36_program.specs.Program.{May, quiet, Program, done, puts, puts_all, then_with}
 use Rattle.m36_program.specs.Reader.{IsReader}
 use Rattle.m36_program.specs.Readers.{file_bytes}
@@ -29,10 +29,10 @@ use Rattle.m36_program.proofs.GoesLaws.{goes_failed}
 use Rattle.m36_program.proofs.LiveLaws.{lives_puts, live_end}
 use Rattle.m36_program.proofs.ReaderLaws.{reader_bytes, reader_then, reader_comes_done}
 use Rattle.m36_files.specs.Catalogs.{boot_catalog, access_lists}
-use Rattle.m36_files.specs.Deciding.{decides}
-use Rattle.m36_files.specs.EachFile.{each_onto}
+use Rattle.m36_files.specs.Deciding.{rule_program}
+use Rattle.m36_files.specs.EachFile.{read_each}
 use Rattle.m36_files.specs.FileReaders.{file_object}
-use Rattle.m36_files.specs.Writing.{writing}
+use Rattle.m36_files.specs.Writing.{may_write_files}
 use Rattle.m36_files.proofs.AreReaders.{reader_decides, reader_rule, object_reader, catalog_reader, lists_reader, each_reader}
 use Rattle.m36_files.proofs.ReaderEnds.{reader_has_end}
 use Rattle.cmd_tools.specs.Reporting.{writes_all, put_text, write_report}
@@ -45,39 +45,39 @@ use Rattle.cmd_tools.proofs.TextLaws.{print_alike, access_alike, alm_alike, bind
 
 print_reader : (name : List ℕ) → IsReader {may = quiet} (print_report name)
 unfolding print_report
-print_reader name = reader_rule quiet (file_object name) (λ parts. Ok (printed name parts)) (object_reader quiet name)
+print_reader name = reader_rule quiet (file_object name) (λ parts. Ok (report_of_print name parts)) (object_reader quiet name)
 
 lists_report_reader : (user : List ℕ) (catalog : CatalogFields) → IsReader {may = quiet} (lists_report user catalog)
 unfolding lists_report
 lists_report_reader user catalog =
-    reader_rule quiet (access_lists catalog) (λ lists. Ok (access_told user catalog lists)) (lists_reader quiet catalog)
+    reader_rule quiet (access_lists catalog) (λ lists. Ok (report_of_access user catalog lists)) (lists_reader quiet catalog)
 
 access_report_reader : (user : List ℕ) → IsReader {may = quiet} (access_report user)
 unfolding access_report
 access_report_reader user = reader_then boot_catalog (lists_report user) (catalog_reader quiet) (lists_report_reader user)
 
-alm_reader : (files : AlmFiles) → IsReader {may = writing} (alm_report files)
+alm_reader : (files : AlmFiles) → IsReader {may = may_write_files} (alm_report files)
 unfolding alm_report
 alm_reader files =
-    reader_rule writing (file_bytes files.source) (λ bytes. told_by files (assembly_of bytes)) (reader_bytes writing files.source)
+    reader_rule may_write_files (file_bytes files.source) (λ bytes. alm_report_or_refusal files (assembly_of bytes)) (reader_bytes may_write_files files.source)
 
 components_reader :
-    (files : BindFiles) (text : List ℕ) (names : List (List ℕ)) → IsReader {may = writing} (components_report files text names)
+    (files : BindFiles) (text : List ℕ) (names : List (List ℕ)) → IsReader {may = may_write_files} (components_report files text names)
 unfolding components_report
 components_reader files text names =
-    reader_rule writing (each_onto file_object [] names) (λ objects. bind_told files (bound_of text names objects))
-    (each_reader writing file_object [] names (λ name. object_reader writing name))
+    reader_rule may_write_files (read_each file_object [] names) (λ objects. bind_report_or_refusal files (bound_object_of text names objects))
+    (each_reader may_write_files file_object [] names (λ name. object_reader may_write_files name))
 
-text_reader : (files : BindFiles) (text : List ℕ) → IsReader {may = writing} (text_report files text)
+text_reader : (files : BindFiles) (text : List ℕ) → IsReader {may = may_write_files} (text_report files text)
 unfolding text_report
 text_reader files text =
-    let names = names_told files.bindfile (names_by (bind_lines text)) in
-    reader_then (decides names) (components_report files text) (reader_decides writing names) (components_reader files text)
+    let names = names_or_refusal files.bindfile (names_or_fault (bind_lines text)) in
+    reader_then (rule_program names) (components_report files text) (reader_decides may_write_files names) (components_reader files text)
 
-bind_reader : (files : BindFiles) → IsReader {may = writing} (bind_report files)
+bind_reader : (files : BindFiles) → IsReader {may = may_write_files} (bind_report files)
 unfolding bind_report
 bind_reader files =
-    reader_then (file_bytes files.bindfile) (text_report files) (reader_bytes writing files.bindfile) (text_reader files)
+    reader_then (file_bytes files.bindfile) (text_report files) (reader_bytes may_write_files files.bindfile) (text_reader files)
 
 -- ---- what follows a report ends with Done, whenever it ends
 
@@ -112,7 +112,7 @@ write_done write.Failed goes more result ended on after = absurd (not_failed res
 write_done write.NoMemory goes more result ended on after = absurd (not_wanting result after.result_is ended)
 
 files_done :
-    (files : List Set) (rest : Program writing (Unit {0})) (events : List Event) (result : Result (Unit {0}) Status) → IsEnd result
+    (files : List Set) (rest : Program may_write_files (Unit {0})) (events : List Event) (result : Result (Unit {0}) Status) → IsEnd result
     → ((more : List Event) → Goes rest more result → result ≡ Ok tt) → Goes (writes_all refl files rest) events result
     → result ≡ Ok tt
 unfolding Goes writes_all
@@ -122,34 +122,34 @@ files_done (file ∷ files) rest events result ended on goes =
     (λ after. files_done files rest goes.more result ended on after) goes.rest
 
 pub report_done :
-    (told : ToldFields) (events : List Event) (result : Result (Unit {0}) Status) → IsEnd result
+    (told : ReportFields) (events : List Event) (result : Result (Unit {0}) Status) → IsEnd result
     → Goes (write_report told) events result → result ≡ Ok tt
 unfolding write_report
 report_done told events result ended goes =
     files_done told.sets (put_text told.text) events result ended
-    (λ more after. text_done writing told.text more result ended after) goes
+    (λ more after. text_done may_write_files told.text more result ended after) goes
 
 -- ---- and it has an end
 
-text_lives : (may : May) (text : List ℕ) → Lives {may = may} (put_text text)
-unfolding Lives put_text
+text_lives : (may : May) (text : List ℕ) → HasNoDeadEnd {may = may} (put_text text)
+unfolding HasNoDeadEnd put_text
 text_lives may text = lives_puts {may = may} (lines_in text) (done tt) tt
 
-files_live : (files : List Set) (rest : Program writing (Unit {0})) → Lives rest → Lives (writes_all refl files rest)
-unfolding Lives writes_all
+files_live : (files : List Set) (rest : Program may_write_files (Unit {0})) → HasNoDeadEnd rest → HasNoDeadEnd (writes_all refl files rest)
+unfolding HasNoDeadEnd writes_all
 files_live [] rest live = live
 files_live (file ∷ files) rest live = files_live files rest live
 
-report_lives : (told : ToldFields) → Lives (write_report told)
+report_lives : (told : ReportFields) → HasNoDeadEnd (write_report told)
 unfolding write_report
-report_lives told = files_live told.sets (put_text told.text) (text_lives writing told.text)
+report_lives told = files_live told.sets (put_text told.text) (text_lives may_write_files told.text)
 
 -- ---- a command
 
 law_of :
-    {may : May} (report : Program may ToldFields) (next : ToldFields → Program may (Unit {0})) → may.takes ≡ false
-    → IsReader report → ((told : ToldFields) → Lives (next told))
-    → ((told : ToldFields) (events : List Event) (result : Result (Unit {0}) Status) → IsEnd result
+    {may : May} (report : Program may ReportFields) (next : ReportFields → Program may (Unit {0})) → may.takes ≡ false
+    → IsReader report → ((told : ReportFields) → HasNoDeadEnd (next told))
+    → ((told : ReportFields) (events : List Event) (result : Result (Unit {0}) Status) → IsEnd result
     → Goes (next told) events result → result ≡ Ok tt)
     → Alike (then_with report next) (then_with report next) → ToolLaw report next (then_with report next)
 law_of report next never is live ends alike = record {

@@ -3,8 +3,8 @@ use Rattle.std.specs.Prelude.{ℕ, List, []}
 use Rattle.m36_dir.specs.Catalog.{CatalogFields}
 use Rattle.m36_acl.specs.AccessLists.{Lists}
 use Rattle.m36_acl.specs.AccessText.{access_text}
-use Rattle.cmd_tools.specs.Reports.{ToldFields}
+use Rattle.cmd_tools.specs.Reports.{ReportFields}
 
 -- the report of a catalog with its access lists
-abbrev pub access_told : List ℕ → CatalogFields → Lists → ToldFields
-access_told user catalog lists = record { sets = []; text = access_text lists user catalog }
+abbrev pub report_of_access : List ℕ → CatalogFields → Lists → ReportFields
+report_of_access user catalog lists = record { sets = []; text = access_text lists user catalog }

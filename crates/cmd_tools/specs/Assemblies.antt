@@ -3,7 +3,7 @@ use Rattle.std.specs.Prelude.{ℕ, List, Result, Ok, Err, ◌≡◌}
 use Rattle.m36_text.specs.Packing.{packed}
 use Rattle.m36_text.specs.Results.{and_then}
 use Rattle.alm_parse.specs.SourceFields.{Source}
-use Rattle.alm_parse.specs.Sources.{parsed, Refuses}
+use Rattle.alm_parse.specs.Sources.{source_of_text, IsFaultOf}
 use Rattle.alm_parse.specs.declared.fault.AlmFault.{AlmFault}
 use Rattle.alm_asm.specs.Assembly.{assembled}
 use Rattle.obj36_parts.specs.PartsFields.{PartsFields}
@@ -21,12 +21,12 @@ with_parts source made = and_then made (λ parts. Ok (record { source = source; 
 
 -- The assembly of a source, from the result of parsing it, or its first fault. Parsing faults come
 -- before those of assembling.
-abbrev pub assembly_by : Result Source AlmFault → Result Assembly AlmFault
-assembly_by read = and_then read (λ source. with_parts source (assembled source))
+abbrev pub assembly_of_parsed : Result Source AlmFault → Result Assembly AlmFault
+assembly_of_parsed read = and_then read (λ source. with_parts source (assembled source))
 
 -- the parsed lines of a source and the parts of its object, or the first fault of the source
 unfoldable pub assembly_of : List ℕ → Result Assembly AlmFault
-assembly_of bytes = assembly_by (parsed bytes)
+assembly_of bytes = assembly_of_parsed (source_of_text bytes)
 
 -- the bytes of an object: its words, packed
 unfoldable pub object_bytes : PartsFields → List ℕ
@@ -47,7 +47,7 @@ pub record IsMadeOf {A : Type 0} (make : Assembly → A) (made : A)
 
 -- The result is what `make` makes of the assembly of a source, or the refusal of the source, or
 -- NoMemory.
-abbrev pub MakingSays :
+abbrev pub IsMadeOrFault :
     {A : Type 0} → (Assembly → A) → Result A AlmFault → Result Assembly AlmFault → Type 0
-MakingSays make (Ok made) given = IsMadeOf make made given
-MakingSays make (Err fault) given = Refuses fault given
+IsMadeOrFault make (Ok made) given = IsMadeOf make made given
+IsMadeOrFault make (Err fault) given = IsFaultOf fault given

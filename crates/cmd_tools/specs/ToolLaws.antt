@@ -7,32 +7,32 @@ use Rattle.m36_status.specs.declared.status.Status.{Status}
 use Rattle.cmd_tools.specs.declared.alm_files.AlmFiles.{AlmFiles}
 use Rattle.cmd_tools.specs.declared.bind_files.BindFiles.{BindFiles}
 use Rattle.cmd_tools.specs.LinesIn.{lines_in}
-use Rattle.cmd_tools.specs.Reports.{ToldFields}
+use Rattle.cmd_tools.specs.Reports.{ReportFields}
 use Rattle.m36_program.specs.Ended.{HasEnd, NoneRose, IsDoneOrNoMemory}
 use Rattle.m36_program.specs.OneText.{HasOneText}
 use Rattle.m36_program.specs.Performs.{Performs}
 use Rattle.m36_program.specs.Program.{May, Program}
-use Rattle.m36_program.specs.Reader.{IsReader, outcome_in}
+use Rattle.m36_program.specs.Reader.{IsReader, reader_result}
 use Rattle.cmd_tools.specs.Reporting.{put_text, write_report}
 use Rattle.cmd_tools.specs.ToolPrograms.{print_report, print_program, access_report, access_program}
 use Rattle.cmd_tools.specs.ToolPrograms.{alm_report, alm_program, bind_report, bind_program}
 
 -- The laws of a command that makes `report` of files, and then performs `next` of it.
-pub record ToolLaw {may : May} (report : Program may ToldFields)
-    (next : ToldFields → Program may (Unit {0})) (program : Program may (Unit {0})) : Type 0 where
+pub record ToolLaw {may : May} (report : Program may ReportFields)
+    (next : ReportFields → Program may (Unit {0})) (program : Program may (Unit {0})) : Type 0 where
   -- The report is made of files that are read, and nothing else is done before.
   pub reads : IsReader report
   -- What follows a report can end, whatever the report is.
-  pub rest_ends : (told : ToldFields) → HasEnd (next told)
+  pub rest_ends : (told : ReportFields) → HasEnd (next told)
   -- The command can end if some files give a report.
   pub ends :
-      (files : Files) (told : ToldFields) → outcome_in files report ≡ Some (Ok told)
+      (files : Files) (told : ReportFields) → reader_result files report ≡ Some (Ok told)
       → HasEnd program
   -- If the files give a report, and no count of faults rises, the command ends with Done, or memory
   -- runs out.
   pub done :
-      (files : Files) (told : ToldFields) (result : Result (Unit {0}) Status) (old new : Seen)
-      → old.files ≡ Some files → outcome_in files report ≡ Some (Ok told) → NoneRose old new
+      (files : Files) (told : ReportFields) (result : Result (Unit {0}) Status) (old new : Seen)
+      → old.files ≡ Some files → reader_result files report ≡ Some (Ok told) → NoneRose old new
       → Performs program result old new → IsDoneOrNoMemory result
   -- Over the same files all calls put prefixes of one text.
   pub one_text : HasOneText program

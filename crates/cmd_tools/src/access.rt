@@ -1,8 +1,8 @@
 //! Performs the command `access USER` over any world.
 
 ghost use Rattle.std.specs.Prelude.{Ok};
-ghost use Rattle.m36_status.specs.Refusing.{Gives};
-ghost use Rattle.cmd_tools.specs.Accesses.{access_told};
+ghost use Rattle.m36_status.specs.Refusing.{IsRuleResult};
+ghost use Rattle.cmd_tools.specs.Accesses.{report_of_access};
 ghost use Rattle.m36_program.specs.Performs.{Performs};
 ghost use Rattle.m36_program.specs.Program.{quiet};
 ghost use Rattle.cmd_tools.specs.ToolPrograms.{lists_report, access_report, access_program};
@@ -11,14 +11,14 @@ use crate::report::Report;
 use crate::reporting::put_text;
 use m36_acl::{Acl, User};
 use m36_dir::Catalog;
-use m36_files::{decide, read_catalog, read_lists};
+use m36_files::{refusal_as_status, read_catalog, read_lists};
 use m36_status::{Refusal, Status};
 use m36_world::World;
 use std::alloc::Global;
 
 // The report of what a user may do with each segment of a catalog.
 fn access_of(alloc: Global, user: &User, catalog: &Catalog, lists: &Acl) -> Result<Report, Refusal>
-    ensures { Gives result (Ok (access_told user.now catalog.now lists.now)) }
+    ensures { IsRuleResult result (Ok (report_of_access user.now catalog.now lists.now)) }
 {
     let text = lists.access_text(alloc, catalog, user)?;
     Ok(Report::of_text(alloc, text))
@@ -38,7 +38,7 @@ fn lists_report<W: World>(
         Ok(lists) => {
             let given = access_of(alloc, user, catalog, &lists);
             drop(lists);
-            decide(given)
+            refusal_as_status(given)
         }
         Err(status) => Err(status),
     }

@@ -1,6 +1,6 @@
 //! The files of `alm NAME`, and the refusal of its source.
 
-ghost use Rattle.m36_status.specs.Refusing.{Refuses};
+ghost use Rattle.m36_status.specs.Refusing.{IsRuleRefusal};
 ghost use Rattle.cmd_tools.specs.PrintAndAlm.{source_refused};
 
 use alm_parse::AlmFault;
@@ -19,7 +19,7 @@ pub struct AlmFiles {
 
 /// The refusal of a source: E1 to E8 at the line and the column of the fault, or NoMemory.
 pub fn refuse_source(alloc: Global, name: &[u8], fault: AlmFault) -> Refusal
-    ensures { Refuses result (source_refused name.now fault) }
+    ensures { IsRuleRefusal result (source_refused name.now fault) }
 {
     match fault {
         AlmFault::E1(line, column) => refuse_at(alloc, name, Code::E1, line, column),

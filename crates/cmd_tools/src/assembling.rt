@@ -3,11 +3,11 @@
 ghost use Rattle.std.specs.Prelude.{◌≤◌, length, Ok};
 ghost use Rattle.m36_outside.specs.ReadAnswer.{file_limit};
 ghost use Rattle.alm_asm.specs.Assembly.{assembled};
-ghost use Rattle.m36_status.specs.Refusing.{Gives};
+ghost use Rattle.m36_status.specs.Refusing.{IsRuleResult};
 ghost use Rattle.cmd_tools.specs.Assemblies.{with_parts, assembly_of};
-ghost use Rattle.cmd_tools.specs.PrintAndAlm.{told_by, MadeSays};
+ghost use Rattle.cmd_tools.specs.PrintAndAlm.{alm_report_or_refusal, IsReportOrFault};
 ghost use Rattle.m36_program.specs.Performs.{Performs};
-ghost use Rattle.m36_files.specs.Writing.{writing};
+ghost use Rattle.m36_files.specs.Writing.{may_write_files};
 ghost use Rattle.cmd_tools.specs.ToolPrograms.{alm_report, alm_program};
 
 use crate::alm_files::{AlmFiles, refuse_source};
@@ -16,7 +16,7 @@ use crate::report::{Report, report_file};
 use crate::reporting::write_report;
 use alm_asm::assemble;
 use alm_parse::{AlmFault, Lines36, parse};
-use m36_files::decide;
+use m36_files::refusal_as_status;
 use m36_list::listing;
 use m36_program::read_bytes;
 use m36_status::{Refusal, Status};
@@ -27,7 +27,7 @@ use std::alloc::Global;
 
 // The report of an assembled object: the object under its name, and the listing of its lines.
 fn listed(alloc: Global, name: &Name, lines: &Lines36, object: &Object) -> Result<Report, AlmFault>
-    ensures { MadeSays name.now result (Ok (record { source = lines.now; parts = object.now })) }
+    ensures { IsReportOrFault name.now result (Ok (record { source = lines.now; parts = object.now })) }
 {
     let content = object_bytes(alloc, object)?;
     let listing = listing(alloc, name.bytes(), lines, object)?;
@@ -37,8 +37,8 @@ fn listed(alloc: Global, name: &Name, lines: &Lines36, object: &Object) -> Resul
 
 // Assembles parsed lines, and makes the report: the object under its name, and the listing.
 #[tactic(auto, using(crate::proofs::AlmLaws::made))]
-fn made_with(alloc: Global, name: &Name, lines: &Lines36) -> Result<Report, AlmFault>
-    ensures { MadeSays name.now result (with_parts lines.now (assembled lines.now)) }
+fn assemble_lines(alloc: Global, name: &Name, lines: &Lines36) -> Result<Report, AlmFault>
+    ensures { IsReportOrFault name.now result (with_parts lines.now (assembled lines.now)) }
 {
     match assemble(alloc, lines) {
         Ok(object) => {
@@ -52,23 +52,23 @@ fn made_with(alloc: Global, name: &Name, lines: &Lines36) -> Result<Report, AlmF
 }
 
 // Assembles the bytes of a source, at most 16 MiB, and makes the report.
-fn made_of(alloc: Global, name: &Name, bytes: &[u8]) -> Result<Report, AlmFault>
+fn parse_and_assemble(alloc: Global, name: &Name, bytes: &[u8]) -> Result<Report, AlmFault>
     requires { length bytes.now ≤ file_limit }
-    ensures { MadeSays name.now result (assembly_of bytes.now) }
+    ensures { IsReportOrFault name.now result (assembly_of bytes.now) }
 {
     match parse(alloc, bytes) {
-        Ok(lines) => made_with(alloc, name, &lines),
+        Ok(lines) => assemble_lines(alloc, name, &lines),
         Err(fault) => Err(fault),
     }
 }
 
-// As `made_of`; a fault of the source is a refusal that names the source.
+// As `parse_and_assemble`; a fault of the source is a refusal that names the source.
 #[tactic(auto, using(crate::proofs::AlmLaws::answering))]
-fn assembled_in(alloc: Global, files: &AlmFiles, bytes: &[u8]) -> Result<Report, Refusal>
+fn assemble_source(alloc: Global, files: &AlmFiles, bytes: &[u8]) -> Result<Report, Refusal>
     requires { length bytes.now ≤ file_limit }
-    ensures { Gives result (told_by files.now (assembly_of bytes.now)) }
+    ensures { IsRuleResult result (alm_report_or_refusal files.now (assembly_of bytes.now)) }
 {
-    match made_of(alloc, &files.object, bytes) {
+    match parse_and_assemble(alloc, &files.object, bytes) {
         Ok(report) => Ok(report),
         Err(fault) => Err(refuse_source(alloc, files.source.bytes(), fault)),
     }
@@ -76,14 +76,14 @@ fn assembled_in(alloc: Global, files: &AlmFiles, bytes: &[u8]) -> Result<Report,
 
 // Reads a source, and returns its report.
 fn read_source<W: World>(alloc: Global, files: &AlmFiles, world: &mut W) -> Result<Report, Status>
-    ensures { Performs {may = writing} (alm_report files.now) result
+    ensures { Performs {may = may_write_files} (alm_report files.now) result
         (W.seen world.old) (W.seen world.new) }
 {
     match read_bytes(alloc, files.source.bytes(), world) {
         Ok(text) => {
-            let given = assembled_in(alloc, files, text.bytes());
+            let given = assemble_source(alloc, files, text.bytes());
             drop(text);
-            decide(given)
+            refusal_as_status(given)
         }
         Err(status) => Err(status),
     }

@@ -2,14 +2,14 @@
 
 ghost use Rattle.std.specs.Prelude.{◌≡◌, ◌≤◌, ◌∷◌, ◌++◌, [], length, OnOk, IfOk, Ok};
 ghost use Rattle.m36_outside.specs.ReadAnswer.{file_limit};
-ghost use Rattle.m36_bindfile.specs.BindFile.{bind_lines, names_by, BindResult};
-ghost use Rattle.m36_bind.specs.Bound.{bound_of};
-ghost use Rattle.m36_status.specs.Refusing.{Gives, Refuses};
-ghost use Rattle.cmd_tools.specs.Binding.{bind_refused, names_told, bound_told, bind_told};
+ghost use Rattle.m36_bindfile.specs.BindFile.{bind_lines, names_or_fault, BindResult};
+ghost use Rattle.m36_bind.specs.Bound.{bound_object_of};
+ghost use Rattle.m36_status.specs.Refusing.{IsRuleResult, IsRuleRefusal};
+ghost use Rattle.cmd_tools.specs.Binding.{bind_refused, names_or_refusal, report_of_bound_object, bind_report_or_refusal};
 ghost use Rattle.m36_program.specs.Performs.{Performs};
-ghost use Rattle.m36_files.specs.EachFile.{read_onto, each_onto};
+ghost use Rattle.m36_files.specs.EachFile.{read_and_append, read_each};
 ghost use Rattle.m36_files.specs.FileReaders.{file_object};
-ghost use Rattle.m36_files.specs.Writing.{writing};
+ghost use Rattle.m36_files.specs.Writing.{may_write_files};
 ghost use Rattle.cmd_tools.specs.ToolPrograms.{components_report, text_report, bind_report, bind_program};
 
 use crate::bind_files::BindFiles;
@@ -17,7 +17,7 @@ use crate::objects::object_bytes;
 use crate::report::{Report, report_file};
 use crate::reporting::write_report;
 use m36_bind::{BindFault, bind, components};
-use m36_files::{decide, read_object};
+use m36_files::{refusal_as_status, read_object};
 use m36_list::print;
 use m36_program::read_bytes;
 use m36_status::{Code, Refusal, Status, refuse};
@@ -71,7 +71,7 @@ impl Objects {
 
 // The refusal of a bind file, with the code B1 to B5 and the line.
 fn refuse_bind(alloc: Global, name: &[u8], fault: BindFault) -> Refusal
-    ensures { Refuses result (bind_refused name.now fault) }
+    ensures { IsRuleRefusal result (bind_refused name.now fault) }
 {
     match fault {
         BindFault::B1(line) => refuse(alloc, name, Code::B1, line),
@@ -87,7 +87,7 @@ fn refuse_bind(alloc: Global, name: &[u8], fault: BindFault) -> Refusal
 #[tactic(auto, using(crate::proofs::BindLaws::naming))]
 fn names_in(alloc: Global, file: &[u8], text: &[u8]) -> Result<Names, Refusal>
     requires { length text.now ≤ file_limit }
-    ensures { Gives result (names_told file.now (names_by (bind_lines text.now))) }
+    ensures { IsRuleResult result (names_or_refusal file.now (names_or_fault (bind_lines text.now))) }
 {
     match components(alloc, text) {
         Ok(names) => Ok(names),
@@ -96,8 +96,8 @@ fn names_in(alloc: Global, file: &[u8], text: &[u8]) -> Result<Names, Refusal>
 }
 
 // Appends an object.
-fn with_object(mut objects: Objects, object: Object) -> Result<Objects, Refusal>
-    ensures { Gives result (Ok (objects ++ object ∷ [])) }
+fn append_object(mut objects: Objects, object: Object) -> Result<Objects, Refusal>
+    ensures { IsRuleResult result (Ok (objects ++ object ∷ [])) }
 {
     objects.push(object)?;
     Ok(objects)
@@ -110,18 +110,18 @@ fn read_one<W: World>(
     name: &Name,
     world: &mut W,
 ) -> Result<Objects, Status>
-    ensures { Performs {may = writing} (read_onto file_object objects name.now) result
+    ensures { Performs {may = may_write_files} (read_and_append file_object objects name.now) result
         (W.seen world.old) (W.seen world.new) }
 {
     match read_object(alloc, name.bytes(), world) {
-        Ok(object) => decide(with_object(objects, object)),
+        Ok(object) => refusal_as_status(append_object(objects, object)),
         Err(status) => Err(status),
     }
 }
 
 // Reads the objects with these names, in order.
 fn read_objects<W: World>(alloc: Global, names: &[Name], world: &mut W) -> Result<Objects, Status>
-    ensures { Performs {may = writing} (each_onto file_object [] names.now) result
+    ensures { Performs {may = may_write_files} (read_each file_object [] names.now) result
         (W.seen world.old) (W.seen world.new) }
 {
     let mut objects = Objects::new(alloc);
@@ -136,7 +136,7 @@ fn read_objects<W: World>(alloc: Global, names: &[Name], world: &mut W) -> Resul
 
 // The report of a bound object: the object under its name, and its print.
 fn report_of(alloc: Global, name: &Name, object: &Object) -> Result<Report, Refusal>
-    ensures { Gives result (Ok (bound_told name.now object.now)) }
+    ensures { IsRuleResult result (Ok (report_of_bound_object name.now object.now)) }
 {
     let content = object_bytes(alloc, object)?;
     let text = print(alloc, name.bytes(), object)?;
@@ -145,20 +145,20 @@ fn report_of(alloc: Global, name: &Name, object: &Object) -> Result<Report, Refu
 }
 
 // Binds the objects by the bind file. As `bind`, for a text of at most 16 MiB.
-fn bound_by(
+fn bind_text(
     alloc: Global,
     text: &[u8],
     names: &[Name],
     objects: &[Object],
 ) -> Result<Object, BindFault>
     requires { length text.now ≤ file_limit }
-    ensures { BindResult result (bound_of text.now names.now objects.now) }
+    ensures { BindResult result (bound_object_of text.now names.now objects.now) }
 {
     bind(alloc, text, names, objects)
 }
 
 // Binds the objects, and makes the report; a fault is a refusal that names the bind file.
-fn bound_in(
+fn bind_and_report(
     alloc: Global,
     files: &BindFiles,
     text: &[u8],
@@ -166,9 +166,9 @@ fn bound_in(
     objects: &[Object],
 ) -> Result<Report, Refusal>
     requires { length text.now ≤ file_limit }
-    ensures { Gives result (bind_told files.now (bound_of text.now names.now objects.now)) }
+    ensures { IsRuleResult result (bind_report_or_refusal files.now (bound_object_of text.now names.now objects.now)) }
 {
-    match bound_by(alloc, text, names, objects) {
+    match bind_text(alloc, text, names, objects) {
         Ok(object) => {
             let report = report_of(alloc, &files.object, &object);
             // Dropped by a call, so that the drop is proved once for its type.
@@ -180,7 +180,7 @@ fn bound_in(
 }
 
 // Reads the components, and binds them.
-fn read_components<W: World>(
+fn read_and_bind<W: World>(
     alloc: Global,
     files: &BindFiles,
     text: &[u8],
@@ -188,14 +188,14 @@ fn read_components<W: World>(
     world: &mut W,
 ) -> Result<Report, Status>
     requires { length text.now ≤ file_limit }
-    ensures { Performs {may = writing} (components_report files.now text.now names.now) result
+    ensures { Performs {may = may_write_files} (components_report files.now text.now names.now) result
         (W.seen world.old) (W.seen world.new) }
 {
     match read_objects(alloc, names, world) {
         Ok(objects) => {
-            let given = bound_in(alloc, files, text, names, objects.items());
+            let given = bind_and_report(alloc, files, text, names, objects.items());
             drop(objects);
-            decide(given)
+            refusal_as_status(given)
         }
         Err(status) => Err(status),
     }
@@ -209,12 +209,12 @@ fn read_text<W: World>(
     world: &mut W,
 ) -> Result<Report, Status>
     requires { length text.now ≤ file_limit }
-    ensures { Performs {may = writing} (text_report files.now text.now) result
+    ensures { Performs {may = may_write_files} (text_report files.now text.now) result
         (W.seen world.old) (W.seen world.new) }
 {
-    match decide(names_in(alloc, files.bindfile.bytes(), text)) {
+    match refusal_as_status(names_in(alloc, files.bindfile.bytes(), text)) {
         Ok(names) => {
-            let report = read_components(alloc, files, text, names.items(), world);
+            let report = read_and_bind(alloc, files, text, names.items(), world);
             drop(names);
             report
         }
@@ -224,7 +224,7 @@ fn read_text<W: World>(
 
 // Reads a bind file and the objects of its components, and returns the report of the bound object.
 fn read_bind<W: World>(alloc: Global, files: &BindFiles, world: &mut W) -> Result<Report, Status>
-    ensures { Performs {may = writing} (bind_report files.now) result
+    ensures { Performs {may = may_write_files} (bind_report files.now) result
         (W.seen world.old) (W.seen world.new) }
 {
     match read_bytes(alloc, files.bindfile.bytes(), world) {

@@ -1,15 +1,15 @@
 //! Performs the command `print NAME` over any world.
 
 ghost use Rattle.std.specs.Prelude.{Ok};
-ghost use Rattle.m36_status.specs.Refusing.{Gives};
-ghost use Rattle.cmd_tools.specs.PrintAndAlm.{printed};
+ghost use Rattle.m36_status.specs.Refusing.{IsRuleResult};
+ghost use Rattle.cmd_tools.specs.PrintAndAlm.{report_of_print};
 ghost use Rattle.m36_program.specs.Performs.{Performs};
 ghost use Rattle.m36_program.specs.Program.{quiet};
 ghost use Rattle.cmd_tools.specs.ToolPrograms.{print_report, print_program};
 
 use crate::report::Report;
 use crate::reporting::put_text;
-use m36_files::{decide, read_object};
+use m36_files::{refusal_as_status, read_object};
 use m36_list::print;
 use m36_status::{Refusal, Status};
 use m36_world::World;
@@ -17,8 +17,8 @@ use obj36::Object;
 use std::alloc::Global;
 
 // The report of an object: its print, and no file.
-fn printed(alloc: Global, name: &[u8], object: &Object) -> Result<Report, Refusal>
-    ensures { Gives result (Ok (printed name.now object.now)) }
+fn report_of_print(alloc: Global, name: &[u8], object: &Object) -> Result<Report, Refusal>
+    ensures { IsRuleResult result (Ok (report_of_print name.now object.now)) }
 {
     let text = print(alloc, name, object)?;
     Ok(Report::of_text(alloc, text))
@@ -31,10 +31,10 @@ fn read_print<W: World>(alloc: Global, name: &[u8], world: &mut W) -> Result<Rep
 {
     match read_object(alloc, name, world) {
         Ok(object) => {
-            let given = printed(alloc, name, &object);
+            let given = report_of_print(alloc, name, &object);
             // Dropped by a call, so that the drop is proved once for its type.
             drop(object);
-            decide(given)
+            refusal_as_status(given)
         }
         Err(status) => Err(status),
     }

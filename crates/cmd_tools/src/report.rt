@@ -18,9 +18,9 @@ pub struct Report {
 }
 
 impl Model for Report {
-    ghost use Rattle.cmd_tools.specs.Reports.{ToldFields};
+    ghost use Rattle.cmd_tools.specs.Reports.{ReportFields};
 
-    ghost Value = { ToldFields };
+    ghost Value = { ReportFields };
 
     ghost view = { λ r. record { sets = r.files.items; text = r.text } };
 }

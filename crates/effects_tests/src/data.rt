@@ -3,7 +3,7 @@
 
 ghost use Rattle.std.specs.Prelude.{ℕ, ◌<◌, IsTrue};
 ghost use Rattle.std.specs.Bool.{OnTrue};
-ghost use Rattle.m36_inst.specs.Groups.{is_data};
+ghost use Rattle.m36_inst.specs.Groups.{is_data_instruction};
 ghost use Rattle.m36_inst.specs.Operands.{operand_of};
 ghost use Rattle.m36_model.specs.OperandHeld.{HoldsFor};
 ghost use Rattle.m36_model.specs.declared.effects.Held.TheVariants as held;
@@ -97,7 +97,7 @@ fn at(word: u32) -> Final {
 
 /// The effect of an instruction, given the word number of its final address and what it has read.
 fn effect_of(effect: Effect, reg: u8, regs: &Regs, word: u32, got: Held) -> Result<Effect36, Fault>
-    requires data { IsTrue (is_data effect) }
+    requires data { IsTrue (is_data_instruction effect) }
     requires reg { reg < 8 }
     requires got { HoldsFor (operand_of effect) got }
 {
@@ -230,7 +230,7 @@ const OF_WORDS: &[OfWord] = &[
 
 /// Whether an instruction is one of `OF_WORDS`: a data instruction that reads one word.
 fn is_of_word(effect: Effect) -> bool
-    ensures data { OnTrue result (IsTrue (is_data effect)) }
+    ensures data { OnTrue result (IsTrue (is_data_instruction effect)) }
     ensures got { (w : ℕ) → OnTrue result (HoldsFor (operand_of effect) (held.One w)) }
 {
     matches!(
@@ -353,7 +353,7 @@ const OF_ADDRESSES: &[OfAddress] = &[
 
 /// Whether an instruction is one of `OF_ADDRESSES`: a data instruction that reads nothing.
 fn is_of_address(effect: Effect) -> bool
-    ensures data { OnTrue result (IsTrue (is_data effect)) }
+    ensures data { OnTrue result (IsTrue (is_data_instruction effect)) }
     ensures got { OnTrue result (HoldsFor (operand_of effect) held.Empty) }
 {
     matches!(

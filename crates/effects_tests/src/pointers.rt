@@ -2,7 +2,7 @@
 //! packed pointers.
 
 ghost use Rattle.std.specs.Prelude.{◌<◌, IsTrue};
-ghost use Rattle.m36_inst.specs.Groups.{is_pointer};
+ghost use Rattle.m36_inst.specs.Groups.{is_pointer_instruction};
 ghost use Rattle.m36_inst.specs.Operands.{operand_of};
 ghost use Rattle.m36_model.specs.OperandHeld.{HoldsFor};
 ghost use Rattle.m36_model.specs.declared.effects.Held.TheVariants as held;
@@ -67,7 +67,7 @@ fn pair(even: u64, odd: u64) -> Pair {
 }
 
 fn effect_of(effect: Effect, reg: u8, regs: &Regs, got: Held) -> Result<Effect36, Fault>
-    requires pointer { IsTrue (is_pointer effect) }
+    requires pointer { IsTrue (is_pointer_instruction effect) }
     requires reg { reg < 8 }
     requires got { HoldsFor (operand_of effect) got }
 {
@@ -88,7 +88,7 @@ fn effect_of(effect: Effect, reg: u8, regs: &Regs, got: Held) -> Result<Effect36
 
 /// The registers after an instruction, or those before it if it faults.
 fn loaded(effect: Effect, reg: u8, got: Held) -> Regs
-    requires pointer { IsTrue (is_pointer effect) }
+    requires pointer { IsTrue (is_pointer_instruction effect) }
     requires reg { reg < 8 }
     requires got { HoldsFor (operand_of effect) got }
 {
@@ -101,7 +101,7 @@ fn loaded(effect: Effect, reg: u8, got: Held) -> Regs
 
 /// What an instruction that reads nothing stores, or `None` if it faults.
 fn stored(effect: Effect, reg: u8, regs: &Regs) -> Option<Held>
-    requires pointer { IsTrue (is_pointer effect) }
+    requires pointer { IsTrue (is_pointer_instruction effect) }
     requires reg { reg < 8 }
     requires got { HoldsFor (operand_of effect) held.Empty }
 {

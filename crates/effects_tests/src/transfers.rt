@@ -2,7 +2,7 @@
 //! descriptors.
 
 ghost use Rattle.std.specs.Prelude.{◌<◌, ◌^◌, IsTrue};
-ghost use Rattle.m36_inst.specs.Groups.{is_control};
+ghost use Rattle.m36_inst.specs.Groups.{is_control_instruction};
 ghost use Rattle.m36_inst.specs.Operands.{operand_of};
 ghost use Rattle.m36_model.specs.OperandHeld.{HoldsFor};
 
@@ -63,7 +63,7 @@ fn pair(even: u64, odd: u64) -> Pair {
 /// execution. `ring` is the ring that CALL6 enters, or the first bracket of the segment that RTCD
 /// reads from.
 fn effect_of(effect: Effect, reg: u8, regs: &Regs, got: Held, ring: u8) -> Result<Effect36, Fault>
-    requires control { IsTrue (is_control effect) }
+    requires control { IsTrue (is_control_instruction effect) }
     requires reg { reg < 8 }
     requires got { HoldsFor (operand_of effect) got }
     requires ring { ring < 2 ^ 3 }
@@ -95,7 +95,7 @@ fn effect_of(effect: Effect, reg: u8, regs: &Regs, got: Held, ring: u8) -> Resul
 
 /// The registers after an instruction, or those before it if it faults.
 fn after(effect: Effect, reg: u8, before: &Regs, got: Held, ring: u8) -> Regs
-    requires control { IsTrue (is_control effect) }
+    requires control { IsTrue (is_control_instruction effect) }
     requires reg { reg < 8 }
     requires got { HoldsFor (operand_of effect) got }
     requires ring { ring < 2 ^ 3 }

@@ -26,7 +26,7 @@ use words::read_words;
 /// Performs the command that the words after the program's name ask for, over the current
 /// directory, the standard input and the standard output. Fails only with `NoMemory`, before the
 /// command.
-fn answer(rt: &HostRuntime) -> Result<Status, NoMemory> {
+fn perform_command(rt: &HostRuntime) -> Result<Status, NoMemory> {
     let words = read_words(rt, rt.alloc())?;
     let mut folder = DirFolder::new(rt.clone()?);
     let mut lines = StdLines::new(rt.clone()?);
@@ -49,7 +49,7 @@ fn print_help(rt: &HostRuntime) {
 
 /// Prints the line of a status to standard error, nothing for Done; if memory runs out for it,
 /// prints it in pieces, which need none.
-fn tell(rt: &HostRuntime, status: &Status) -> io::Result<()> {
+fn print_status(rt: &HostRuntime, status: &Status) -> io::Result<()> {
     match report(rt.alloc(), status) {
         Ok(line) => rt.stderr().write_all(line.bytes()),
         Err(_) => print_status_in_pieces(rt, status),
@@ -77,8 +77,8 @@ fn print_status_in_pieces(rt: &HostRuntime, status: &Status) -> io::Result<()> {
 // Performs the command, prints the line of its status, and after Usage the help; exits with the
 // number of the status.
 fn main(rt: HostRuntime) -> ExitCode {
-    let status = answer(&rt).unwrap_or(Status::NoMemory);
-    let _ = tell(&rt, &status);
+    let status = perform_command(&rt).unwrap_or(Status::NoMemory);
+    let _ = print_status(&rt, &status);
     if let Status::Usage = status {
         print_help(&rt);
     }

@@ -12,7 +12,7 @@ use Rattle.m36_text.proofs.Splitting.{cond_none}
 use Rattle.m36_acl.specs.declared.policy.Decision.{Decision}
 use Rattle.m36_acl.specs.Fields.{TermFields}
 use Rattle.m36_acl.specs.Users.{matches}
-use Rattle.m36_acl.specs.Policy.{terms_of, rights_by, decided_at, decided, policy, IsFirst, IsRight, FirstMatchDecides}
+use Rattle.m36_acl.specs.Policy.{terms_of, decision_of_term, decision_at, first_match_decision, policy, IsFirstMatch, IsDecisionOf, FirstMatchDecides}
 use Rattle.m36_acl.proofs.Places.{at_place}
 
 none_passes : {X : Type 0} (p : X → Bool) (xs : List X) (k : ℕ) (d : X) → position p xs ≡ None → k < length xs → p (get_or xs k d) ≡ false
@@ -28,7 +28,7 @@ within p xs i e =
     omega (arith, lt, at.1)
 
 first_at : (terms : List TermFields) (user : List ℕ) (place : ℕ) → position (λ term. matches term.text user) terms ≡ Some place
-    → IsFirst terms user (decided_at terms (Some place)) place
+    → IsFirstMatch terms user (decision_at terms (Some place)) place
 first_at terms user place e =
     let p : TermFields → Bool = λ (term : TermFields). matches term.text user in
     let inside : place < length terms = within p terms place e in
@@ -42,20 +42,20 @@ first_at terms user place e =
           let below : k < place = omega (arith, lt, length-take-le place terms (omega (arith, inside))) in
           subst (λ (t : TermFields). matches t.text user ≡ false) (sym (get_or-take place terms k d below))
           ((position-Some p terms place d e).2 k below);
-      rights = ap (λ (o : Option TermFields). rights_by place o) at.stands;
+      rights = ap (λ (o : Option TermFields). decision_of_term place o) at.stands;
     }
 
 by_position : (terms : List TermFields) (user : List ℕ) (o : Option ℕ) → position (λ term. matches term.text user) terms ≡ o
-    → IsRight terms user (decided_at terms o) (decided_at terms o).term
+    → IsDecisionOf terms user (decision_at terms o) (decision_at terms o).term
 by_position terms user None e =
     ((λ k d lt. none_passes (λ (term : TermFields). matches term.text user) terms k d e lt), refl)
 by_position terms user (Some place) e =
     let first = first_at terms user place e in
-    subst (λ (o : Option ℕ). IsRight terms user (decided_at terms (Some place)) o)
+    subst (λ (o : Option ℕ). IsDecisionOf terms user (decision_at terms (Some place)) o)
     (sym (ap (λ (d : Decision). d.term) first.rights)) first
 
 pub first_match_decides : FirstMatchDecides
-unfolding policy decided
+unfolding policy first_match_decision
 first_match_decides lists dir name user =
     let terms = terms_of lists dir name in
     by_position terms user (position (λ (term : TermFields). matches term.text user) terms) refl

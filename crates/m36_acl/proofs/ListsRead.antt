@@ -9,19 +9,19 @@ use Rattle.std.proofs.lemmas.Option.{slice_get_within, get_or_from_slice_get}
 use Rattle.m36_text.specs.Lines.{last_of}
 use Rattle.m36_text.specs.Once.{are_distinct_by}
 use Rattle.m36_text.specs.Results.{and_then}
-use Rattle.m36_dir.specs.BootOrder.{Entry, entry, is_entry}
+use Rattle.m36_dir.specs.BootOrder.{Entry, entry, is_same_entry}
 use Rattle.m36_dir.proofs.Distinct.{distinct_more, entry_symm}
 use Rattle.m36_acl.specs.declared.fault.AclFault.TheVariants as fault
 use Rattle.m36_acl.specs.Fields.{TermFields, AclSegmentFields}
 use Rattle.m36_acl.specs.AccessLine.{Line, Segment, Term}
-use Rattle.m36_acl.specs.AccessLists.{Lists, Read, is_of, has_segment, places_of, new_segment, most_terms, has_term, with_term, with_term_line, with_line, lists_from, parsed_lines, lists_of, same_term, HasTermsOnce, AreListsOnce, ListsOnce}
+use Rattle.m36_acl.specs.AccessLists.{Lists, ListsResult, is_list_of, has_segment, entries_of_lists, new_segment, most_terms, has_term, with_term, with_term_line, with_line, lists_from, parsed_lines, lists_of, same_term, HasTermsOnce, AreListsOnce, ListsOnce}
 use Rattle.m36_acl.proofs.PlaceLaws.{places_kept}
 
 -- ---- a `segment` line
 
-any_place : (given : Entry) (lists : Lists) → list_any (is_entry given) (places_of lists) ≡ has_segment lists given
+any_place : (given : Entry) (lists : Lists) → list_any (is_same_entry given) (entries_of_lists lists) ≡ has_segment lists given
 any_place given [] = refl
-any_place given (s ∷ lists) = ap (λ (b : Bool). (is_of given s || b)) (any_place given lists)
+any_place given (s ∷ lists) = ap (λ (b : Bool). (is_list_of given s || b)) (any_place given lists)
 
 no_terms : (n : ℕ) (given : Entry) → HasTermsOnce (new_segment n given)
 no_terms n given = record { once = refl; few = omega arith }
@@ -31,12 +31,12 @@ segment_more n above given fresh are =
     let place : Entry = entry given.dir given.name in
     record {
       segments =
-          ap (λ (es : List Entry). are_distinct_by is_entry es) (map-append (λ (s : AclSegmentFields). entry s.dir s.name) above (new_segment n given ∷ []))
-          ∙ distinct_more is_entry entry_symm (places_of above) place are.segments (any_place place above ∙ fresh);
+          ap (λ (es : List Entry). are_distinct_by is_same_entry es) (map-append (λ (s : AclSegmentFields). entry s.dir s.name) above (new_segment n given ∷ []))
+          ∙ distinct_more is_same_entry entry_symm (entries_of_lists above) place are.segments (any_place place above ∙ fresh);
       terms = All-push HasTermsOnce above (new_segment n given) are.terms (no_terms n given);
     }
 
-abbrev segment_told : ℕ → Lists → Entry → Bool → Read
+abbrev segment_told : ℕ → Lists → Entry → Bool → ListsResult
 segment_told n above given has = cond has (Err (fault.C2 n)) (Ok (above ++ new_segment n given ∷ []))
 
 segment_by : (n : ℕ) (above : Lists) (given : Entry) (has : Bool) (next : Lists) → has_segment above given ≡ has
@@ -67,12 +67,12 @@ lists_more above i last term at room fresh are =
     let has : HasTermsOnce last = subst HasTermsOnce same (All-get_or HasTermsOnce above i last (slice_get_within above i last at) are.terms) in
     record {
       segments =
-          ap (λ (es : List Entry). are_distinct_by is_entry es) (places_kept above i last (with_term last term) (sym same) refl refl)
+          ap (λ (es : List Entry). are_distinct_by is_same_entry es) (places_kept above i last (with_term last term) (sym same) refl refl)
           ∙ are.segments;
       terms = All-set HasTermsOnce above i (with_term last term) (term_more last term has room fresh) are.terms;
     }
 
-abbrev term_told : ℕ → Lists → AclSegmentFields → TermFields → Bool → Bool → Read
+abbrev term_told : ℕ → Lists → AclSegmentFields → TermFields → Bool → Bool → ListsResult
 term_told n above last term many twice =
     cond many (Err (fault.C1 n)) (cond twice (Err (fault.C2 n)) (Ok (slice_set above (length above - 1) (with_term last term))))
 
@@ -99,7 +99,7 @@ line_once n above (Some (Segment given)) next told are = segment_by n above give
 line_once n above (Some (Term term)) next told are = term_of_last n above (last_of above) term next refl told are
 
 -- if the whole succeeds, so does the first step
-went : (r : Read) (goes : Lists → Read) (lists : Lists) → and_then r goes ≡ Ok lists → (next : Lists) × (r ≡ Ok next) × (goes next ≡ Ok lists)
+went : (r : ListsResult) (goes : Lists → ListsResult) (lists : Lists) → and_then r goes ≡ Ok lists → (next : Lists) × (r ≡ Ok next) × (goes next ≡ Ok lists)
 went (Ok next) goes lists e = (next, refl, e)
 went (Err told) goes lists e = absurd (cc)
 

@@ -1,9 +1,9 @@
 -- Modes that are printed and parsed.
 use Rattle.std.proofs.Common.{true, false, refl}
 use Rattle.m36_dir.specs.BootLine.{mode_of}
-use Rattle.m36_acl.specs.AccessText.{ModesComeBack}
+use Rattle.m36_acl.specs.AccessText.{ModesRoundTrip}
 
-pub modes_come_back : ModesComeBack
+pub modes_come_back : ModesRoundTrip
 unfolding mode_of
 modes_come_back false false false = refl
 modes_come_back true false false = refl

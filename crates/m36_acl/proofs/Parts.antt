@@ -1,10 +1,10 @@
 -- The parts of a text between its points.
 use Rattle.std.proofs.Common.{ℕ, ◌≡◌, ◌<◌, ◌==◌, List, [], ◌∷◌, length, None, refl, arith}
 use Rattle.std.proofs.lemmas.List.Splits.{length-slice_split}
-use Rattle.m36_acl.specs.Users.{parts_of, three_of, components_of}
+use Rattle.m36_acl.specs.Users.{parts_of, components_of_parts, components_of}
 
 three_and_more : (person project tag : List ℕ) (more : List (List ℕ)) → 0 < length more
-    → three_of (person ∷ project ∷ tag ∷ more) ≡ None
+    → components_of_parts (person ∷ project ∷ tag ∷ more) ≡ None
 three_and_more person project tag [] some = absurd (omega arith)
 three_and_more person project tag (next ∷ more) some = refl
 

@@ -7,50 +7,50 @@ use Rattle.std.proofs.lemmas.List.{map-append}
 use Rattle.m36_text.specs.Texts.{are_same}
 use Rattle.m36_dir.specs.BootOrder.{Entry, entry}
 use Rattle.m36_acl.specs.Fields.{AclSegmentFields}
-use Rattle.m36_acl.specs.AccessLists.{Lists, places_of, has_segment}
+use Rattle.m36_acl.specs.AccessLists.{Lists, entries_of_lists, has_segment}
 
 abbrev same_place : Entry → Entry → Bool
 same_place given key = are_same given.dir key.dir && are_same given.name key.name
 
 -- a segment in a table, and among the lists
-among : (given : Entry) (lists : Lists) → list_any (same_place given) (places_of lists) ≡ has_segment lists given
+among : (given : Entry) (lists : Lists) → list_any (same_place given) (entries_of_lists lists) ≡ has_segment lists given
 among given [] = refl
 among given (s ∷ lists) =
     λ i. (nat_list_eq_equiv.symm given.dir s.dir i && nat_list_eq_equiv.symm given.name s.name i) || among given lists i
 
-pub found : (given : Entry) (keys : List Entry) (lists : Lists) → keys ≡ places_of lists
+pub found : (given : Entry) (keys : List Entry) (lists : Lists) → keys ≡ entries_of_lists lists
     → list_any (same_place given) keys ≡ has_segment lists given
 found given keys lists e = ap (λ (ks : List Entry). list_any (same_place given) ks) e ∙ among given lists
 
 -- one more at the end
-one_more : (given : Entry) (keys new : List Entry) (lists more : Lists) (s : AclSegmentFields) → keys ≡ places_of lists
+one_more : (given : Entry) (keys new : List Entry) (lists more : Lists) (s : AclSegmentFields) → keys ≡ entries_of_lists lists
     → given ≡ entry s.dir s.name → has_segment lists given ≡ false
     → new ≡ cond (list_any (same_place given) keys) keys (keys ++ given ∷ [])
-    → more ≡ lists ++ s ∷ [] → new ≡ places_of more
+    → more ≡ lists ++ s ∷ [] → new ≡ entries_of_lists more
 one_more given keys new lists more s are is fresh grown longer =
     grown ∙ ap (λ (b : Bool). cond b keys (keys ++ given ∷ [])) (found given keys lists are ∙ fresh)
     ∙ ap (λ (ks : List Entry). ks ++ given ∷ []) are
-    ∙ ap (λ (g : Entry). places_of lists ++ g ∷ []) is
+    ∙ ap (λ (g : Entry). entries_of_lists lists ++ g ∷ []) is
     ∙ sym (map-append (λ (t : AclSegmentFields). entry t.dir t.name) lists (s ∷ []))
-    ∙ ap places_of (sym longer)
+    ∙ ap entries_of_lists (sym longer)
 
 -- a segment that was inserted in the table, and the lists
 pub place_put : (keys new : List Entry) (items held more now : Lists) (s : AclSegmentFields) (given : Entry)
-    → keys ≡ places_of items → held ≡ items
+    → keys ≡ entries_of_lists items → held ≡ items
     → more ≡ held ++ s ∷ [] → given ≡ entry s.dir s.name
     → new ≡ cond (list_any (same_place given) keys) keys (keys ++ given ∷ [])
-    → items ≡ now → has_segment now given ≡ false → new ≡ places_of more
+    → items ≡ now → has_segment now given ≡ false → new ≡ entries_of_lists more
 place_put keys new items held more now s given are stays put is grown view fresh =
     one_more given keys new items more s are is (ap (λ (ps : Lists). has_segment ps given) view ∙ fresh) grown
     (put ∙ ap (λ (ps : Lists). ps ++ s ∷ []) stays)
 
 -- replacing a segment by one with the same directory and name
 pub places_kept : (lists : Lists) (i : ℕ) (old new : AclSegmentFields) → old ≡ get_or lists i old
-    → new.dir ≡ old.dir → new.name ≡ old.name → places_of (slice_set lists i new) ≡ places_of lists
+    → new.dir ≡ old.dir → new.name ≡ old.name → entries_of_lists (slice_set lists i new) ≡ entries_of_lists lists
 places_kept [] i old new was d n = refl
 places_kept (s ∷ lists) zero old new was d n =
     let dir : new.dir ≡ s.dir = d ∙ ap (λ (t : AclSegmentFields). t.dir) was in
     let name : new.name ≡ s.name = n ∙ ap (λ (t : AclSegmentFields). t.name) was in
-    λ j. entry (dir j) (name j) ∷ places_of lists
+    λ j. entry (dir j) (name j) ∷ entries_of_lists lists
 places_kept (s ∷ lists) (suc i) old new was d n =
     ap (λ (ks : List Entry). entry s.dir s.name ∷ ks) (places_kept lists i old new was d n)

@@ -9,7 +9,7 @@ use Rattle.m36_dir.specs.Fields.{SegmentFields}
 use Rattle.m36_dir.specs.Catalog.{CatalogFields}
 use Rattle.m36_acl.specs.Fields.{AclSegmentFields}
 use Rattle.m36_acl.specs.AccessLists.{Lists}
-use Rattle.m36_acl.specs.Granted.{names, granted_to, granted, GrantsOne}
+use Rattle.m36_acl.specs.Granted.{names, granted_segment, granted_catalog, GrantsOne}
 use Rattle.m36_acl.proofs.Places.{at_place}
 
 -- the element at an index, and those after it
@@ -95,12 +95,12 @@ partly_whole {X} g i xs le =
 -- a catalog whose first segments have their rights
 abbrev pub granted_up_to : Lists → List ℕ → ℕ → CatalogFields → CatalogFields
 granted_up_to lists user i catalog =
-    record catalog { segments = partly (granted_to lists user catalog.directories) i catalog.segments }
+    record catalog { segments = partly (granted_segment lists user catalog.directories) i catalog.segments }
 
 pub grant_more : (lists : Lists) (user : List ℕ) (old now new : CatalogFields) (i : ℕ) → i < length old.segments
     → now ≡ granted_up_to lists user i old → GrantsOne lists user now new i → new ≡ granted_up_to lists user (i + 1) old
 grant_more lists user old now new i lt e one =
-    let g = granted_to lists user old.directories in
+    let g = granted_segment lists user old.directories in
     let xs = old.segments in
     let place = at_place xs i lt in
     let same : get_or xs i place.x ≡ place.x = get_or_from_slice_get xs i place.x place.x place.stands in
@@ -112,13 +112,13 @@ grant_more lists user old now new i lt e one =
     done ∙ ap (λ (ss : List SegmentFields). record old { segments = ss }) (partly_more g i xs place.x lt same)
 
 pub grant_done : (lists : Lists) (user : List ℕ) (old now : CatalogFields) (i : ℕ) → length old.segments ≤ i
-    → now ≡ granted_up_to lists user i old → now ≡ granted lists user old
-unfolding granted
+    → now ≡ granted_up_to lists user i old → now ≡ granted_catalog lists user old
+unfolding granted_catalog
 grant_done lists user old now i le e =
-    e ∙ ap (λ (ss : List SegmentFields). record old { segments = ss }) (partly_whole (granted_to lists user old.directories) i old.segments le)
+    e ∙ ap (λ (ss : List SegmentFields). record old { segments = ss }) (partly_whole (granted_segment lists user old.directories) i old.segments le)
 
 -- the number of segments does not change
 pub grant_count : (lists : Lists) (user : List ℕ) (old now : CatalogFields) (i : ℕ) → now ≡ granted_up_to lists user i old
     → length now.segments ≡ length old.segments
 grant_count lists user old now i e =
-    ap (λ (c : CatalogFields). length c.segments) e ∙ length_partly (granted_to lists user old.directories) i old.segments
+    ap (λ (c : CatalogFields). length c.segments) e ∙ length_partly (granted_segment lists user old.directories) i old.segments

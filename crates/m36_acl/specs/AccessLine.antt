@@ -8,7 +8,7 @@
 use Rattle.std.specs.Prelude.{ℕ, if◌then◌else◌, List, [], ◌∷◌, codes, Option, Some, None}
 use Rattle.std.specs.Prelude.{option_map, option_and_then}
 use Rattle.m36_text.specs.Texts.{is_text}
-use Rattle.m36_text.specs.Lines.{by_words, by_first_word}
+use Rattle.m36_text.specs.Lines.{line_meaning, words_meaning}
 use Rattle.m36_dir.specs.declared.segment.Mode.{Mode}
 use Rattle.m36_dir.specs.BootLine.{directory_of, name_of, mode_of}
 use Rattle.m36_dir.specs.BootOrder.{Entry, entry}
@@ -23,12 +23,12 @@ pub data Line : Type 0 where
 -- ---- modes
 
 -- a mode, unless it has the right to be privileged
-abbrev pub unprivileged : Mode → Option Mode
-unprivileged mode = if mode.privileged then None else Some mode
+abbrev pub mode_if_unprivileged : Mode → Option Mode
+mode_if_unprivileged mode = if mode.privileged then None else Some mode
 
 -- the rights that a word spells: a mode without the letter p
 unfoldable pub rights_of : List ℕ → Option Mode
-rights_of word = option_and_then unprivileged (mode_of word)
+rights_of word = option_and_then mode_if_unprivileged (mode_of word)
 
 -- ---- the words after the first word of a line
 
@@ -73,8 +73,8 @@ line_named word given =
 
 -- the line with these words; None if it has no form
 abbrev pub line_of_words : List (List ℕ) → Option Line
-line_of_words words = by_first_word line_named words
+line_of_words words = words_meaning line_named words
 
 -- a line parsed by itself; None if it has no form or lacks its line feed
 unfoldable pub parsed_line : Option (List ℕ) → Option Line
-parsed_line line = by_words line_of_words None line
+parsed_line line = line_meaning line_of_words None line

@@ -13,7 +13,7 @@ use Rattle.m36_text.specs.Texts.{is_text}
 use Rattle.m36_text.specs.Lines.{lines_of, last_of}
 use Rattle.m36_text.specs.Once.{are_distinct_by}
 use Rattle.m36_text.specs.Results.{and_then}
-use Rattle.m36_dir.specs.BootOrder.{Entry, entry, is_entry}
+use Rattle.m36_dir.specs.BootOrder.{Entry, entry, is_same_entry}
 use Rattle.m36_acl.specs.declared.fault.AclFault.{AclFault}
 use Rattle.m36_acl.specs.declared.fault.AclFault.TheVariants as fault
 use Rattle.m36_acl.specs.Fields.{TermFields, AclSegmentFields}
@@ -24,29 +24,29 @@ abbrev pub Lists : Type 0
 Lists = List AclSegmentFields
 
 -- The result of lines: lists, or a code with its line.
-abbrev pub Read : Type 0
-Read = Result (List AclSegmentFields) AclFault
+abbrev pub ListsResult : Type 0
+ListsResult = Result (List AclSegmentFields) AclFault
 
 -- ---- a `segment` line
 
 -- whether a list is that of this directory and name
-abbrev pub is_of : Entry → AclSegmentFields → Bool
-is_of given segment = is_entry given (entry segment.dir segment.name)
+abbrev pub is_list_of : Entry → AclSegmentFields → Bool
+is_list_of given segment = is_same_entry given (entry segment.dir segment.name)
 
 -- whether a segment has a list
 abbrev pub has_segment : Lists → Entry → Bool
-has_segment lists given = list_any (is_of given) lists
+has_segment lists given = list_any (is_list_of given) lists
 
 -- the directory and name of each segment
-abbrev pub places_of : Lists → List Entry
-places_of lists = map (λ s. entry s.dir s.name) lists
+abbrev pub entries_of_lists : Lists → List Entry
+entries_of_lists lists = map (λ s. entry s.dir s.name) lists
 
 -- the empty list of the segment of a line
 abbrev pub new_segment : ℕ → Entry → AclSegmentFields
 new_segment line given = record { line = line; dir = given.dir; name = given.name; terms = [] }
 
 -- the lists after a `segment` line, or its fault
-abbrev pub with_segment : ℕ → Lists → Entry → Read
+abbrev pub with_segment : ℕ → Lists → Entry → ListsResult
 with_segment line above given =
     if has_segment above given then Err (fault.C2 line) else Ok (above ++ new_segment line given ∷ [])
 
@@ -66,7 +66,7 @@ with_term segment term = record segment { terms = segment.terms ++ term ∷ [] }
 
 -- The lists after a `term` line, which adds to the last list, or the fault of the line. `last` is
 -- that list; without one the fault is C1.
-abbrev pub with_term_line : ℕ → Lists → Option AclSegmentFields → TermFields → Read
+abbrev pub with_term_line : ℕ → Lists → Option AclSegmentFields → TermFields → ListsResult
 with_term_line line above None term = Err (fault.C1 line)
 with_term_line line above (Some last) term =
     if nat_le most_terms (length last.terms) then Err (fault.C1 line)
@@ -76,13 +76,13 @@ with_term_line line above (Some last) term =
 -- ---- the lines in turn
 
 -- the lists after a line, or its fault
-abbrev pub with_line : ℕ → Lists → Option Line → Read
+abbrev pub with_line : ℕ → Lists → Option Line → ListsResult
 with_line line above None = Err (fault.C1 line)
 with_line line above (Some (Segment given)) = with_segment line above given
 with_line line above (Some (Term term)) = with_term_line line above (last_of above) term
 
 -- the result of lines, of which the first has the number `line`, after lines that gave `above`
-unfoldable pub lists_from : ℕ → Lists → List (Option Line) → Read
+unfoldable pub lists_from : ℕ → Lists → List (Option Line) → ListsResult
 lists_from line above [] = Ok above
 lists_from line above (given ∷ lines) =
     and_then (with_line line above given) (λ next. lists_from (line + 1) next lines)
@@ -92,24 +92,24 @@ unfoldable pub parsed_lines : List ℕ → List (Option Line)
 parsed_lines text = map parsed_line (lines_of text)
 
 -- the lists that a text describes, or the fault of its first line with a code
-unfoldable pub lists_of : List ℕ → Read
+unfoldable pub lists_of : List ℕ → ListsResult
 lists_of text = lists_from 1 [] (parsed_lines text)
 
 -- ---- results
 
 -- The fault of a call is that of the definition, or it is NoMemory, which is allowed for every
 -- text.
-abbrev pub RefusesWith : AclFault → Read → Type 0
+abbrev pub RefusesWith : AclFault → ListsResult → Type 0
 RefusesWith fault.NoMemory definition = Unit {0}
 RefusesWith told definition = definition ≡ Err told
 
 -- The result of a call is that of the definition, or `NoMemory`.
-abbrev pub AccessListsResult : Read → Read → Type 0
+abbrev pub AccessListsResult : ListsResult → ListsResult → Type 0
 AccessListsResult (Ok lists) definition = definition ≡ Ok lists
 AccessListsResult (Err told) definition = RefusesWith told definition
 
 -- A call changes the lists to `new`, as the definition does, or fails with its fault or NoMemory.
-abbrev pub ChangesTo : {A : Type 0} → Lists → Result A AclFault → Read → Type 0
+abbrev pub ChangesTo : {A : Type 0} → Lists → Result A AclFault → ListsResult → Type 0
 ChangesTo new (Ok done) definition = definition ≡ Ok new
 ChangesTo new (Err told) definition = RefusesWith told definition
 
@@ -126,7 +126,7 @@ pub record HasTermsOnce (s : AclSegmentFields) : Type 0 where
 
 -- Each segment occurs once, and each term occurs once in the list of its segment.
 pub record AreListsOnce (lists : Lists) : Type 0 where
-  pub segments : are_distinct_by is_entry (places_of lists) ≡ true
+  pub segments : are_distinct_by is_same_entry (entries_of_lists lists) ≡ true
   pub terms : All HasTermsOnce lists
 
 -- Lists that were parsed have each segment once, and each term once for its segment.

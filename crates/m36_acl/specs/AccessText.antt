@@ -13,8 +13,8 @@ use Rattle.m36_dir.specs.BootLine.{mode_of as mode_read}
 use Rattle.m36_acl.specs.declared.policy.Decision.{Decision}
 use Rattle.m36_acl.specs.Fields.{TermFields}
 use Rattle.m36_acl.specs.AccessLists.{Lists}
-use Rattle.m36_acl.specs.Policy.{terms_of, decided}
-use Rattle.m36_acl.specs.Granted.{name_of, decision_on}
+use Rattle.m36_acl.specs.Policy.{terms_of, first_match_decision}
+use Rattle.m36_acl.specs.Granted.{first_name_of, decision_on}
 
 -- the letters of the rights to read, execute and write, or `null` if there are none
 abbrev pub mode_text : Bool → Bool → Bool → List ℕ
@@ -32,8 +32,8 @@ abbrev pub mode_of : Decision → List ℕ
 mode_of d = mode_text d.readable d.executable d.writable
 
 -- A mode that is printed is parsed as that mode.
-abbrev pub ModesComeBack : Type 0
-ModesComeBack =
+abbrev pub ModesRoundTrip : Type 0
+ModesRoundTrip =
     (readable executable writable : Bool)
     → mode_read (mode_text readable executable writable)
     ≡ Some (record {
@@ -46,44 +46,44 @@ ModesComeBack =
 -- ---- the term that decides
 
 -- the text of a term, or `none` if there is no term
-abbrev pub text_of : Option TermFields → List ℕ
-text_of None = codes "none"
-text_of (Some term) = term.text
+abbrev pub term_text : Option TermFields → List ℕ
+term_text None = codes "none"
+term_text (Some term) = term.text
 
 -- the text of the term at an index, or `none` if there is no index
-abbrev pub term_at : List TermFields → Option ℕ → List ℕ
-term_at terms None = text_of None
-term_at terms (Some place) = text_of (slice_get terms place)
+abbrev pub term_text_at : List TermFields → Option ℕ → List ℕ
+term_text_at terms None = term_text None
+term_text_at terms (Some place) = term_text (slice_get terms place)
 
 -- the term that decides what a user may do, by the list of a segment
-unfoldable pub deciding_in : List TermFields → List ℕ → List ℕ
-deciding_in terms user = term_at terms (decided terms user).term
+unfoldable pub deciding_term_in : List TermFields → List ℕ → List ℕ
+deciding_term_in terms user = term_text_at terms (first_match_decision terms user).term
 
 -- the term that decides what a user may do with a segment of the catalog
-abbrev pub deciding : Lists → List ℕ → List (List ℕ) → SegmentFields → List ℕ
-deciding lists user directories s =
-    deciding_in (terms_of lists (directory_in directories s) (name_of s)) user
+abbrev pub deciding_term : Lists → List ℕ → List (List ℕ) → SegmentFields → List ℕ
+deciding_term lists user directories s =
+    deciding_term_in (terms_of lists (directory_in directories s) (first_name_of s)) user
 
 -- ---- lines
 
 -- a text, a space and a word
-abbrev pub and_then : List ℕ → List ℕ → List ℕ
-and_then text word = (text ++ codes " ") ++ word
+abbrev pub with_space_and_word : List ℕ → List ℕ → List ℕ
+with_space_and_word text word = (text ++ codes " ") ++ word
 
 -- the line of a segment: its directory, its name, what the user may do, and the term that decides
 unfoldable pub access_line : Lists → List ℕ → List (List ℕ) → SegmentFields → List ℕ
 access_line lists user directories s =
     as_line
-    (and_then (and_then (and_then (directory_in directories s) (name_of s))
+    (with_space_and_word (with_space_and_word (with_space_and_word (directory_in directories s) (first_name_of s))
     (mode_of (decision_on lists user directories s)))
-    (deciding lists user directories s))
+    (deciding_term lists user directories s))
 
 -- the line of a segment that a user may not use, with the term that decides
 unfoldable pub denied_line : Lists → List ℕ → List (List ℕ) → SegmentFields → List ℕ
 denied_line lists user directories s =
     as_line
-    (and_then (and_then (and_then (codes "denied") (directory_in directories s)) (name_of s))
-    (deciding lists user directories s))
+    (with_space_and_word (with_space_and_word (with_space_and_word (codes "denied") (directory_in directories s)) (first_name_of s))
+    (deciding_term lists user directories s))
 
 -- ---- for all segments, in their order
 

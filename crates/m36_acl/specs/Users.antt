@@ -22,14 +22,14 @@ abbrev pub parts_of : List ℕ → List (List ℕ)
 parts_of text = slice_split (λ c. c == 46) text
 
 -- the three components, if there are exactly three parts
-abbrev pub three_of : List (List ℕ) → Option Components
-three_of (person ∷ project ∷ tag ∷ []) =
+abbrev pub components_of_parts : List (List ℕ) → Option Components
+components_of_parts (person ∷ project ∷ tag ∷ []) =
     Some (record { person = person; project = project; tag = tag })
-three_of _ = None
+components_of_parts _ = None
 
 -- the components of a text
 unfoldable pub components_of : List ℕ → Option Components
-components_of text = three_of (parts_of text)
+components_of text = components_of_parts (parts_of text)
 
 -- ---- forms
 
@@ -54,8 +54,8 @@ abbrev pub is_tag : List ℕ → Bool
 is_tag text = is_run_of is_tag_character 1 text
 
 -- whether a component of a term is `*`
-abbrev pub is_any : List ℕ → Bool
-is_any text = is_text (codes "*") text
+abbrev pub is_wildcard : List ℕ → Bool
+is_wildcard text = is_text (codes "*") text
 
 -- whether components have the form of those of a user
 abbrev pub are_of_user : Components → Bool
@@ -76,11 +76,11 @@ is_user text = have_form_of_user (components_of text)
 
 -- whether this can be a person or a project in a term, where it may be `*`
 abbrev pub may_be_component : List ℕ → Bool
-may_be_component text = is_any text || is_component text
+may_be_component text = is_wildcard text || is_component text
 
 -- whether this can be a tag in a term, where it may be `*`
 abbrev pub may_be_tag : List ℕ → Bool
-may_be_tag text = is_any text || is_tag text
+may_be_tag text = is_wildcard text || is_tag text
 
 -- whether components have the form of those of a term
 abbrev pub are_of_term : Components → Bool
@@ -103,7 +103,7 @@ user_of text = if is_user text then Some text else None
 
 -- whether a component of a term is `*` or equal to that of the user (`given`)
 abbrev pub admits : List ℕ → List ℕ → Bool
-admits component given = is_any component || is_text component given
+admits component given = is_wildcard component || is_text component given
 
 -- whether each component of a term admits that of a user
 abbrev pub all_admit : Option Components → Option Components → Bool

@@ -3,7 +3,7 @@
 ghost use Rattle.std.specs.Prelude.{[], ◌∷◌, ◌++◌, ◌≡◌, ◌≤◌, ◌<◌, ◌-◌, false, length, slice_set, IfSome, OnOk, option_map};
 ghost use Rattle.std.specs.Vec.{vec_len, vec_capacity};
 ghost use Rattle.m36_dir.specs.BootOrder.{entry};
-ghost use Rattle.m36_acl.specs.AccessLists.{places_of, has_segment, with_term};
+ghost use Rattle.m36_acl.specs.AccessLists.{entries_of_lists, has_segment, with_term};
 ghost use Rattle.m36_text.specs.Lines.{last_of};
 ghost use Rattle.m36_dir.specs.BootLine.{directory_limit};
 ghost use Rattle.m36_text.specs.Seeds.{name_writes};
@@ -21,12 +21,12 @@ use std::marker::Model;
 
 /// A segment, by its directory and its name. Its model is the record of these two.
 #[derive(PartialEq, Eq, Drop)]
-pub(crate) struct Place {
+pub(crate) struct SegmentKey {
     dir: ArrayVec<u8, 64>,
     name: Name,
 }
 
-impl Model for Place {
+impl Model for SegmentKey {
     ghost use Rattle.m36_dir.specs.BootOrder.{Entry};
 
     ghost Value = { Entry };
@@ -36,7 +36,7 @@ impl Model for Place {
     ghost inverse = { λ e. record { dir = record { items = e.dir }; name = e.name } };
 }
 
-impl Hash for Place {
+impl Hash for SegmentKey {
     ghost hash_input = { λ e. name_writes e.name ++ e.dir ∷ [] };
 
     ghost respects_eq = { Prim.search (hashing, rules) };
@@ -51,32 +51,32 @@ impl Hash for Place {
 /// Segments in the order of their lines, each with its terms, and a hash table of their directories
 /// and names. The model is the list of the segments.
 #[derive(Drop)]
-pub(crate) struct Above {
+pub(crate) struct SegmentsAbove {
     segments: Vec<AclSegment>,
-    places: IndexSet<Place, HashSeed>,
+    places: IndexSet<SegmentKey, HashSeed>,
 }
 
-impl Model for Above {
+impl Model for SegmentsAbove {
     ghost use Rattle.std.specs.Prelude.{◌≡◌, List};
     ghost use Rattle.m36_acl.specs.Fields.{AclSegmentFields};
-    ghost use Rattle.m36_acl.specs.AccessLists.{places_of};
+    ghost use Rattle.m36_acl.specs.AccessLists.{entries_of_lists};
 
     ghost Value = { List AclSegmentFields };
 
     ghost view = { λ a. a.segments.items };
 
-    ghost invariant = { λ a. a.places.keys ≡ places_of a.segments.items };
+    ghost invariant = { λ a. a.places.keys ≡ entries_of_lists a.segments.items };
 }
 
-impl Place {
+impl SegmentKey {
     /// The segment with this name in this directory.
-    pub(crate) fn new(dir: &[u8], name: Name) -> Place
+    pub(crate) fn new(dir: &[u8], name: Name) -> SegmentKey
         requires { length dir.now ≤ directory_limit }
         ensures { result ≡ entry dir.now name }
     {
         let mut items = ArrayVec::new();
         match items.try_extend_from_slice(dir) {
-            Ok(()) => Place { dir: items, name },
+            Ok(()) => SegmentKey { dir: items, name },
             Err(_) => unreachable!(),
         }
     }
@@ -98,7 +98,7 @@ fn push_to_last(segments: &mut Vec<AclSegment>, term: Term) -> Result<(), NoMemo
     requires { 1 ≤ length segments.old.items }
     ensures added { OnOk result (IfSome (last_of segments.old.items) (λ last. segments.new.items
         ≡ slice_set segments.old.items (length segments.old.items - 1) (with_term last term))) }
-    ensures places { places_of segments.new.items ≡ places_of segments.old.items }
+    ensures places { entries_of_lists segments.new.items ≡ entries_of_lists segments.old.items }
 {
     let place = segments.len() - 1;
     let last = &mut segments[place];
@@ -106,26 +106,26 @@ fn push_to_last(segments: &mut Vec<AclSegment>, term: Term) -> Result<(), NoMemo
     Ok(())
 }
 
-impl Above {
+impl SegmentsAbove {
     /// No segments. Their names will be hashed with this seed.
-    pub(crate) fn new(alloc: Global, seed: HashSeed) -> Above
+    pub(crate) fn new(alloc: Global, seed: HashSeed) -> SegmentsAbove
         ensures { result ≡ [] }
     {
-        Above {
+        SegmentsAbove {
             segments: Vec::new(alloc),
             places: IndexSet::with_hasher(alloc, seed),
         }
     }
 
     /// Whether a segment is in the list.
-    pub(crate) fn has(&self, place: &Place) -> bool
+    pub(crate) fn has(&self, place: &SegmentKey) -> bool
         ensures { result ≡ has_segment self.now place.now }
     {
         self.places.contains(place)
     }
 
     /// Adds a segment that is not in the list.
-    pub(crate) fn add(&mut self, place: Place, segment: AclSegment) -> Result<(), NoMemory>
+    pub(crate) fn add(&mut self, place: SegmentKey, segment: AclSegment) -> Result<(), NoMemory>
         requires place { place ≡ entry segment.dir segment.name }
         requires fresh { has_segment self.old place ≡ false }
         ensures { OnOk result (self.new ≡ self.old ++ segment ∷ []) }

@@ -3,13 +3,13 @@
 ghost use Rattle.std.specs.Prelude.{◌≡◌, ◌<◌, ◌^◌, length, slice_get, IfOk, IfSome};
 ghost use Rattle.m36_acl.specs.AccessLists.{lists_of, AccessListsResult};
 ghost use Rattle.m36_acl.specs.Policy.{terms_of, policy};
-ghost use Rattle.m36_acl.specs.Granted.{first_unknown, decision_on, granted};
+ghost use Rattle.m36_acl.specs.Granted.{first_unknown, decision_on, granted_catalog};
 ghost use Rattle.m36_acl.specs.AccessText.{access_text, denied_lines};
 
 use crate::denied::DeniedLines;
 use crate::fault::AclFault;
 use crate::granting::{decision_on, first_unknown, grant_all};
-use crate::policy::{Decision, decided, terms_in};
+use crate::policy::{Decision, first_match_decision, terms_in};
 use crate::reading::segments_in;
 use crate::segment::{AclSegment, Term};
 use crate::user::User;
@@ -69,7 +69,7 @@ impl Acl {
     pub fn mode_for(&self, dir: &[u8], name: &[u8], user: &User) -> Decision
         ensures { result ≡ policy self.now dir.now name.now user.now }
     {
-        decided(self.terms(dir, name), user)
+        first_match_decision(self.terms(dir, name), user)
     }
 
     /// The number of the first `segment` line that names no segment of the catalog. Segments are
@@ -93,7 +93,7 @@ impl Acl {
 
     /// Gives each segment of a catalog the rights of a user. Nothing else in the catalog changes.
     pub fn grant(&self, catalog: &mut Catalog, user: &User)
-        ensures { catalog.new ≡ granted self.now user.now catalog.old }
+        ensures { catalog.new ≡ granted_catalog self.now user.now catalog.old }
     {
         grant_all(self, catalog, user);
     }

@@ -2,7 +2,7 @@
 
 ghost use Rattle.std.specs.Prelude.{◌≡◌, ◌<◌, length};
 ghost use Rattle.m36_dir.specs.IsCatalog.{IsSegment};
-ghost use Rattle.m36_acl.specs.Granted.{name_of, names, is_known, first_unknown, decision_on, GrantsOne, granted};
+ghost use Rattle.m36_acl.specs.Granted.{first_name_of, names, is_in_catalog, first_unknown, decision_on, GrantsOne, granted_catalog};
 
 use crate::acl::Acl;
 use crate::policy::Decision;
@@ -11,8 +11,8 @@ use crate::user::User;
 use m36_dir::{Catalog, Segment};
 
 /// The first name of a segment, which is that of its line in the boot text.
-pub(crate) fn name_of(segment: &Segment) -> &[u8]
-    ensures { result.now ≡ name_of segment.now }
+pub(crate) fn first_name_of(segment: &Segment) -> &[u8]
+    ensures { result.now ≡ first_name_of segment.now }
 {
     match segment.names.items().first() {
         Some(name) => name.bytes(),
@@ -25,13 +25,13 @@ fn names(catalog: &Catalog, given: &AclSegment, segment: &Segment) -> bool
     requires { IsSegment (length catalog.now.directories) segment.now }
     ensures { result ≡ names catalog.now given.now segment.now }
 {
-    catalog.directory(segment.dir) == given.dir.bytes() && name_of(segment) == given.name.bytes()
+    catalog.directory(segment.dir) == given.dir.bytes() && first_name_of(segment) == given.name.bytes()
 }
 
 // Whether a `segment` line names any segment of a catalog.
 #[tactic(auto, using(crate::proofs::Rights::known_here, crate::proofs::Rights::known_later, crate::proofs::Rights::known_never))]
-fn is_known(catalog: &Catalog, given: &AclSegment) -> bool
-    ensures { result ≡ is_known catalog.now given.now }
+fn is_in_catalog(catalog: &Catalog, given: &AclSegment) -> bool
+    ensures { result ≡ is_in_catalog catalog.now given.now }
 {
     for i in 0..catalog.count() {
         if names(catalog, given, catalog.segment(i)) {
@@ -46,7 +46,7 @@ fn is_known(catalog: &Catalog, given: &AclSegment) -> bool
 pub(crate) fn first_unknown(lists: &[AclSegment], catalog: &Catalog) -> Option<u32>
     ensures { result ≡ first_unknown catalog.now lists.now }
 {
-    let given = lists.iter().find(|given| !is_known(catalog, given))?;
+    let given = lists.iter().find(|given| !is_in_catalog(catalog, given))?;
     Some(given.line)
 }
 
@@ -61,7 +61,7 @@ pub(crate) fn decision_on(
     requires { IsSegment (length catalog.now.directories) segment.now }
     ensures { result ≡ decision_on lists.now user.now catalog.now.directories segment.now }
 {
-    lists.mode_for(catalog.directory(segment.dir), name_of(segment), user)
+    lists.mode_for(catalog.directory(segment.dir), first_name_of(segment), user)
 }
 
 // Gives segment `i` of a catalog the rights of a user.
@@ -76,7 +76,7 @@ fn grant_one(lists: &Acl, catalog: &mut Catalog, i: usize, user: &User)
 /// Gives each segment of a catalog the rights of a user.
 #[tactic(auto, using(crate::proofs::Rights::grant_more, crate::proofs::Rights::grant_done, crate::proofs::Rights::grant_count))]
 pub(crate) fn grant_all(lists: &Acl, catalog: &mut Catalog, user: &User)
-    ensures { catalog.new ≡ granted lists.now user.now catalog.old }
+    ensures { catalog.new ≡ granted_catalog lists.now user.now catalog.old }
 {
     let count = catalog.count();
     for i in 0..count {

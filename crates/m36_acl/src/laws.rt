@@ -1,7 +1,7 @@
 //! Laws that hold for all access lists.
 
 ghost use Rattle.m36_acl.specs.AccessLists.{ListsOnce};
-ghost use Rattle.m36_acl.specs.AccessText.{ModesComeBack};
+ghost use Rattle.m36_acl.specs.AccessText.{ModesRoundTrip};
 ghost use Rattle.m36_acl.specs.Policy.{FirstMatchDecides};
 
 /// The first term in the list of a segment that matches a user decides: its rights are those of the
@@ -10,6 +10,6 @@ ghost use Rattle.m36_acl.specs.Policy.{FirstMatchDecides};
 /// the list of each has at most 16 terms, each once.
 pub fn policy_laws()
     ensures first { FirstMatchDecides }
-    ensures modes { ModesComeBack }
+    ensures modes { ModesRoundTrip }
     ensures once { ListsOnce }
 {}

@@ -2,7 +2,7 @@
 
 ghost use Rattle.std.specs.Prelude.{◌≡◌, ◌+◌, ◌*◌, ◌≤◌, ◌&&◌, ◌||◌, true, length, ◌∷◌, [], Some, None, MatchOption, IfSome};
 ghost use Rattle.std.specs.List.{list_all};
-ghost use Rattle.m36_acl.specs.Users.{parts_of, components_of, is_component_character, is_component, is_tag_character, is_tag, is_any};
+ghost use Rattle.m36_acl.specs.Users.{parts_of, components_of, is_component_character, is_component, is_tag_character, is_tag, is_wildcard};
 ghost use Rattle.m36_acl.specs.Users.{are_of_user, is_user, may_be_component, may_be_tag, are_of_term, is_term, admits, matches, component_limit, user_limit};
 
 use m36_text::{is_digit, is_letter, place_of};
@@ -93,8 +93,8 @@ fn is_tag(text: &[u8]) -> bool
 }
 
 // Whether a component of a term is `*`, which matches anything.
-fn is_any(text: &[u8]) -> bool
-    ensures value { result ≡ is_any text.now }
+fn is_wildcard(text: &[u8]) -> bool
+    ensures value { result ≡ is_wildcard text.now }
     ensures fits { result ≡ true → length text.now ≤ 1 }
 {
     text == b"*".as_slice()
@@ -129,22 +129,22 @@ pub(crate) fn is_user(text: &[u8]) -> bool
 }
 
 // Whether a text can be the person or the project of a term.
-fn is_any_or_component(text: &[u8]) -> bool
+fn is_wildcard_or_component(text: &[u8]) -> bool
     ensures value { result ≡ may_be_component text.now }
     ensures fits { result ≡ true → length text.now ≤ component_limit }
 {
-    if is_any(text) {
+    if is_wildcard(text) {
         return true;
     }
     is_component(text)
 }
 
 // Whether a text can be the tag of a term.
-fn is_any_or_tag(text: &[u8]) -> bool
+fn is_wildcard_or_tag(text: &[u8]) -> bool
     ensures value { result ≡ may_be_tag text.now }
     ensures fits { result ≡ true → length text.now ≤ 1 }
 {
-    if is_any(text) {
+    if is_wildcard(text) {
         return true;
     }
     is_tag(text)
@@ -157,13 +157,13 @@ fn have_form_of_term(person: &[u8], project: &[u8], tag: &[u8]) -> bool
     ensures fits { result ≡ true
         → length person.now + length project.now + length tag.now ≤ 2 * component_limit + 1 }
 {
-    if !is_any_or_component(person) {
+    if !is_wildcard_or_component(person) {
         return false;
     }
-    if !is_any_or_component(project) {
+    if !is_wildcard_or_component(project) {
         return false;
     }
-    is_any_or_tag(tag)
+    is_wildcard_or_tag(tag)
 }
 
 /// Whether a text is of the form of a term.
@@ -182,7 +182,7 @@ pub(crate) fn is_term(text: &[u8]) -> bool
 fn admits(component: &[u8], given: &[u8]) -> bool
     ensures { result ≡ admits component.now given.now }
 {
-    is_any(component) || given == component
+    is_wildcard(component) || given == component
 }
 
 /// Whether a term matches a user.

@@ -4,8 +4,8 @@ ghost use Rattle.std.specs.Prelude.{◌≡◌, ◌<◌, length, find, position, 
 ghost use Rattle.std.specs.Option.{option_copied};
 ghost use Rattle.m36_dir.specs.BootOrder.{entry};
 ghost use Rattle.m36_acl.specs.Users.{matches};
-ghost use Rattle.m36_acl.specs.AccessLists.{is_of};
-ghost use Rattle.m36_acl.specs.Policy.{terms_of, nothing, rights_by, decided};
+ghost use Rattle.m36_acl.specs.AccessLists.{is_list_of};
+ghost use Rattle.m36_acl.specs.Policy.{terms_of, no_rights, decision_of_term, first_match_decision};
 
 use crate::matching::matches;
 use crate::segment::{AclSegment, Term};
@@ -22,17 +22,17 @@ pub struct Decision {
 }
 
 // Whether a `segment` line has this directory and this name.
-fn is_of(segment: &AclSegment, dir: &[u8], name: &[u8]) -> bool
-    ensures { result ≡ is_of (entry dir.now name.now) segment.now }
+fn is_list_of(segment: &AclSegment, dir: &[u8], name: &[u8]) -> bool
+    ensures { result ≡ is_list_of (entry dir.now name.now) segment.now }
 {
     segment.dir.bytes() == dir && segment.name.bytes() == name
 }
 
 // The `segment` line with this directory and this name.
 fn line_of<'a>(segments: &'a [AclSegment], dir: &[u8], name: &[u8]) -> Option<&'a AclSegment>
-    ensures { option_copied result ≡ find (is_of (entry dir.now name.now)) segments.now }
+    ensures { option_copied result ≡ find (is_list_of (entry dir.now name.now)) segments.now }
 {
-    segments.iter().find(|segment| is_of(segment, dir, name))
+    segments.iter().find(|segment| is_list_of(segment, dir, name))
 }
 
 /// The access list of a segment. Empty if no `segment` line names it.
@@ -47,8 +47,8 @@ pub(crate) fn terms_in<'a>(segments: &'a [AclSegment], dir: &[u8], name: &[u8]) 
 }
 
 // The decision if no term matches: no right and no term.
-fn nothing() -> Decision
-    ensures { result ≡ nothing }
+fn no_rights() -> Decision
+    ensures { result ≡ no_rights }
 {
     Decision {
         term: None,
@@ -59,8 +59,8 @@ fn nothing() -> Decision
 }
 
 // The decision by a term: its rights, and its index in the list.
-fn rights_by(place: usize, term: &Term) -> Decision
-    ensures { result ≡ rights_by place (Some term.now) }
+fn decision_of_term(place: usize, term: &Term) -> Decision
+    ensures { result ≡ decision_of_term place (Some term.now) }
 {
     Decision {
         term: Some(place),
@@ -81,12 +81,12 @@ pub(crate) fn first_match(terms: &[Term], user: &User) -> Option<usize>
 }
 
 /// The rights by the first term that matches the user.
-#[tactic(auto, unfolding(crate::specs::Policy::decided))]
-pub(crate) fn decided(terms: &[Term], user: &User) -> Decision
-    ensures { result ≡ decided terms.now user.now }
+#[tactic(auto, unfolding(crate::specs::Policy::first_match_decision))]
+pub(crate) fn first_match_decision(terms: &[Term], user: &User) -> Decision
+    ensures { result ≡ first_match_decision terms.now user.now }
 {
     match first_match(terms, user) {
-        Some(place) => rights_by(place, &terms[place]),
-        None => nothing(),
+        Some(place) => decision_of_term(place, &terms[place]),
+        None => no_rights(),
     }
 }

@@ -7,7 +7,7 @@ ghost use Rattle.m36_acl.specs.AccessLine.{Segment, Term as TermLine, entry_of, 
 ghost use Rattle.m36_acl.specs.AccessLists.{with_segment, has_term, with_term_line, with_line, lists_of, RefusesWith, ChangesTo};
 ghost use Rattle.m36_dir.specs.BootLine.{directory_limit};
 
-use crate::above::{Above, Place};
+use crate::above::{SegmentsAbove, SegmentKey};
 use crate::fault::AclFault;
 use crate::forms::{entry_of, term_of};
 use crate::segment::{AclSegment, Term};
@@ -20,7 +20,7 @@ const MOST_TERMS: usize = 16;
 // Adds the segment of a `segment` line. C2 if an earlier line names it.
 fn add_segment(
     alloc: Global,
-    above: &mut Above,
+    above: &mut SegmentsAbove,
     number: u32,
     dir: &[u8],
     name: Name,
@@ -28,7 +28,7 @@ fn add_segment(
     requires { length dir.now ≤ directory_limit }
     ensures { ChangesTo above.new result (with_segment number above.old (entry dir.now name)) }
 {
-    let place = Place::new(dir, name.copied());
+    let place = SegmentKey::new(dir, name.copied());
     if above.has(&place) {
         return Err(AclFault::C2(number));
     }
@@ -46,7 +46,7 @@ fn has_term(terms: &[Term], text: &[u8]) -> bool
 
 // Adds a term to the last segment. C1 if there is no segment or its list is full, C2 if the list
 // has the term.
-fn add_term(above: &mut Above, number: u32, term: Term) -> Result<(), AclFault>
+fn add_term(above: &mut SegmentsAbove, number: u32, term: Term) -> Result<(), AclFault>
     ensures { ChangesTo above.new result (with_term_line number above.old (last_of above.old) term) }
 {
     let Some(terms) = above.last_terms() else {
@@ -63,7 +63,7 @@ fn add_term(above: &mut Above, number: u32, term: Term) -> Result<(), AclFault>
 }
 
 // Parses a `segment` line from its second word on, and adds its segment.
-fn segment_line(alloc: Global, above: &mut Above, number: u32, given: &[u8]) -> Result<(), AclFault>
+fn segment_line(alloc: Global, above: &mut SegmentsAbove, number: u32, given: &[u8]) -> Result<(), AclFault>
     ensures { ChangesTo above.new result
         (with_line number above.old (option_map Segment (entry_of (words_of given.now)))) }
 {
@@ -74,7 +74,7 @@ fn segment_line(alloc: Global, above: &mut Above, number: u32, given: &[u8]) -> 
 }
 
 // Parses a `term` line from its second word on, and adds its term.
-fn term_line(above: &mut Above, number: u32, given: &[u8]) -> Result<(), AclFault>
+fn term_line(above: &mut SegmentsAbove, number: u32, given: &[u8]) -> Result<(), AclFault>
     ensures { ChangesTo above.new result
         (with_line number above.old (option_map TermLine (term_of (words_of given.now)))) }
 {
@@ -86,7 +86,7 @@ fn term_line(above: &mut Above, number: u32, given: &[u8]) -> Result<(), AclFaul
 
 // Parses a line, and adds what it has to the segments of the lines above it.
 #[tactic(auto, unfolding(crate::specs::AccessLine::parsed_line), using(crate::proofs::AclLines::no_words))]
-fn add_line(alloc: Global, above: &mut Above, number: u32, line: &[u8]) -> Result<(), AclFault>
+fn add_line(alloc: Global, above: &mut SegmentsAbove, number: u32, line: &[u8]) -> Result<(), AclFault>
     ensures { ChangesTo above.new result (with_line number above.old (parsed_line (Some line.now))) }
 {
     let (word, rest) = first_word(line);
@@ -110,7 +110,7 @@ pub(crate) fn segments_in(alloc: Global, text: &[u8]) -> Result<Vec<AclSegment>,
     ensures lists { IfOk result (λ segments. lists_of text.now ≡ Ok segments.items) }
     ensures told { IfErr result (λ told. RefusesWith told (lists_of text.now)) }
 {
-    let mut above = Above::new(alloc, HashSeed::of(text));
+    let mut above = SegmentsAbove::new(alloc, HashSeed::of(text));
     let mut rest = text;
     let mut number: usize = 1;
     while let Some((line, behind)) = first_line(rest) {

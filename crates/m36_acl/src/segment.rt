@@ -6,7 +6,7 @@ ghost use Rattle.m36_acl.specs.AccessLine.{term_with};
 ghost use Rattle.m36_acl.specs.AccessLists.{new_segment, with_term};
 ghost use Rattle.m36_acl.specs.Users.{user_limit};
 
-use crate::user::kept;
+use crate::user::copied_in_place;
 use arrayvec::ArrayVec;
 use m36_dir::Mode;
 use m36_outside::Text;
@@ -38,7 +38,7 @@ impl Term {
         ensures { result ≡ term_with text.now mode }
     {
         Term {
-            text: kept(text),
+            text: copied_in_place(text),
             mode,
         }
     }

@@ -24,7 +24,7 @@ impl Model for User {
 }
 
 // A copy of a text of at most 67 bytes, which is held in place.
-pub(crate) fn kept(text: &[u8]) -> ArrayVec<u8, 67>
+pub(crate) fn copied_in_place(text: &[u8]) -> ArrayVec<u8, 67>
     requires { length text.now ≤ user_limit }
     ensures { result.items ≡ text.now }
 {
@@ -41,7 +41,7 @@ impl User {
         ensures { result ≡ user_of t.now }
     {
         if is_user(t) {
-            Some(User { text: kept(t) })
+            Some(User { text: copied_in_place(t) })
         } else {
             None
         }

@@ -3,12 +3,12 @@
 ghost use Rattle.std.specs.Prelude.{◌≡◌, ◌++◌, ◌∷◌, [], length, IfOk, OnOk};
 ghost use Rattle.m36_dir.specs.Catalog.{directory_in};
 ghost use Rattle.m36_dir.specs.IsCatalog.{IsSegment};
-ghost use Rattle.m36_acl.specs.Granted.{name_of};
-ghost use Rattle.m36_acl.specs.AccessText.{mode_text, deciding_in, deciding, and_then, access_line, denied_line, access_text, denied_lines};
+ghost use Rattle.m36_acl.specs.Granted.{first_name_of};
+ghost use Rattle.m36_acl.specs.AccessText.{mode_text, deciding_term_in, deciding_term, with_space_and_word, access_line, denied_line, access_text, denied_lines};
 
 use crate::acl::Acl;
 use crate::denied::DeniedLines;
-use crate::granting::{decision_on, name_of};
+use crate::granting::{decision_on, first_name_of};
 use crate::policy::first_match;
 use crate::segment::Term;
 use crate::user::User;
@@ -34,9 +34,9 @@ fn mode_text(readable: bool, executable: bool, writable: bool) -> &'static str
 }
 
 // The first term of a list that matches a user, which decides; `none` if none matches.
-#[tactic(auto, unfolding(crate::specs::AccessText::deciding_in, crate::specs::Policy::decided))]
-fn deciding_in<'a>(terms: &'a [Term], user: &User) -> &'a [u8]
-    ensures { result.now ≡ deciding_in terms.now user.now }
+#[tactic(auto, unfolding(crate::specs::AccessText::deciding_term_in, crate::specs::Policy::first_match_decision))]
+fn deciding_term_in<'a>(terms: &'a [Term], user: &User) -> &'a [u8]
+    ensures { result.now ≡ deciding_term_in terms.now user.now }
 {
     match first_match(terms, user) {
         Some(place) => terms[place].bytes(),
@@ -53,19 +53,19 @@ fn directory_of<'a>(catalog: &'a Catalog, segment: &Segment) -> &'a [u8]
 }
 
 // The term that decides what a user may do with a segment of a catalog, or `none`.
-fn deciding<'a>(lists: &'a Acl, catalog: &Catalog, segment: &Segment, user: &User) -> &'a [u8]
+fn deciding_term<'a>(lists: &'a Acl, catalog: &Catalog, segment: &Segment, user: &User) -> &'a [u8]
     requires { IsSegment (length catalog.now.directories) segment.now }
-    ensures { result.now ≡ deciding lists.now user.now catalog.now.directories segment.now }
+    ensures { result.now ≡ deciding_term lists.now user.now catalog.now.directories segment.now }
 {
-    deciding_in(
-        lists.terms(directory_of(catalog, segment), name_of(segment)),
+    deciding_term_in(
+        lists.terms(directory_of(catalog, segment), first_name_of(segment)),
         user,
     )
 }
 
 // Adds a space and a word.
 fn append_word(line: &mut Text, word: &[u8]) -> Result<(), NoMemory>
-    ensures { OnOk result (line.new ≡ and_then line.old word.now) }
+    ensures { OnOk result (line.new ≡ with_space_and_word line.old word.now) }
 {
     line.append(b" ")?;
     line.append(word)?;
@@ -88,9 +88,9 @@ fn access_line(
     let decision = decision_on(lists, catalog, segment, user);
     let mode = mode_text(decision.readable, decision.executable, decision.writable);
     let mut line = Text::from_bytes(alloc, directory_of(catalog, segment))?;
-    append_word(&mut line, name_of(segment))?;
+    append_word(&mut line, first_name_of(segment))?;
     append_word(&mut line, mode.as_bytes())?;
-    append_word(&mut line, deciding(lists, catalog, segment, user))?;
+    append_word(&mut line, deciding_term(lists, catalog, segment, user))?;
     line.append(b"\n")?;
     Ok(line)
 }
@@ -110,8 +110,8 @@ fn denied_line(
 {
     let mut line = Text::from_bytes(alloc, b"denied")?;
     append_word(&mut line, directory_of(catalog, segment))?;
-    append_word(&mut line, name_of(segment))?;
-    append_word(&mut line, deciding(lists, catalog, segment, user))?;
+    append_word(&mut line, first_name_of(segment))?;
+    append_word(&mut line, deciding_term(lists, catalog, segment, user))?;
     line.append(b"\n")?;
     Ok(line)
 }

@@ -7,7 +7,7 @@ use Rattle.m36_word.specs.Signed.{signed}
 use Rattle.m36_model.specs.Arithmetic.{in_range, is_divide_check}
 use Rattle.m36_model.specs.Booleans.{xor_bit}
 use Rattle.m36_arith.specs.Signs.{with_sign}
-use Rattle.m36_arith.specs.Division.{RefusedWhereNoWord}
+use Rattle.m36_arith.specs.Division.{DivisionRefusalLaw}
 use Rattle.m36_arith.proofs.SignRules.{positive, negative, quotients}
 use Rattle.m36_arith.proofs.SignedOrder.{fits_is}
 
@@ -145,7 +145,7 @@ some_of : (y : ℕ) → (y == 0) ≡ false → 0 < y
 some_of zero other = absurd (true≢false other)
 some_of (suc y) other = omega arith
 
-pub refused_where_no_word : RefusedWhereNoWord
+pub refused_where_no_word : DivisionRefusalLaw
 unfolding is_divide_check
 refused_where_no_word x y in_x in_y =
     later_alike (y == 0) ((x == 2 ^ 35) && (y == 2 ^ 36 - 1)) (not (in_range (2 ^ 35) (int_div (signed (2 ^ 35) x) (signed (2 ^ 35) y))))

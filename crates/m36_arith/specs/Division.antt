@@ -7,15 +7,15 @@ use Rattle.m36_arith.specs.declared.divisions.DivideCheck.{DivideCheck}
 
 -- The result of dividing a first word by a second: the quotient and the remainder if the division
 -- is not refused, and otherwise a divide check.
-abbrev pub DivisionSays : Result (ℕ × ℕ) DivideCheck → ℕ → ℕ → Type 0
-DivisionSays (Ok r) x y =
+abbrev pub IsDivisionResult : Result (ℕ × ℕ) DivideCheck → ℕ → ℕ → Type 0
+IsDivisionResult (Ok r) x y =
     (is_divide_check x y ≡ false) × (r.0 ≡ quotient x y) × (r.1 ≡ remainder x y)
-DivisionSays (Err _) x y = is_divide_check x y ≡ true
+IsDivisionResult (Err _) x y = is_divide_check x y ≡ true
 
 -- A division is refused exactly if the divisor is 0, or the signed quotient does not fit into a
 -- word.
-abbrev pub RefusedWhereNoWord : Type 0
-RefusedWhereNoWord =
+abbrev pub DivisionRefusalLaw : Type 0
+DivisionRefusalLaw =
     (x y : ℕ) → x < 2 ^ 36 → y < 2 ^ 36
     → is_divide_check x y
     ≡ ((y == 0) || not (in_range (2 ^ 35) (int_div (signed (2 ^ 35) x) (signed (2 ^ 35) y))))

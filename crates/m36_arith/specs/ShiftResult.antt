@@ -9,11 +9,11 @@ use Rattle.m36_arith.specs.declared.shifts.Shift.{Shift}
 use Rattle.m36_arith.specs.declared.shifts.Shift.TheVariants as shift
 
 -- a number of k bits shifted by a count
-abbrev pub shifted : Shift → ℕ → ℕ → ℕ → ℕ
-shifted shift.Left k v c = left_shift k v c
-shifted shift.Right k v c = copying_right_shift k v c
-shifted shift.RightZero k v c = plain_right_shift v c
-shifted shift.Rotate k v c = rotation k v c
+abbrev pub shifted_number : Shift → ℕ → ℕ → ℕ → ℕ
+shifted_number shift.Left k v c = left_shift k v c
+shifted_number shift.Right k v c = copying_right_shift k v c
+shifted_number shift.RightZero k v c = plain_right_shift v c
+shifted_number shift.Rotate k v c = rotation k v c
 
 -- the carry of a shift of a number of k bits: only a left shift can set it
 abbrev pub shift_carry : Shift → ℕ → ℕ → ℕ → Bool
@@ -25,4 +25,4 @@ shift_carry shift.Rotate k v c = false
 -- the result of a shift of a number of k bits
 unfoldable pub shift_result : Shift → ℕ → ℕ → ℕ → SumFields
 shift_result op k v c =
-    result_of (2 ^ (k - 1)) (shifted op k v c) (shift_carry op k v c) false
+    result_of (2 ^ (k - 1)) (shifted_number op k v c) (shift_carry op k v c) false

@@ -2,9 +2,9 @@
 
 ghost use Rattle.std.specs.Prelude.{◌≡◌, ◌<◌, false};
 ghost use Rattle.m36_model.specs.Arithmetic.{is_divide_check};
-ghost use Rattle.m36_arith.specs.Division.{DivisionSays, RefusedWhereNoWord};
+ghost use Rattle.m36_arith.specs.Division.{IsDivisionResult, DivisionRefusalLaw};
 
-use crate::signs::{differ, is_negative, magnitude, signed_word};
+use crate::signs::{are_different, is_negative, magnitude, signed_word};
 use m36_word::Word;
 
 /// The division was refused: the divisor is 0, or the quotient does not fit into a word, which is
@@ -25,14 +25,14 @@ fn is_refused(q: Word, y: Word) -> bool
 /// of the dividend.
 #[tactic(auto, using(crate::proofs::SignRules::quotient_is, crate::proofs::SignRules::remainder_is))]
 pub fn div(q: Word, y: Word) -> Result<(Word, Word), DivideCheck>
-    ensures { DivisionSays result q y }
+    ensures { IsDivisionResult result q y }
 {
     if is_refused(q, y) {
         return Err(DivideCheck);
     }
     let dividend = magnitude(q);
     let divisor = magnitude(y);
-    let quotient = signed_word(differ(is_negative(q), is_negative(y)), dividend / divisor);
+    let quotient = signed_word(are_different(is_negative(q), is_negative(y)), dividend / divisor);
     let remainder = signed_word(is_negative(q), dividend % divisor);
     Ok((quotient, remainder))
 }
@@ -40,5 +40,5 @@ pub fn div(q: Word, y: Word) -> Result<(Word, Word), DivideCheck>
 /// A division is refused exactly if the divisor is 0, or the signed quotient does not fit into a
 /// word.
 pub fn division_law()
-    ensures { RefusedWhereNoWord }
+    ensures { DivisionRefusalLaw }
 {}

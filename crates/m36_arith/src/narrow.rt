@@ -16,7 +16,7 @@ pub fn of_bit(on: bool) -> u64
 }
 
 // A signed number, raised by `half` so that it is not negative.
-fn biased(half: u64, v: u64) -> u64
+fn biased_value(half: u64, v: u64) -> u64
     requires half { half ≤ 2 ^ 35 }
     requires number { v < 2 * half }
     ensures low { v < half → result ≡ v + half }
@@ -27,7 +27,7 @@ fn biased(half: u64, v: u64) -> u64
 }
 
 // Whether the sum of two numbers that were raised by `half` is out of range.
-fn is_outside(half: u64, total: u64) -> bool
+fn is_out_of_range(half: u64, total: u64) -> bool
     requires { half ≤ 2 ^ 35 }
     ensures { result ≡ not (nat_le half total && nat_lt total (3 * half)) }
 {
@@ -58,9 +58,9 @@ pub fn difference_overflows(half: u64, x: u64, y: u64, borrow: bool) -> bool
     requires second { y < 2 * half }
     ensures { result ≡ difference_overflow half x y borrow }
 {
-    is_outside(
+    is_out_of_range(
         half,
-        biased(half, x) + 2 * half - (biased(half, y) + of_bit(borrow)),
+        biased_value(half, x) + 2 * half - (biased_value(half, y) + of_bit(borrow)),
     )
 }
 
@@ -72,5 +72,5 @@ pub fn is_less(half: u64, x: u64, y: u64) -> bool
     requires second { y < 2 * half }
     ensures { result ≡ is_less half x y }
 {
-    biased(half, x) < biased(half, y)
+    biased_value(half, x) < biased_value(half, y)
 }

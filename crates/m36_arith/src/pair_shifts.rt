@@ -34,7 +34,7 @@ fn is_mixed(bits: u128, ones: u128) -> bool
 /// The carry of a left shift: the bits 0 to n of the number, followed by zeros, are neither all
 /// zeros nor all ones. If n is the width or more, this means that the number is not 0.
 #[tactic(auto, using(crate::proofs::ShiftRules::carry_within_wide, crate::proofs::ShiftRules::carry_past))]
-pub fn left_carries(v: u128, n: u32) -> bool
+pub fn carry_of_left_shift(v: u128, n: u32) -> bool
     requires number { v < 2 ^ 72 }
     requires count { n < 128 }
     ensures { result ≡ left_shift_carry 72 v n }
@@ -48,7 +48,7 @@ pub fn left_carries(v: u128, n: u32) -> bool
 
 /// A shift to the right; zeros enter at the left.
 #[tactic(auto, unfolding(m36_model::specs::Shifts::plain_right_shift))]
-pub fn right_zero(v: u128, n: u32) -> u128
+pub fn shift_right_with_zeros(v: u128, n: u32) -> u128
     requires number { v < 2 ^ 72 }
     requires count { n < 128 }
     ensures value { result ≡ plain_right_shift v n }
@@ -76,7 +76,7 @@ pub fn right(v: u128, n: u32) -> u128
 
 /// A rotation to the left: the bits that leave at the left enter at the right.
 #[tactic(auto, unfolding(m36_model::specs::Shifts::rotation), using(crate::proofs::ShiftRules::rotated_below_wide))]
-pub fn rotated(v: u128, n: u32) -> u128
+pub fn rotate_left(v: u128, n: u32) -> u128
     requires number { v < 2 ^ 72 }
     requires count { n < 128 }
     ensures value { result ≡ rotation 72 v n }

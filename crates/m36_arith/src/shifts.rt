@@ -3,7 +3,7 @@
 
 ghost use Rattle.std.specs.Prelude.{◌≡◌, ◌^◌, ◌<◌};
 ghost use Rattle.m36_word.specs.Pairs.{number_of};
-ghost use Rattle.m36_arith.specs.ShiftResult.{shifted, shift_carry, shift_result};
+ghost use Rattle.m36_arith.specs.ShiftResult.{shifted_number, shift_carry, shift_result};
 
 use crate::sums::{Sum36, Sum72};
 use crate::wide::pair_of;
@@ -27,14 +27,14 @@ pub enum Shift {
 fn shifted_word(op: Shift, v: u64, n: u32) -> u64
     requires number { v < 2 ^ 36 }
     requires count { n < 128 }
-    ensures value { result ≡ shifted op 36 v n }
+    ensures value { result ≡ shifted_number op 36 v n }
     ensures bound { result < 2 ^ 36 }
 {
     match op {
         Shift::Left => word_shifts::left(v, n),
         Shift::Right => word_shifts::right(v, n),
-        Shift::RightZero => word_shifts::right_zero(v, n),
-        Shift::Rotate => word_shifts::rotated(v, n),
+        Shift::RightZero => word_shifts::shift_right_with_zeros(v, n),
+        Shift::Rotate => word_shifts::rotate_left(v, n),
     }
 }
 
@@ -45,7 +45,7 @@ fn carry_of_word(op: Shift, v: u64, n: u32) -> bool
     ensures { result ≡ shift_carry op 36 v n }
 {
     match op {
-        Shift::Left => word_shifts::left_carries(v, n),
+        Shift::Left => word_shifts::carry_of_left_shift(v, n),
         Shift::Right | Shift::RightZero | Shift::Rotate => false,
     }
 }
@@ -71,14 +71,14 @@ pub fn shift36(op: Shift, v: Word, n: u32) -> Sum36
 fn shifted_pair(op: Shift, v: u128, n: u32) -> u128
     requires number { v < 2 ^ 72 }
     requires count { n < 128 }
-    ensures value { result ≡ shifted op 72 v n }
+    ensures value { result ≡ shifted_number op 72 v n }
     ensures bound { result < 2 ^ 72 }
 {
     match op {
         Shift::Left => pair_shifts::left(v, n),
         Shift::Right => pair_shifts::right(v, n),
-        Shift::RightZero => pair_shifts::right_zero(v, n),
-        Shift::Rotate => pair_shifts::rotated(v, n),
+        Shift::RightZero => pair_shifts::shift_right_with_zeros(v, n),
+        Shift::Rotate => pair_shifts::rotate_left(v, n),
     }
 }
 
@@ -89,7 +89,7 @@ fn carry_of_pair(op: Shift, v: u128, n: u32) -> bool
     ensures { result ≡ shift_carry op 72 v n }
 {
     match op {
-        Shift::Left => pair_shifts::left_carries(v, n),
+        Shift::Left => pair_shifts::carry_of_left_shift(v, n),
         Shift::Right | Shift::RightZero | Shift::Rotate => false,
     }
 }

@@ -31,7 +31,7 @@ pub fn magnitude(w: Word) -> u64
 }
 
 /// Whether two signs are different.
-pub fn differ(first: bool, second: bool) -> bool
+pub fn are_different(first: bool, second: bool) -> bool
     ensures { result ≡ xor_bit first second }
 {
     if first { !second } else { second }

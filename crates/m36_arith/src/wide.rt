@@ -30,7 +30,7 @@ pub fn wide_of_bit(on: bool) -> u128
 }
 
 // A signed number of 72 bits, raised by 2^71 so that it is not negative.
-fn biased(v: u128) -> u128
+fn biased_value(v: u128) -> u128
     requires { v < 2 ^ 72 }
     ensures low { v < 2 ^ 71 → result ≡ v + 2 ^ 71 }
     ensures high { 2 ^ 71 ≤ v → result + 2 ^ 71 ≡ v }
@@ -40,7 +40,7 @@ fn biased(v: u128) -> u128
 }
 
 // Whether the sum of two numbers that were raised by 2^71 is out of range.
-fn is_outside(total: u128) -> bool
+fn is_out_of_range(total: u128) -> bool
     ensures { result ≡ not (nat_le (2 ^ 71) total && nat_lt total (3 * 2 ^ 71)) }
 {
     !(HALF <= total && total < 3 * HALF)
@@ -53,7 +53,7 @@ pub fn wide_sum_overflows(x: u128, y: u128, carry_in: bool) -> bool
     requires second { y < 2 ^ 72 }
     ensures { result ≡ sum_overflow (2 ^ 71) x y carry_in }
 {
-    is_outside(biased(x) + biased(y) + wide_of_bit(carry_in))
+    is_out_of_range(biased_value(x) + biased_value(y) + wide_of_bit(carry_in))
 }
 
 /// Whether the signed difference of two numbers and a borrow does not fit.
@@ -63,7 +63,7 @@ pub fn wide_difference_overflows(x: u128, y: u128, borrow: bool) -> bool
     requires second { y < 2 ^ 72 }
     ensures { result ≡ difference_overflow (2 ^ 71) x y borrow }
 {
-    is_outside(biased(x) + 2 * HALF - (biased(y) + wide_of_bit(borrow)))
+    is_out_of_range(biased_value(x) + 2 * HALF - (biased_value(y) + wide_of_bit(borrow)))
 }
 
 /// Whether the first number is less than the second, as signed numbers.
@@ -73,5 +73,5 @@ pub fn wide_is_less(x: u128, y: u128) -> bool
     requires second { y < 2 ^ 72 }
     ensures { result ≡ is_less (2 ^ 71) x y }
 {
-    biased(x) < biased(y)
+    biased_value(x) < biased_value(y)
 }

@@ -34,7 +34,7 @@ fn is_mixed(bits: u64, ones: u64) -> bool
 /// The carry of a left shift: the bits 0 to n of the number, followed by zeros, are neither all
 /// zeros nor all ones. If n is the width or more, this means that the number is not 0.
 #[tactic(auto, using(crate::proofs::ShiftRules::carry_within, crate::proofs::ShiftRules::carry_past))]
-pub fn left_carries(v: u64, n: u32) -> bool
+pub fn carry_of_left_shift(v: u64, n: u32) -> bool
     requires number { v < 2 ^ 36 }
     requires count { n < 128 }
     ensures { result ≡ left_shift_carry 36 v n }
@@ -48,7 +48,7 @@ pub fn left_carries(v: u64, n: u32) -> bool
 
 // A shift to the right with zeros by a count below 128; `>>` requires one below 64.
 #[tactic(auto, using(crate::proofs::ShiftRules::all_out))]
-fn shifted_right(v: u64, n: u32) -> u64
+fn unbounded_shift_right(v: u64, n: u32) -> u64
     requires number { v < 2 ^ 36 }
     requires count { n < 128 }
     ensures value { result ≡ v / 2 ^ n }
@@ -59,13 +59,13 @@ fn shifted_right(v: u64, n: u32) -> u64
 
 /// A shift to the right; zeros enter at the left.
 #[tactic(auto, unfolding(m36_model::specs::Shifts::plain_right_shift))]
-pub fn right_zero(v: u64, n: u32) -> u64
+pub fn shift_right_with_zeros(v: u64, n: u32) -> u64
     requires number { v < 2 ^ 36 }
     requires count { n < 128 }
     ensures value { result ≡ plain_right_shift v n }
     ensures bound { result < 2 ^ 36 }
 {
-    shifted_right(v, n)
+    unbounded_shift_right(v, n)
 }
 
 /// A shift to the right that copies the sign. A negative number is complemented before and after a
@@ -79,15 +79,15 @@ pub fn right(v: u64, n: u32) -> u64
 {
     const ONES: u64 = (1 << 36) - 1;
     if v < 1 << 35 {
-        shifted_right(v, n)
+        unbounded_shift_right(v, n)
     } else {
-        ONES - shifted_right(ONES - v, n)
+        ONES - unbounded_shift_right(ONES - v, n)
     }
 }
 
 /// A rotation to the left: the bits that leave at the left enter at the right.
 #[tactic(auto, unfolding(m36_model::specs::Shifts::rotation), using(crate::proofs::ShiftRules::rotated_below))]
-pub fn rotated(v: u64, n: u32) -> u64
+pub fn rotate_left(v: u64, n: u32) -> u64
     requires number { v < 2 ^ 36 }
     requires count { n < 128 }
     ensures value { result ≡ rotation 36 v n }

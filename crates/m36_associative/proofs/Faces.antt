@@ -2,31 +2,31 @@
 use Rattle.std.proofs.Common.{ℕ, ◌≡◌, ◌+◌, ◌-◌, ◌/◌, ◌%◌, ◌<◌, ◌≤◌, ◌^◌, Bool, true, false, not, ◌==◌, nat_lt, List, [], ◌∷◌, length, None, Ok, refl, sym, ap, subst, ◌∙◌, arith, eq-eqb}
 use Rattle.std.proofs.lemmas.Bool.{le-ltb}
 use Rattle.m36_desc.specs.Fields.{SdwFields, DbrFields}
-use Rattle.m36_desc.specs.Access.{first_of, in_order, read_rows, write_rows, fetch_rows}
-use Rattle.m36_model.specs.Place.{wrapped}
-use Rattle.m36_associative.specs.Right.{MayRead, MayWrite, MayFetch, MayGo, IsPage, IsFetching, Answers}
+use Rattle.m36_desc.specs.Access.{first_violation, has_ordered_brackets, read_rows, write_rows, fetch_rows}
+use Rattle.m36_model.specs.Place.{wrapped_address}
+use Rattle.m36_associative.specs.Right.{MayRead, MayWrite, MayFetch, MayTransferTo, IsPage, IsFetching, Answers}
 use Rattle.m36_associative.specs.declared.front.Page.{Page}
 use Rattle.m36_associative.specs.declared.front.Fetching.{Fetching}
 use Rattle.m36_associative.proofs.Found.{marks_of}
 
-pub may_read : (d : SdwFields) (ring : ℕ) (same : Bool) → in_order d ≡ true → d.readable ≡ true → ring < d.r2 + 1 → first_of (read_rows d ring same) ≡ None
+pub may_read : (d : SdwFields) (ring : ℕ) (same : Bool) → has_ordered_brackets d ≡ true → d.readable ≡ true → ring < d.r2 + 1 → first_violation (read_rows d ring same) ≡ None
 may_read d ring same o r h =
     let low : nat_lt d.r2 ring ≡ false = le-ltb d.r2 ring (omega arith) in
     rw (o, low, r) refl
 
-pub may_write : (d : SdwFields) (ring : ℕ) → in_order d ≡ true → d.writable ≡ true → ring < d.r1 + 1 → first_of (write_rows d ring) ≡ None
+pub may_write : (d : SdwFields) (ring : ℕ) → has_ordered_brackets d ≡ true → d.writable ≡ true → ring < d.r1 + 1 → first_violation (write_rows d ring) ≡ None
 may_write d ring o r h =
     let low : nat_lt d.r1 ring ≡ false = le-ltb d.r1 ring (omega arith) in
     rw (o, low, r) refl
 
-pub may_fetch : (d : SdwFields) (ring : ℕ) → in_order d ≡ true → d.executable ≡ true → d.r1 ≤ ring → ring < d.r2 + 1 → first_of (fetch_rows d ring) ≡ None
+pub may_fetch : (d : SdwFields) (ring : ℕ) → has_ordered_brackets d ≡ true → d.executable ≡ true → d.r1 ≤ ring → ring < d.r2 + 1 → first_violation (fetch_rows d ring) ≡ None
 may_fetch d ring o r k h =
     let above : nat_lt ring d.r1 ≡ false = le-ltb ring d.r1 k in
     let low : nat_lt d.r2 ring ≡ false = le-ltb d.r2 ring (omega arith) in
     rw (o, above, low, r) refl
 
 -- a ring that may fetch from a segment may transfer there from the same ring
-go_by : (o a b e s : Bool) → s ≡ true → first_of ((not o, 0) ∷ ((a, 1) ∷ ((b, 1) ∷ ((not e, 2) ∷ [])))) ≡ None → first_of ((not o, 0) ∷ ((a, 1) ∷ ((b, 1) ∷ ((not e, 2) ∷ ((not s, 12) ∷ []))))) ≡ None
+go_by : (o a b e s : Bool) → s ≡ true → first_violation ((not o, 0) ∷ ((a, 1) ∷ ((b, 1) ∷ ((not e, 2) ∷ [])))) ≡ None → first_violation ((not o, 0) ∷ ((a, 1) ∷ ((b, 1) ∷ ((not e, 2) ∷ ((not s, 12) ∷ []))))) ≡ None
 go_by o a b e false k h = absurd (cc)
 go_by false a b e true k h = absurd (cc)
 go_by true true b e true k h = absurd (cc)
@@ -34,8 +34,8 @@ go_by true false true e true k h = absurd (cc)
 go_by true false false false true k h = absurd (cc)
 go_by true false false true true k h = refl
 
-pub may_go : (d : SdwFields) (ring : ℕ) → MayFetch ring d → MayGo ring d
-may_go d ring h = go_by (in_order d) (nat_lt ring d.r1) (nat_lt d.r2 ring) d.executable (ring == ring) (eq-eqb ring ring refl) h
+pub may_go : (d : SdwFields) (ring : ℕ) → MayFetch ring d → MayTransferTo ring d
+may_go d ring h = go_by (has_ordered_brackets d) (nat_lt ring d.r1) (nat_lt d.r2 ring) d.executable (ring == ring) (eq-eqb ring ring refl) h
 
 module _ (core : List ℕ) (dbr : DbrFields) (words tables : List ℕ) (p : Page) (seg word : ℕ) where
   -- a page in front answers
@@ -43,7 +43,7 @@ module _ (core : List ℕ) (dbr : DbrFields) (words tables : List ℕ) (p : Page
   answers Rights write count k m s e r =
       let small : length core ≤ 2 ^ 24 = k.page_rights.small in
       let inside : p.base + p.end ≤ length core = k.page_rights.inside (omega arith) in
-      let same : wrapped (p.base + word % 1024) ≡ p.base + word % 1024 = omega arith in
+      let same : wrapped_address (p.base + word % 1024) ≡ p.base + word % 1024 = omega arith in
       record {
         sdw = k.sdw;
         found = k.found;
@@ -67,8 +67,8 @@ module _ (core : List ℕ) (dbr : DbrFields) (words tables : List ℕ) (p : Page
   pub answers_fetch : (ring count : ℕ) → IsPage core dbr words tables p seg (word / 1024) → 1 ≤ count → word % 1024 + count ≤ p.end → p.r1 ≤ ring → ring < p.fetch_below → Answers core dbr (λ d. MayFetch ring d × (p.privileged ≡ d.privileged)) false seg word count (p.base + word % 1024)
   answers_fetch ring count k s e a r = answers (λ d. MayFetch ring d × (p.privileged ≡ d.privileged)) false count k (λ w. absurd (cc)) s e (k.page_rights.fetches ring a r, k.page_rights.privileged)
 
-  pub answers_go : (ring count : ℕ) → IsPage core dbr words tables p seg (word / 1024) → 1 ≤ count → word % 1024 + count ≤ p.end → p.r1 ≤ ring → ring < p.fetch_below → Answers core dbr (MayGo ring) false seg word count (p.base + word % 1024)
-  answers_go ring count k s e a r = answers (MayGo ring) false count k (λ w. absurd (cc)) s e (may_go k.sdw ring (k.page_rights.fetches ring a r))
+  pub answers_go : (ring count : ℕ) → IsPage core dbr words tables p seg (word / 1024) → 1 ≤ count → word % 1024 + count ≤ p.end → p.r1 ≤ ring → ring < p.fetch_below → Answers core dbr (MayTransferTo ring) false seg word count (p.base + word % 1024)
+  answers_go ring count k s e a r = answers (MayTransferTo ring) false count k (λ w. absurd (cc)) s e (may_go k.sdw ring (k.page_rights.fetches ring a r))
 
 -- the page that is fetched from answers a fetch, and a transfer
 module _ (core : List ℕ) (dbr : DbrFields) (words tables : List ℕ) (f : Fetching) (k : IsFetching core dbr words tables f) (word : ℕ) where
@@ -92,6 +92,6 @@ module _ (core : List ℕ) (dbr : DbrFields) (words tables : List ℕ) (f : Fetc
       (subst (λ (b : Bool). Answers core dbr (λ d. MayFetch f.ring d × (b ≡ d.privileged)) false f.seg word 1 (k.page.base + word % 1024)) (sym k.privileged) is)
 
 -- a fetch that is answered answers a transfer from the same ring
-pub fetch_goes : (core : List ℕ) (dbr : DbrFields) (ring seg word count place : ℕ) (b : Bool) → Answers core dbr (λ d. MayFetch ring d × (b ≡ d.privileged)) false seg word count place → Answers core dbr (MayGo ring) false seg word count place
+pub fetch_goes : (core : List ℕ) (dbr : DbrFields) (ring seg word count place : ℕ) (b : Bool) → Answers core dbr (λ d. MayFetch ring d × (b ≡ d.privileged)) false seg word count place → Answers core dbr (MayTransferTo ring) false seg word count place
 fetch_goes core dbr ring seg word count place b h =
     record { sdw = h.sdw; found = h.found; rights = may_go h.sdw ring h.rights.0; bound = h.bound; at = h.at; small = h.small; inside = h.inside; marked = h.marked }

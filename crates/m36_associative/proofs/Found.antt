@@ -4,22 +4,22 @@ use Rattle.std.proofs.lemmas.List.{set-get_or}
 use Rattle.std.proofs.lemmas.Option.{slice_get_within}
 use Rattle.m36_desc.specs.Fields.{SdwFields, PtwFields, DbrFields}
 use Rattle.m36_desc.specs.Descriptors.{ptw_of}
-use Rattle.m36_model.specs.Place.{wrapped, frame_at, in_frame, in_frame_by, ptw_at, directory_at, page_at, in_bounds, sdw_place_by, sdw_at, core_sdw, marked_word, with_mark, with_marks, marks_by}
-use Rattle.m36_tables.specs.Tables.{TableIn}
+use Rattle.m36_model.specs.Place.{wrapped_address, frame_at, address_in_frame, address_in_frame_by, ptw_at, directory_at, page_at, has_descriptor_in_bounds, sdw_place_by, sdw_at, core_sdw, marked_word, with_mark, with_marks, marks_by}
+use Rattle.m36_tables.specs.Tables.{TableWordIsInCore}
 use Rattle.m36_associative.specs.Right.{IsMarked, IsPageRights, IsPage, IsDescriptor, IsTableWord}
 use Rattle.m36_associative.specs.declared.front.Page.{Page}
 use Rattle.m36_associative.specs.declared.memories.Memories.{Memories}
 
 -- In a paged descriptor segment, a descriptor is found through a word that is in core.
-passes_by : (core : List ℕ) (dbr : DbrFields) (seg a : ℕ) (d : SdwFields) (b u : Bool) (found : Option ℕ) → slice_get core a ≡ found → sdw_at core (sdw_place_by b u dbr seg (option_map ptw_of found)) ≡ Ok d → TableIn (length core) u a
+passes_by : (core : List ℕ) (dbr : DbrFields) (seg a : ℕ) (d : SdwFields) (b u : Bool) (found : Option ℕ) → slice_get core a ≡ found → sdw_at core (sdw_place_by b u dbr seg (option_map ptw_of found)) ≡ Ok d → TableWordIsInCore (length core) u a
 passes_by core dbr seg a d b true found e h = tt
 passes_by core dbr seg a d false false found e h = absurd (cc)
 passes_by core dbr seg a d true false None e h = absurd (cc)
 passes_by core dbr seg a d true false (Some x) e h = slice_get_within core a x e
 
-pub passes : (core : List ℕ) (dbr : DbrFields) (seg : ℕ) (d : SdwFields) → core_sdw core dbr seg ≡ Ok d → TableIn (length core) dbr.unpaged (directory_at dbr seg)
+pub passes : (core : List ℕ) (dbr : DbrFields) (seg : ℕ) (d : SdwFields) → core_sdw core dbr seg ≡ Ok d → TableWordIsInCore (length core) dbr.unpaged (directory_at dbr seg)
 unfolding core_sdw
-passes core dbr seg d h = passes_by core dbr seg (directory_at dbr seg) d (in_bounds dbr seg) dbr.unpaged (slice_get core (directory_at dbr seg)) refl h
+passes core dbr seg d h = passes_by core dbr seg (directory_at dbr seg) d (has_descriptor_in_bounds dbr seg) dbr.unpaged (slice_get core (directory_at dbr seg)) refl h
 
 -- setting marks that are set changes nothing
 no_change : (core : List ℕ) (a : ℕ) (m : Bool) → IsMarked core a m → with_mark core (record { address = a; modified = m }) ≡ core
@@ -45,10 +45,10 @@ marks_of core dbr words tables p seg word write h k = marks_stand core (director
 module _ (core : List ℕ) (dbr : DbrFields) (m : Memories) (p : Page) (seg word : ℕ) where
   module _ (d : SdwFields) (page_rights : IsPageRights (length core) d (word / 1024) p) where
     -- a page of a contiguous segment
-    whole_place : (w : ℕ) → w / 1024 ≡ word / 1024 → p.base ≡ wrapped (d.addr + word / 1024 * 1024) → wrapped (d.addr + w) ≡ wrapped (p.base + w % 1024)
+    whole_place : (w : ℕ) → w / 1024 ≡ word / 1024 → p.base ≡ wrapped_address (d.addr + word / 1024 * 1024) → wrapped_address (d.addr + w) ≡ wrapped_address (p.base + w % 1024)
     whole_place w e b = omega arith
 
-    pub page_unpaged : IsDescriptor core dbr m.words m.tables seg d → d.unpaged ≡ true → (dbr.unpaged ≡ false → IsMarked core (directory_at dbr seg) false) → p.base ≡ wrapped (d.addr + word / 1024 * 1024) → p.base < 2 ^ 24 → IsPage core dbr m.words m.tables p seg (word / 1024)
+    pub page_unpaged : IsDescriptor core dbr m.words m.tables seg d → d.unpaged ≡ true → (dbr.unpaged ≡ false → IsMarked core (directory_at dbr seg) false) → p.base ≡ wrapped_address (d.addr + word / 1024 * 1024) → p.base < 2 ^ 24 → IsPage core dbr m.words m.tables p seg (word / 1024)
     page_unpaged k u q b l =
         record {
           sdw = d;
@@ -64,13 +64,13 @@ module _ (core : List ℕ) (dbr : DbrFields) (m : Memories) (p : Page) (seg word
         }
 
     -- a page of a paged segment
-    frame_place : (t : PtwFields) (w : ℕ) → p.base ≡ wrapped (t.addr / 16 * 1024) → wrapped (frame_at t + w % 1024) ≡ wrapped (p.base + w % 1024)
+    frame_place : (t : PtwFields) (w : ℕ) → p.base ≡ wrapped_address (t.addr / 16 * 1024) → wrapped_address (frame_at t + w % 1024) ≡ wrapped_address (p.base + w % 1024)
     frame_place t w b = omega arith
 
-    in_frame_on : (t : PtwFields) (w : ℕ) → t.f ≡ true → p.base ≡ wrapped (t.addr / 16 * 1024) → in_frame (Some t) (w % 1024) ≡ Ok (wrapped (p.base + w % 1024))
-    in_frame_on t w f b = ap (λ (x : Bool). in_frame_by x t (w % 1024)) f ∙ ap Ok (frame_place t w b)
+    in_frame_on : (t : PtwFields) (w : ℕ) → t.f ≡ true → p.base ≡ wrapped_address (t.addr / 16 * 1024) → address_in_frame (Some t) (w % 1024) ≡ Ok (wrapped_address (p.base + w % 1024))
+    in_frame_on t w f b = ap (λ (x : Bool). address_in_frame_by x t (w % 1024)) f ∙ ap Ok (frame_place t w b)
 
-    pub page_paged : (t : PtwFields) → IsDescriptor core dbr m.words m.tables seg d → d.unpaged ≡ false → (dbr.unpaged ≡ false → IsMarked core (directory_at dbr seg) false) → IsTableWord core dbr m.words m.tables (page_at d (word / 1024)) t → t.f ≡ true → p.base ≡ wrapped (t.addr / 16 * 1024) → p.base < 2 ^ 24
+    pub page_paged : (t : PtwFields) → IsDescriptor core dbr m.words m.tables seg d → d.unpaged ≡ false → (dbr.unpaged ≡ false → IsMarked core (directory_at dbr seg) false) → IsTableWord core dbr m.words m.tables (page_at d (word / 1024)) t → t.f ≡ true → p.base ≡ wrapped_address (t.addr / 16 * 1024) → p.base < 2 ^ 24
         → IsMarked core (page_at d (word / 1024)) false → (0 < p.write_below → IsMarked core (page_at d (word / 1024)) true) → IsPage core dbr m.words m.tables p seg (word / 1024)
     page_paged t k u q x f b l i j =
         record {

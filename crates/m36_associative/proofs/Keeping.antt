@@ -1,8 +1,8 @@
 -- What is kept is still right when the memories change and core does not.
 use Rattle.std.proofs.Common.{ℕ, zero, suc, ◌≡◌, ◌+◌, ◌*◌, ◌/◌, ◌<◌, ◌⊎◌, true, List, [], ◌∷◌, length, Contains, refl, sym, ap, ◌∙◌, subst, inl, inr, arith, set, get_or}
 use Rattle.m36_desc.specs.Fields.{SdwFields, PtwFields, DbrFields}
-use Rattle.m36_associative.specs.Watched.{watched}
-use Rattle.m36_associative.specs.Right.{IsWatched, IsDescriptor, IsTableWord, IsPage, IsPageInFront, IsFetching, AreRight}
+use Rattle.m36_associative.specs.Watched.{is_watched}
+use Rattle.m36_associative.specs.Right.{IsWatched, IsDescriptor, IsTableWord, IsPage, IsPageInFront, IsFetching, AreCoherent}
 use Rattle.m36_associative.specs.declared.front.Fetching.{Fetching}
 use Rattle.m36_associative.specs.declared.front.Page.{Page}
 use Rattle.m36_associative.specs.declared.kept.SdwEntry.{SdwEntry}
@@ -11,7 +11,7 @@ use Rattle.m36_associative.specs.declared.memories.Memories.{Memories}
 
 -- more addresses are watched
 abbrev pub WatchesMore : List ℕ → List ℕ → Type 0
-WatchesMore old new = (b : ℕ) → watched old b ≡ true → watched new b ≡ true
+WatchesMore old new = (b : ℕ) → is_watched old b ≡ true → is_watched new b ≡ true
 
 module _ (core : List ℕ) (dbr : DbrFields) (words tables words' tables' : List ℕ) (w : WatchesMore words words') (t : WatchesMore tables tables') where
   pub watches_on : (seg : ℕ) → IsWatched core dbr words tables seg → IsWatched core dbr words' tables' seg
@@ -32,12 +32,12 @@ module _ (core : List ℕ) (dbr : DbrFields) (words tables words' tables' : List
       record { page = k.page; is = page_on k.page f.seg (f.first / 1024) k.is; first = k.first; low = k.low; base = k.base; len = k.len; above = k.above; below = k.below; privileged = k.privileged }
 
 -- each entry was kept before, or is right
-pub kept_on : (core : List ℕ) (dbr : DbrFields) (m m' : Memories) → AreRight core dbr m → WatchesMore m.words m'.words → WatchesMore m.tables m'.tables
+pub kept_on : (core : List ℕ) (dbr : DbrFields) (m m' : Memories) → AreCoherent core dbr m → WatchesMore m.words m'.words → WatchesMore m.tables m'.tables
     → ((e : SdwEntry) → Contains m'.sdws e → Contains m.sdws e ⊎ ((seg : ℕ) → e.key ≡ seg + 1 → IsDescriptor core dbr m'.words m'.tables seg e.sdw))
     → ((e : PtwEntry) → Contains m'.ptws e → Contains m.ptws e ⊎ ((a : ℕ) → e.key ≡ a + 1 → IsTableWord core dbr m'.words m'.tables a e.ptw))
     → ((p : Page) → Contains m'.pages p → Contains m.pages p ⊎ IsPageInFront core dbr m'.words m'.tables p)
     → (0 < m'.fetching.len → IsFetching core dbr m.words m.tables m'.fetching)
-    → AreRight core dbr m'
+    → AreCoherent core dbr m'
 kept_on core dbr m m' h w t s q f z =
     record {
       descriptors = λ e seg c n. elim (s e c) [ inl k ↦ descriptor_on core dbr m.words m.tables m'.words m'.tables w t seg e.sdw (h.descriptors e seg k n) | inr k ↦ k seg n ];
@@ -47,7 +47,7 @@ kept_on core dbr m m' h w t s q f z =
     }
 
 -- the page that is fetched from is the same
-same_fetching : (core : List ℕ) (dbr : DbrFields) (m m' : Memories) → AreRight core dbr m → m'.fetching ≡ m.fetching → 0 < m'.fetching.len → IsFetching core dbr m.words m.tables m'.fetching
+same_fetching : (core : List ℕ) (dbr : DbrFields) (m m' : Memories) → AreCoherent core dbr m → m'.fetching ≡ m.fetching → 0 < m'.fetching.len → IsFetching core dbr m.words m.tables m'.fetching
 same_fetching core dbr m m' h e = subst (λ (f : Fetching). 0 < f.len → IsFetching core dbr m.words m.tables f) (sym e) h.fetching
 
 -- no page is fetched from
@@ -55,10 +55,10 @@ pub no_fetching : (core : List ℕ) (dbr : DbrFields) (words tables : List ℕ) 
 no_fetching core dbr words tables f e n = absurd (omega arith)
 
 -- the same, with other pages in front
-pub with_pages : (core : List ℕ) (dbr : DbrFields) (m m' : Memories) → AreRight core dbr m → m'.words ≡ m.words → m'.tables ≡ m.tables → m'.sdws ≡ m.sdws → m'.ptws ≡ m.ptws
+pub with_pages : (core : List ℕ) (dbr : DbrFields) (m m' : Memories) → AreCoherent core dbr m → m'.words ≡ m.words → m'.tables ≡ m.tables → m'.sdws ≡ m.sdws → m'.ptws ≡ m.ptws
     → ((p : Page) → Contains m'.pages p → Contains m.pages p ⊎ IsPageInFront core dbr m.words m.tables p)
     → (0 < m'.fetching.len → IsFetching core dbr m.words m.tables m'.fetching)
-    → AreRight core dbr m'
+    → AreCoherent core dbr m'
 with_pages core dbr m m' h e f g i k z =
     kept_on core dbr m m' h (λ b c. rw e c) (λ b c. rw f c)
     (λ s c. inl (subst (λ (x : List SdwEntry). Contains x s) g c))
@@ -67,7 +67,7 @@ with_pages core dbr m m' h e f g i k z =
     z
 
 -- the same, with another page to fetch from
-pub with_fetching : (core : List ℕ) (dbr : DbrFields) (m m' : Memories) → AreRight core dbr m → m'.words ≡ m.words → m'.tables ≡ m.tables → m'.sdws ≡ m.sdws → m'.ptws ≡ m.ptws → m'.pages ≡ m.pages → (0 < m'.fetching.len → IsFetching core dbr m.words m.tables m'.fetching) → AreRight core dbr m'
+pub with_fetching : (core : List ℕ) (dbr : DbrFields) (m m' : Memories) → AreCoherent core dbr m → m'.words ≡ m.words → m'.tables ≡ m.tables → m'.sdws ≡ m.sdws → m'.ptws ≡ m.ptws → m'.pages ≡ m.pages → (0 < m'.fetching.len → IsFetching core dbr m.words m.tables m'.fetching) → AreCoherent core dbr m'
 with_fetching core dbr m m' h e f g i j z = with_pages core dbr m m' h e f g i (λ p c. inl (subst (λ (x : List Page). Contains x p) j c)) z
 
 -- key 0 is that of no page
@@ -78,7 +78,7 @@ no_key core dbr words tables p e seg page b k = absurd (omega arith)
 nothing_in : {X : Type 0} (x : X) → Contains [] x → ⊥
 nothing_in x c = let within = c.1 in omega arith
 
-pub nothing_kept : (core : List ℕ) (dbr : DbrFields) (m : Memories) → ((e : SdwEntry) → Contains m.sdws e → e.key ≡ 0) → ((e : PtwEntry) → Contains m.ptws e → e.key ≡ 0) → ((p : Page) → Contains m.pages p → p.key ≡ 0) → m.fetching.len ≡ 0 → AreRight core dbr m
+pub nothing_kept : (core : List ℕ) (dbr : DbrFields) (m : Memories) → ((e : SdwEntry) → Contains m.sdws e → e.key ≡ 0) → ((e : PtwEntry) → Contains m.ptws e → e.key ≡ 0) → ((p : Page) → Contains m.pages p → p.key ≡ 0) → m.fetching.len ≡ 0 → AreCoherent core dbr m
 nothing_kept core dbr m s t g z =
     record {
       descriptors = λ e seg c n. absurd (let none = s e c in omega arith);
@@ -106,9 +106,9 @@ before_or_here (suc k) zero b = absurd (omega arith)
 before_or_here (suc k) (suc i) b = elim (before_or_here k i (omega arith)) [ inl l ↦ inl (omega arith) | inr e ↦ inr (ap suc e) ]
 
 -- everything that is kept is watched again, and no page is in front
-pub watched_anew : (core : List ℕ) (dbr : DbrFields) (m : Memories) (words tables : List ℕ) → AreRight core dbr m → ((p : Page) → Contains m.pages p → p.key ≡ 0) → m.fetching.len ≡ 0
-    → ((e : SdwEntry) (seg : ℕ) → Contains m.sdws e → e.key ≡ seg + 1 → IsWatched core dbr words tables seg) → ((e : PtwEntry) (a : ℕ) → Contains m.ptws e → e.key ≡ a + 1 → watched tables a ≡ true)
-    → AreRight core dbr (record m { words = words; tables = tables })
+pub watched_anew : (core : List ℕ) (dbr : DbrFields) (m : Memories) (words tables : List ℕ) → AreCoherent core dbr m → ((p : Page) → Contains m.pages p → p.key ≡ 0) → m.fetching.len ≡ 0
+    → ((e : SdwEntry) (seg : ℕ) → Contains m.sdws e → e.key ≡ seg + 1 → IsWatched core dbr words tables seg) → ((e : PtwEntry) (a : ℕ) → Contains m.ptws e → e.key ≡ a + 1 → is_watched tables a ≡ true)
+    → AreCoherent core dbr (record m { words = words; tables = tables })
 watched_anew core dbr m words tables h none z s t =
     record {
       descriptors = λ e seg c n. record { found = (h.descriptors e seg c n).found; watches = s e seg c n };
@@ -118,7 +118,7 @@ watched_anew core dbr m words tables h none z s t =
     }
 
 -- more addresses are watched
-pub with_watches : (core : List ℕ) (dbr : DbrFields) (m m' : Memories) → AreRight core dbr m → WatchesMore m.words m'.words → WatchesMore m.tables m'.tables → m'.sdws ≡ m.sdws → m'.ptws ≡ m.ptws → m'.pages ≡ m.pages → m'.fetching ≡ m.fetching → AreRight core dbr m'
+pub with_watches : (core : List ℕ) (dbr : DbrFields) (m m' : Memories) → AreCoherent core dbr m → WatchesMore m.words m'.words → WatchesMore m.tables m'.tables → m'.sdws ≡ m.sdws → m'.ptws ≡ m.ptws → m'.pages ≡ m.pages → m'.fetching ≡ m.fetching → AreCoherent core dbr m'
 with_watches core dbr m m' h w t g i j z =
     kept_on core dbr m m' h w t
     (λ s c. inl (subst (λ (x : List SdwEntry). Contains x s) g c))
@@ -139,14 +139,14 @@ module _ {X : Type 0} where
   contains_set xs i y p c = contains_at xs i y p c.0 c.1 c.2
 
 -- a page is put in front
-pub with_page : (core : List ℕ) (dbr : DbrFields) (m m' : Memories) (i : ℕ) (y : Page) → AreRight core dbr m → IsPageInFront core dbr m.words m.tables y → m'.pages ≡ set m.pages i y → m'.words ≡ m.words → m'.tables ≡ m.tables → m'.sdws ≡ m.sdws → m'.ptws ≡ m.ptws → m'.fetching.len ≡ 0 → AreRight core dbr m'
+pub with_page : (core : List ℕ) (dbr : DbrFields) (m m' : Memories) (i : ℕ) (y : Page) → AreCoherent core dbr m → IsPageInFront core dbr m.words m.tables y → m'.pages ≡ set m.pages i y → m'.words ≡ m.words → m'.tables ≡ m.tables → m'.sdws ≡ m.sdws → m'.ptws ≡ m.ptws → m'.fetching.len ≡ 0 → AreCoherent core dbr m'
 with_page core dbr m m' i y h r j e f g k z =
     with_pages core dbr m m' h e f g k
     (λ p c. elim (contains_set m.pages i y p (subst (λ (x : List Page). Contains x p) j c)) [ inl d ↦ inl d | inr s ↦ inr (subst (λ (q : Page). IsPageInFront core dbr m.words m.tables q) (sym s) r) ])
     (no_fetching core dbr m.words m.tables m'.fetching z)
 
 -- a descriptor is kept
-pub with_descriptor : (core : List ℕ) (dbr : DbrFields) (m m' : Memories) (i seg : ℕ) (y : SdwEntry) → AreRight core dbr m → y.key ≡ seg + 1 → IsDescriptor core dbr m.words m.tables seg y.sdw → m'.sdws ≡ set m.sdws i y → m'.words ≡ m.words → m'.tables ≡ m.tables → m'.ptws ≡ m.ptws → m'.pages ≡ m.pages → m'.fetching ≡ m.fetching → AreRight core dbr m'
+pub with_descriptor : (core : List ℕ) (dbr : DbrFields) (m m' : Memories) (i seg : ℕ) (y : SdwEntry) → AreCoherent core dbr m → y.key ≡ seg + 1 → IsDescriptor core dbr m.words m.tables seg y.sdw → m'.sdws ≡ set m.sdws i y → m'.words ≡ m.words → m'.tables ≡ m.tables → m'.ptws ≡ m.ptws → m'.pages ≡ m.pages → m'.fetching ≡ m.fetching → AreCoherent core dbr m'
 with_descriptor core dbr m m' i seg y h n r g e f k j z =
     let r' : IsDescriptor core dbr m'.words m'.tables seg y.sdw = rw (e, f) r in
     kept_on core dbr m m' h (λ b c. rw e c) (λ b c. rw f c)
@@ -159,7 +159,7 @@ with_descriptor core dbr m m' i seg y h n r g e f k j z =
     (same_fetching core dbr m m' h z)
 
 -- a PTW is kept
-pub with_table_word : (core : List ℕ) (dbr : DbrFields) (m m' : Memories) (i a : ℕ) (y : PtwEntry) → AreRight core dbr m → y.key ≡ a + 1 → IsTableWord core dbr m.words m.tables a y.ptw → m'.ptws ≡ set m.ptws i y → m'.words ≡ m.words → m'.tables ≡ m.tables → m'.sdws ≡ m.sdws → m'.pages ≡ m.pages → m'.fetching ≡ m.fetching → AreRight core dbr m'
+pub with_table_word : (core : List ℕ) (dbr : DbrFields) (m m' : Memories) (i a : ℕ) (y : PtwEntry) → AreCoherent core dbr m → y.key ≡ a + 1 → IsTableWord core dbr m.words m.tables a y.ptw → m'.ptws ≡ set m.ptws i y → m'.words ≡ m.words → m'.tables ≡ m.tables → m'.sdws ≡ m.sdws → m'.pages ≡ m.pages → m'.fetching ≡ m.fetching → AreCoherent core dbr m'
 with_table_word core dbr m m' i a y h n r g e f k j z =
     let r' : IsTableWord core dbr m'.words m'.tables a y.ptw = rw (e, f) r in
     kept_on core dbr m m' h (λ b c. rw e c) (λ b c. rw f c)

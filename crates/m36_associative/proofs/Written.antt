@@ -4,10 +4,10 @@ use Rattle.std.proofs.lemmas.Bool.{eqb-false}
 use Rattle.std.proofs.lemmas.List.{get_or-set_other}
 use Rattle.m36_desc.specs.Fields.{SdwFields, PtwFields, DbrFields}
 use Rattle.m36_desc.specs.Descriptors.{ptw_of}
-use Rattle.m36_model.specs.Place.{wrapped, in_frame, in_frame_by, ptw_at, directory_at, page_at, in_bounds, sdw_place, sdw_place_by, sdw_at, core_sdw, word_place_by, with_used, with_modified, marked_word, with_mark}
+use Rattle.m36_model.specs.Place.{wrapped_address, address_in_frame, address_in_frame_by, ptw_at, directory_at, page_at, has_descriptor_in_bounds, sdw_place, sdw_place_by, sdw_at, core_sdw, word_place_by, with_used, with_modified, marked_word, with_mark}
 use Rattle.m36_model.specs.declared.outcome.Refusal.{Refusal}
-use Rattle.m36_associative.specs.Watched.{watched}
-use Rattle.m36_associative.specs.Right.{IsMarked, IsWatched, IsDescriptor, IsTableWord, IsPage, IsFetching, AreRight}
+use Rattle.m36_associative.specs.Watched.{is_watched}
+use Rattle.m36_associative.specs.Right.{IsMarked, IsWatched, IsDescriptor, IsTableWord, IsPage, IsFetching, AreCoherent}
 use Rattle.m36_associative.specs.declared.front.Fetching.{Fetching}
 use Rattle.m36_associative.specs.declared.front.Page.{Page}
 use Rattle.m36_associative.specs.declared.memories.Memories.{Memories}
@@ -16,8 +16,8 @@ use Rattle.m36_associative.proofs.Watching.{differs}
 -- another core has the same watched words; the PTWs among them are equal except for marks
 pub record AreAlike (core now words tables : List ℕ) : Type 0 where
   pub size : length now ≡ length core
-  pub word : (b : ℕ) → watched words b ≡ true → slice_get now b ≡ slice_get core b
-  pub frame : (b : ℕ) → watched tables b ≡ true → (offset : ℕ) → in_frame (ptw_at now b) offset ≡ in_frame (ptw_at core b) offset
+  pub word : (b : ℕ) → is_watched words b ≡ true → slice_get now b ≡ slice_get core b
+  pub frame : (b : ℕ) → is_watched tables b ≡ true → (offset : ℕ) → address_in_frame (ptw_at now b) offset ≡ address_in_frame (ptw_at core b) offset
 
 module _ (core now words tables : List ℕ) (dbr : DbrFields) (alike : AreAlike core now words tables) where
   place_by : (seg : ℕ) → IsWatched core dbr words tables seg → (b u : Bool) → dbr.unpaged ≡ u → sdw_place_by b u dbr seg (ptw_at now (directory_at dbr seg)) ≡ sdw_place_by b u dbr seg (ptw_at core (directory_at dbr seg))
@@ -26,13 +26,13 @@ module _ (core now words tables : List ℕ) (dbr : DbrFields) (alike : AreAlike 
   place_by seg h true false e = alike.frame (directory_at dbr seg) (h.directory e) ((2 * seg) % 1024)
 
   same_place : (seg : ℕ) → IsWatched core dbr words tables seg → sdw_place now dbr seg ≡ sdw_place core dbr seg
-  same_place seg h = place_by seg h (in_bounds dbr seg) dbr.unpaged refl
+  same_place seg h = place_by seg h (has_descriptor_in_bounds dbr seg) dbr.unpaged refl
 
   sdw_by : (seg : ℕ) → IsWatched core dbr words tables seg → (v : Result ℕ Refusal) → sdw_place core dbr seg ≡ v → sdw_at now v ≡ sdw_at core v
   sdw_by seg h (Err e) found = refl
   sdw_by seg h (Ok a) found =
       let even = alike.word a (h.even a found) in
-      let odd = alike.word (wrapped (a + 1)) (h.odd a found) in
+      let odd = alike.word (wrapped_address (a + 1)) (h.odd a found) in
       cc
 
   same_sdw : (seg : ℕ) → IsWatched core dbr words tables seg → core_sdw now dbr seg ≡ core_sdw core dbr seg
@@ -48,14 +48,14 @@ module _ (core now words tables : List ℕ) (dbr : DbrFields) (alike : AreAlike 
   pub table_word_alike : (a : ℕ) (p : PtwFields) → IsTableWord core dbr words tables a p → IsTableWord now dbr words tables a p
   table_word_alike a p h = record { inside = rw alike.size h.inside; finds = λ o. alike.frame a h.watches o ∙ h.finds o; watches = h.watches }
 
-  word_place_alike : (d : SdwFields) (w a : ℕ) (u : Bool) → d.unpaged ≡ u → (d.unpaged ≡ false → watched tables a ≡ true) → word_place_by u d w (ptw_at now a) ≡ word_place_by u d w (ptw_at core a)
+  word_place_alike : (d : SdwFields) (w a : ℕ) (u : Bool) → d.unpaged ≡ u → (d.unpaged ≡ false → is_watched tables a ≡ true) → word_place_by u d w (ptw_at now a) ≡ word_place_by u d w (ptw_at core a)
   word_place_alike d w a true e h = refl
   word_place_alike d w a false e h = alike.frame a (h e) (w % 1024)
 
-  mark_alike : ((b : ℕ) → watched tables b ≡ true → slice_index now b ≡ slice_index core b) → (b : ℕ) (m : Bool) → watched tables b ≡ true → IsMarked core b m → IsMarked now b m
+  mark_alike : ((b : ℕ) → is_watched tables b ≡ true → slice_index now b ≡ slice_index core b) → (b : ℕ) (m : Bool) → is_watched tables b ≡ true → IsMarked core b m → IsMarked now b m
   mark_alike same b m w h = subst (λ (x : ℕ). marked_word m x ≡ x) (sym (same b w)) h
 
-  module _ (same : (b : ℕ) → watched tables b ≡ true → slice_index now b ≡ slice_index core b) where
+  module _ (same : (b : ℕ) → is_watched tables b ≡ true → slice_index now b ≡ slice_index core b) where
     pub page_alike : (p : Page) (seg page : ℕ) → IsPage core dbr words tables p seg page → IsPage now dbr words tables p seg page
     page_alike p seg page k =
         record {
@@ -84,18 +84,18 @@ get_set_other (x ∷ xs) (suc i) zero v h = refl
 get_set_other (x ∷ xs) (suc i) (suc j) v h = get_set_other xs i j v (λ e. h (ap suc e))
 
 -- a word that is not watched
-pub alike_written : (core words tables : List ℕ) (a v : ℕ) → watched words a ≡ false → watched tables a ≡ false → AreAlike core (slice_set core a v) words tables
+pub alike_written : (core words tables : List ℕ) (a v : ℕ) → is_watched words a ≡ false → is_watched tables a ≡ false → AreAlike core (slice_set core a v) words tables
 alike_written core words tables a v h k =
     record {
       size = length-set core a v;
       word = λ b e. get_set_other core a b v (differs words a b e h);
-      frame = λ b e o. ap (λ x. in_frame (option_map ptw_of x) o) (get_set_other core a b v (differs tables a b e k));
+      frame = λ b e o. ap (λ x. address_in_frame (option_map ptw_of x) o) (get_set_other core a b v (differs tables a b e k));
     }
 
-pub right_written : (core : List ℕ) (dbr : DbrFields) (m : Memories) (a v : ℕ) → watched m.words a ≡ false → watched m.tables a ≡ false → AreRight core dbr m → AreRight (slice_set core a v) dbr m
+pub right_written : (core : List ℕ) (dbr : DbrFields) (m : Memories) (a v : ℕ) → is_watched m.words a ≡ false → is_watched m.tables a ≡ false → AreCoherent core dbr m → AreCoherent (slice_set core a v) dbr m
 right_written core dbr m a v h k r =
     let alike = alike_written core m.words m.tables a v h k in
-    let same = λ (b : ℕ) (e : watched m.tables b ≡ true). get_or-set_other core a b v 0 (differs m.tables a b e k) in
+    let same = λ (b : ℕ) (e : is_watched m.tables b ≡ true). get_or-set_other core a b v 0 (differs m.tables a b e k) in
     record {
       descriptors = λ e seg c n. descriptor_alike core (slice_set core a v) m.words m.tables dbr alike seg e.sdw (r.descriptors e seg c n);
       table_words = λ e b c n. table_word_alike core (slice_set core a v) m.words m.tables dbr alike b e.ptw (r.table_words e b c n);
@@ -139,14 +139,14 @@ same_f u v h =
     let e : u / 4 % 2 ≡ v / 4 % 2 = omega arith in
     ap (λ (n : ℕ). n == 1) e
 
-frame_by : (b : Bool) (p q : PtwFields) (offset : ℕ) → p.addr ≡ q.addr → p.fc ≡ q.fc → in_frame_by b p offset ≡ in_frame_by b q offset
-frame_by true p q offset a c = ap (λ (n : ℕ). Ok (wrapped ((n / 16) * 1024 + offset))) a
+frame_by : (b : Bool) (p q : PtwFields) (offset : ℕ) → p.addr ≡ q.addr → p.fc ≡ q.fc → address_in_frame_by b p offset ≡ address_in_frame_by b q offset
+frame_by true p q offset a c = ap (λ (n : ℕ). Ok (wrapped_address ((n / 16) * 1024 + offset))) a
 frame_by false p q offset a c = cc
 
-frame_marked : (m : Bool) (w offset : ℕ) → in_frame (Some (ptw_of (marked_word m w))) offset ≡ in_frame (Some (ptw_of w)) offset
+frame_marked : (m : Bool) (w offset : ℕ) → address_in_frame (Some (ptw_of (marked_word m w))) offset ≡ address_in_frame (Some (ptw_of w)) offset
 frame_marked m w offset =
     let u = marked_word m w in
-    frame_by (ptw_of u).f (ptw_of u) (ptw_of w) offset (same_addr u w (marked_high m w)) (same_fc u w (marked_low m w)) ∙ ap (λ (b : Bool). in_frame_by b (ptw_of w) offset) (same_f u w (marked_low m w))
+    frame_by (ptw_of u).f (ptw_of u) (ptw_of w) offset (same_addr u w (marked_high m w)) (same_fc u w (marked_low m w)) ∙ ap (λ (b : Bool). address_in_frame_by b (ptw_of w) offset) (same_f u w (marked_low m w))
 
 get_set_same : (xs : List ℕ) (i v x : ℕ) → slice_get xs i ≡ Some x → slice_get (slice_set xs i v) i ≡ Some v
 get_set_same [] i v x h = cc
@@ -167,21 +167,21 @@ module _ (core : List ℕ) (a : ℕ) (m : Bool) (offset : ℕ) where
   abbrev marked : List ℕ
   marked = with_mark core (record { address = a; modified = m })
 
-  frame_here : (found : Option ℕ) → slice_get core a ≡ found → in_frame (ptw_at marked a) offset ≡ in_frame (ptw_at core a) offset
-  frame_here None e = ap (λ (l : List ℕ). in_frame (ptw_at l a) offset) (get_set_past core a (marked_word m (slice_index core a)) e)
+  frame_here : (found : Option ℕ) → slice_get core a ≡ found → address_in_frame (ptw_at marked a) offset ≡ address_in_frame (ptw_at core a) offset
+  frame_here None e = ap (λ (l : List ℕ). address_in_frame (ptw_at l a) offset) (get_set_past core a (marked_word m (slice_index core a)) e)
   frame_here (Some x) e =
       let at : slice_index core a ≡ x = index_of_get core a x e in
       let new : slice_get marked a ≡ Some (marked_word m x) = get_set_same core a (marked_word m (slice_index core a)) x e ∙ ap (λ (n : ℕ). Some (marked_word m n)) at in
-      ap (λ (o : Option ℕ). in_frame (option_map ptw_of o) offset) new ∙ frame_marked m x offset ∙ ap (λ (o : Option ℕ). in_frame (option_map ptw_of o) offset) (sym e)
+      ap (λ (o : Option ℕ). address_in_frame (option_map ptw_of o) offset) new ∙ frame_marked m x offset ∙ ap (λ (o : Option ℕ). address_in_frame (option_map ptw_of o) offset) (sym e)
 
-  frame_at_by : (b : ℕ) (t : Bool) → (b == a) ≡ t → in_frame (ptw_at marked b) offset ≡ in_frame (ptw_at core b) offset
+  frame_at_by : (b : ℕ) (t : Bool) → (b == a) ≡ t → address_in_frame (ptw_at marked b) offset ≡ address_in_frame (ptw_at core b) offset
   frame_at_by b true e =
-      subst (λ (c : ℕ). in_frame (ptw_at marked c) offset ≡ in_frame (ptw_at core c) offset) (sym (eqb-true b a e)) (frame_here (slice_get core a) refl)
+      subst (λ (c : ℕ). address_in_frame (ptw_at marked c) offset ≡ address_in_frame (ptw_at core c) offset) (sym (eqb-true b a e)) (frame_here (slice_get core a) refl)
   frame_at_by b false e =
-      ap (λ (o : Option ℕ). in_frame (option_map ptw_of o) offset) (get_set_other core a b (marked_word m (slice_index core a)) (eqb-false b a e))
+      ap (λ (o : Option ℕ). address_in_frame (option_map ptw_of o) offset) (get_set_other core a b (marked_word m (slice_index core a)) (eqb-false b a e))
 
 -- a mark on a page table word from which no descriptor was read
-pub right_marked : (core : List ℕ) (dbr : DbrFields) (m : Memories) (a : ℕ) (modified : Bool) → watched m.words a ≡ false → ((p : Page) → Contains m.pages p → p.key ≡ 0) → m.fetching.len ≡ 0 → AreRight core dbr m → AreRight (with_mark core (record { address = a; modified = modified })) dbr m
+pub right_marked : (core : List ℕ) (dbr : DbrFields) (m : Memories) (a : ℕ) (modified : Bool) → is_watched m.words a ≡ false → ((p : Page) → Contains m.pages p → p.key ≡ 0) → m.fetching.len ≡ 0 → AreCoherent core dbr m → AreCoherent (with_mark core (record { address = a; modified = modified })) dbr m
 right_marked core dbr m a modified h none z r =
     let now = with_mark core (record { address = a; modified = modified }) in
     let alike : AreAlike core now m.words m.tables = record {

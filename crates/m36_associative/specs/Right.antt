@@ -1,13 +1,13 @@
 -- The invariant of the associative memories: what is kept is what the tables in core say.
 use Rattle.std.specs.Prelude.{ℕ, ◌≡◌, ◌+◌, ◌*◌, ◌/◌, ◌%◌, ◌<◌, ◌≤◌, ◌^◌, Bool, true, false, List}
 use Rattle.std.specs.Prelude.{length, slice_index, Contains, Ok, Some, None}
-use Rattle.m36_desc.specs.Access.{first_of, read_rows, write_rows, fetch_rows, transfer_rows}
+use Rattle.m36_desc.specs.Access.{first_violation, read_rows, write_rows, fetch_rows, transfer_rows}
 use Rattle.m36_desc.specs.Fields.{SdwFields, PtwFields, DbrFields}
-use Rattle.m36_model.specs.Place.{wrapped, in_frame, ptw_at, directory_at, page_at, sdw_place}
+use Rattle.m36_model.specs.Place.{wrapped_address, address_in_frame, ptw_at, directory_at, page_at, sdw_place}
 use Rattle.m36_model.specs.Place.{core_sdw, word_place, word_place_by, marked_word, marks_by}
 use Rattle.m36_model.specs.Place.{with_marks}
-use Rattle.m36_model.specs.Store.{within}
-use Rattle.m36_associative.specs.Watched.{watched}
+use Rattle.m36_model.specs.Store.{is_within_bound}
+use Rattle.m36_associative.specs.Watched.{is_watched}
 use Rattle.m36_associative.specs.declared.front.Fetching.{Fetching}
 use Rattle.m36_associative.specs.declared.front.Page.{Page}
 use Rattle.m36_associative.specs.declared.kept.SdwEntry.{SdwEntry}
@@ -24,19 +24,19 @@ IsMarked core a modified = marked_word modified (slice_index core a) ≡ slice_i
 
 -- By this descriptor, nothing refuses a read in this ring, whatever segment executes.
 abbrev pub MayRead : ℕ → SdwFields → Type 0
-MayRead ring d = (same : Bool) → first_of (read_rows d ring same) ≡ None
+MayRead ring d = (same : Bool) → first_violation (read_rows d ring same) ≡ None
 
 -- nothing refuses a write in this ring
 abbrev pub MayWrite : ℕ → SdwFields → Type 0
-MayWrite ring d = first_of (write_rows d ring) ≡ None
+MayWrite ring d = first_violation (write_rows d ring) ≡ None
 
 -- nothing refuses a fetch in this ring
 abbrev pub MayFetch : ℕ → SdwFields → Type 0
-MayFetch ring d = first_of (fetch_rows d ring) ≡ None
+MayFetch ring d = first_violation (fetch_rows d ring) ≡ None
 
 -- nothing refuses a transfer to the segment in this ring, from the same ring
-abbrev pub MayGo : ℕ → SdwFields → Type 0
-MayGo ring d = first_of (transfer_rows d ring ring) ≡ None
+abbrev pub MayTransferTo : ℕ → SdwFields → Type 0
+MayTransferTo ring d = first_violation (transfer_rows d ring ring) ≡ None
 
 -- What a page in front answers, in a core of this size: the words before its end are within the
 -- bound and in core, and the rings that it names have the rights.
@@ -44,7 +44,7 @@ pub record IsPageRights (size : ℕ) (d : SdwFields) (page : ℕ) (p : Page) : T
   pub small : size ≤ 2 ^ 24
   pub most : p.end ≤ 1024
   pub inside : 0 < p.end → p.base + p.end ≤ size
-  pub bound : (w : ℕ) → w / 1024 ≡ page → w % 1024 < p.end → within d w ≡ true
+  pub bound : (w : ℕ) → w / 1024 ≡ page → w % 1024 < p.end → is_within_bound d w ≡ true
   pub reads : (ring : ℕ) → ring < p.read_below → MayRead ring d
   pub writes : (ring : ℕ) → ring < p.write_below → MayWrite ring d
   pub fetches : (ring : ℕ) → p.r1 ≤ ring → ring < p.fetch_below → MayFetch ring d
@@ -56,9 +56,9 @@ module _ (core : List ℕ) (dbr : DbrFields) (words tables : List ℕ) where
   -- The words through which the descriptor of a segment is found are watched: its own two words
   -- and, in a paged descriptor segment, the PTW.
   pub record IsWatched (seg : ℕ) : Type 0 where
-    pub even : (a : ℕ) → sdw_place core dbr seg ≡ Ok a → watched words a ≡ true
-    pub odd : (a : ℕ) → sdw_place core dbr seg ≡ Ok a → watched words (wrapped (a + 1)) ≡ true
-    pub directory : dbr.unpaged ≡ false → watched tables (directory_at dbr seg) ≡ true
+    pub even : (a : ℕ) → sdw_place core dbr seg ≡ Ok a → is_watched words a ≡ true
+    pub odd : (a : ℕ) → sdw_place core dbr seg ≡ Ok a → is_watched words (wrapped_address (a + 1)) ≡ true
+    pub directory : dbr.unpaged ≡ false → is_watched tables (directory_at dbr seg) ≡ true
 
   -- A descriptor may be kept for this segment: it is the one that core has, and the words through
   -- which it is found are watched.
@@ -70,8 +70,8 @@ module _ (core : List ℕ) (dbr : DbrFields) (words tables : List ℕ) where
   -- marks may differ), and the address is watched.
   pub record IsTableWord (a : ℕ) (p : PtwFields) : Type 0 where
     pub inside : a < length core
-    pub finds : (offset : ℕ) → in_frame (ptw_at core a) offset ≡ in_frame (Some p) offset
-    pub watches : watched tables a ≡ true
+    pub finds : (offset : ℕ) → address_in_frame (ptw_at core a) offset ≡ address_in_frame (Some p) offset
+    pub watches : is_watched tables a ≡ true
 
   -- A page in front: the descriptor of its segment, where its words are in core, that its marks are
   -- set, and what it answers.
@@ -79,12 +79,12 @@ module _ (core : List ℕ) (dbr : DbrFields) (words tables : List ℕ) where
     pub sdw : SdwFields
     pub found : core_sdw core dbr seg ≡ Ok sdw
     pub watches : IsWatched seg
-    pub table : sdw.unpaged ≡ false → watched tables (page_at sdw page) ≡ true
+    pub table : sdw.unpaged ≡ false → is_watched tables (page_at sdw page) ≡ true
     pub low : p.base < 2 ^ 24
     pub place :
         (w : ℕ) → w / 1024 ≡ page
         → word_place_by sdw.unpaged sdw w (ptw_at core (page_at sdw page))
-        ≡ Ok (wrapped (p.base + w % 1024))
+        ≡ Ok (wrapped_address (p.base + w % 1024))
     pub passed : dbr.unpaged ≡ false → IsMarked core (directory_at dbr seg) false
     pub used : sdw.unpaged ≡ false → IsMarked core (page_at sdw page) false
     pub modified :
@@ -109,7 +109,7 @@ module _ (core : List ℕ) (dbr : DbrFields) (words tables : List ℕ) where
 
 -- The memories are coherent with core: each entry, each page in front and the page that is fetched
 -- from is what the tables in core say, and the words on which it depends are watched.
-pub record AreRight (core : List ℕ) (dbr : DbrFields) (m : Memories) : Type 0 where
+pub record AreCoherent (core : List ℕ) (dbr : DbrFields) (m : Memories) : Type 0 where
   pub descriptors :
       (e : SdwEntry) (seg : ℕ) → Contains m.sdws e → e.key ≡ seg + 1
       → IsDescriptor core dbr m.words m.tables seg e.sdw
@@ -127,7 +127,7 @@ pub record Answers (core : List ℕ) (dbr : DbrFields) (Rights : SdwFields → T
   pub sdw : SdwFields
   pub found : core_sdw core dbr seg ≡ Ok sdw
   pub rights : Rights sdw
-  pub bound : within sdw word ≡ true
+  pub bound : is_within_bound sdw word ≡ true
   pub at : word_place core sdw word ≡ Ok place
   pub small : length core ≤ 2 ^ 24
   pub inside : place + count ≤ length core

@@ -4,7 +4,7 @@
 //! then makes the reference by the tables, which also decide why it is refused, if it is.
 
 ghost use Rattle.std.specs.Prelude.{ℕ, ◌≡◌, ◌+◌, ◌/◌, ◌≤◌, ◌%◌, ◌<◌, ◌^◌, true, false, IfSome, IsTrue};
-ghost use Rattle.m36_associative.specs.Right.{AreRight, IsPage, Answers, MayRead, MayWrite, MayFetch, MayGo};
+ghost use Rattle.m36_associative.specs.Right.{AreCoherent, IsPage, Answers, MayRead, MayWrite, MayFetch, MayTransferTo};
 
 use crate::front::{Page, key_of, slot_of};
 use crate::memories::Memories;
@@ -25,7 +25,7 @@ fn page_with<'a>(
     requires seg { seg < 2 ^ 15 }
     requires word { word < 2 ^ 18 }
     requires count { count ≤ 16 }
-    requires right { AreRight _core.now _dbr memories.now }
+    requires right { AreCoherent _core.now _dbr memories.now }
     ensures page { IfSome result (λ p. IsPage _core.now _dbr memories.now.words
         memories.now.tables p.now seg (word / 1024)) }
     ensures end { IfSome result (λ p. word % 1024 + count ≤ p.now.end) }
@@ -64,11 +64,11 @@ pub fn place_to_read(
     requires word { word < 2 ^ 18 }
     requires some { 1 ≤ count }
     requires few { count ≤ 16 }
-    requires right { AreRight core.now dbr memories.old }
+    requires right { AreCoherent core.now dbr memories.old }
     ensures found { IfSome result (λ r. Answers core.now dbr
         (λ d. MayRead ring d × (r.1 ≡ d.r1)) false seg word count r.0) }
     ensures bound { IfSome result (λ r. r.1 < 2 ^ 3) }
-    ensures right { AreRight core.now dbr memories.new }
+    ensures right { AreCoherent core.now dbr memories.new }
 {
     let page = page_with(core, dbr, memories, seg, word, count)?;
     if ring >= page.read_below {
@@ -95,10 +95,10 @@ pub fn place_to_write(
     requires word { word < 2 ^ 18 }
     requires some { 1 ≤ count }
     requires few { count ≤ 16 }
-    requires right { AreRight core.now dbr memories.old }
+    requires right { AreCoherent core.now dbr memories.old }
     ensures found { IfSome result (λ a. Answers core.now dbr (MayWrite ring) true seg word
         count a) }
-    ensures right { AreRight core.now dbr memories.new }
+    ensures right { AreCoherent core.now dbr memories.new }
 {
     let page = page_with(core, dbr, memories, seg, word, count)?;
     if ring >= page.write_below {
@@ -121,10 +121,10 @@ pub fn place_to_change(
 ) -> Option<u32>
     requires seg { seg < 2 ^ 15 }
     requires word { word < 2 ^ 18 }
-    requires right { AreRight core.now dbr memories.old }
+    requires right { AreCoherent core.now dbr memories.old }
     ensures read { IfSome result (λ a. Answers core.now dbr (MayRead ring) false seg word 1 a) }
     ensures write { IfSome result (λ a. Answers core.now dbr (MayWrite ring) true seg word 1 a) }
-    ensures right { AreRight core.now dbr memories.new }
+    ensures right { AreCoherent core.now dbr memories.new }
 {
     let page = page_with(core, dbr, memories, seg, word, 1)?;
     if ring >= page.read_below {
@@ -149,7 +149,7 @@ fn fetches(page: &Page, ring: u8) -> bool
 /// The core address of a word that is fetched in a ring, if it is in the page that is fetched from;
 /// and whether its segment may execute privileged instructions.
 #[inline(always)]
-fn fetched(
+fn find_in_fetching_page(
     _core: &Core,
     _dbr: Dbr,
     memories: &Memories,
@@ -158,7 +158,7 @@ fn fetched(
     word: u32,
 ) -> Option<(u32, bool)>
     requires word { word < 2 ^ 18 }
-    requires right { AreRight _core.now _dbr memories.now }
+    requires right { AreCoherent _core.now _dbr memories.now }
     ensures { IfSome result (λ r. Answers _core.now _dbr
         (λ d. MayFetch ring d × (r.1 ≡ d.privileged)) false seg word 1 r.0) }
 {
@@ -188,12 +188,12 @@ pub fn place_to_fetch(
     word: u32,
 ) -> Option<(u32, bool)>
     requires word { word < 2 ^ 18 }
-    requires right { AreRight core.now dbr memories.old }
+    requires right { AreCoherent core.now dbr memories.old }
     ensures found { IfSome result (λ r. Answers core.now dbr
         (λ d. MayFetch ring d × (r.1 ≡ d.privileged)) false seg word 1 r.0) }
-    ensures right { AreRight core.now dbr memories.new }
+    ensures right { AreCoherent core.now dbr memories.new }
 {
-    let found = fetched(core, dbr, memories, seg, ring, word)?;
+    let found = find_in_fetching_page(core, dbr, memories, seg, ring, word)?;
     memories.touch_fetching();
     Some(found)
 }
@@ -210,10 +210,10 @@ pub fn place_to_fetch_elsewhere(
 ) -> Option<(u32, bool)>
     requires seg { seg < 2 ^ 15 }
     requires word { word < 2 ^ 18 }
-    requires right { AreRight core.now dbr memories.old }
+    requires right { AreCoherent core.now dbr memories.old }
     ensures found { IfSome result (λ r. Answers core.now dbr
         (λ d. MayFetch ring d × (r.1 ≡ d.privileged)) false seg word 1 r.0) }
-    ensures right { AreRight core.now dbr memories.new }
+    ensures right { AreCoherent core.now dbr memories.new }
 {
     let page = *page_with(core, dbr, memories, seg, word, 1)?;
     if !fetches(&page, ring) {
@@ -227,13 +227,13 @@ pub fn place_to_fetch_elsewhere(
 /// Whether a transfer in a ring, from the same ring, may go to a word of a page in front. This does
 /// not count as a use of the page.
 #[inline(always)]
-pub fn goes_to(core: &Core, dbr: Dbr, memories: &Memories, seg: u16, ring: u8, word: u32) -> bool
+pub fn may_transfer_to(core: &Core, dbr: Dbr, memories: &Memories, seg: u16, ring: u8, word: u32) -> bool
     requires seg { seg < 2 ^ 15 }
     requires word { word < 2 ^ 18 }
-    requires right { AreRight core.now dbr memories.now }
-    ensures { IsTrue result → (a : ℕ) × Answers core.now dbr (MayGo ring) false seg word 1 a }
+    requires right { AreCoherent core.now dbr memories.now }
+    ensures { IsTrue result → (a : ℕ) × Answers core.now dbr (MayTransferTo ring) false seg word 1 a }
 {
-    if let Some(_found) = fetched(core, dbr, memories, seg, ring, word) {
+    if let Some(_found) = find_in_fetching_page(core, dbr, memories, seg, ring, word) {
         return true;
     }
     match page_with(core, dbr, memories, seg, word, 1) {

@@ -5,7 +5,7 @@
 //! least recently. In front of both memories are 16 pages. A page has its address in core and what
 //! the descriptor of its segment allows.
 //!
-//! The invariant `AreRight` says that everything kept is what the tables in core say; for a page
+//! The invariant `AreCoherent` says that everything kept is what the tables in core say; for a page
 //! table word, everything except its marks. Each call here preserves it. So the memories affect
 //! only the time that a reference takes:
 //!
@@ -41,7 +41,7 @@ mod watched_words;
 pub mod writing;
 
 pub use answering::{
-    goes_to, place_to_change, place_to_fetch, place_to_fetch_elsewhere, place_to_read,
+    may_transfer_to, place_to_change, place_to_fetch, place_to_fetch_elsewhere, place_to_read,
     place_to_write,
 };
 pub use memories::Memories;

@@ -2,7 +2,7 @@
 
 ghost use Rattle.std.specs.Prelude.{ℕ, ◌≡◌, ◌+◌, ◌/◌, ◌<◌, ◌≤◌, ◌^◌, List, Contains};
 ghost use Rattle.m36_desc.specs.Fields.{DbrFields};
-ghost use Rattle.m36_associative.specs.Right.{AreRight, IsPage, IsPageInFront, IsDescriptor, IsTableWord};
+ghost use Rattle.m36_associative.specs.Right.{AreCoherent, IsPage, IsPageInFront, IsDescriptor, IsTableWord};
 ghost use Rattle.m36_associative.specs.declared.front.Page.{Page};
 
 use crate::front::{Fetching, PAGES, Page, no_fetching, no_page, no_pages, slot_of};
@@ -33,7 +33,7 @@ pub struct Memories {
 impl Memories {
     /// Empty memories.
     pub fn new() -> Memories
-        ensures { (core : List ℕ) (dbr : DbrFields) → AreRight core dbr result }
+        ensures { (core : List ℕ) (dbr : DbrFields) → AreCoherent core dbr result }
     {
         Memories {
             pages: no_pages(),
@@ -48,14 +48,14 @@ impl Memories {
 
     /// Empties the front.
     pub(crate) fn clear_front(&mut self)
-        ensures right { (core : List ℕ) (dbr : DbrFields) → AreRight core dbr self.old
-            → AreRight core dbr self.new }
+        ensures right { (core : List ℕ) (dbr : DbrFields) → AreCoherent core dbr self.old
+            → AreCoherent core dbr self.new }
         ensures front { (p : Page) → Contains self.new.pages p → p.key ≡ 0 }
         ensures fetching { self.new.fetching.len ≡ 0 }
         ensures words { self.new.words ≡ self.old.words }
     {
         self.uses.note_fetch(&self.fetching);
-        self.uses.leave_all();
+        self.uses.remove_all_from_front();
         let front = no_pages();
         self.pages = front;
         self.fetching = no_fetching();
@@ -65,7 +65,7 @@ impl Memories {
     #[cold]
     #[inline(never)]
     pub fn forget(&mut self)
-        ensures { (core : List ℕ) (dbr : DbrFields) → AreRight core dbr self.new }
+        ensures { (core : List ℕ) (dbr : DbrFields) → AreCoherent core dbr self.new }
     {
         let front = no_pages();
         self.pages = front;
@@ -83,8 +83,8 @@ impl Memories {
     #[inline(always)]
     pub(crate) fn touch(&mut self, i: usize)
         requires { i < 16 }
-        ensures { (core : List ℕ) (dbr : DbrFields) → AreRight core dbr self.old
-            → AreRight core dbr self.new }
+        ensures { (core : List ℕ) (dbr : DbrFields) → AreCoherent core dbr self.old
+            → AreCoherent core dbr self.new }
     {
         self.uses.touch_page(i);
     }
@@ -92,8 +92,8 @@ impl Memories {
     /// Records a use of the page that is fetched from.
     #[inline(always)]
     pub(crate) fn touch_fetching(&mut self)
-        ensures { (core : List ℕ) (dbr : DbrFields) → AreRight core dbr self.old
-            → AreRight core dbr self.new }
+        ensures { (core : List ℕ) (dbr : DbrFields) → AreCoherent core dbr self.old
+            → AreCoherent core dbr self.new }
     {
         self.fetching.hit = self.uses.clock;
     }
@@ -101,8 +101,8 @@ impl Memories {
     /// Records a use of a kept descriptor.
     pub(crate) fn touch_sdw(&mut self, e: usize)
         requires { e < 16 }
-        ensures { (core : List ℕ) (dbr : DbrFields) → AreRight core dbr self.old
-            → AreRight core dbr self.new }
+        ensures { (core : List ℕ) (dbr : DbrFields) → AreCoherent core dbr self.old
+            → AreCoherent core dbr self.new }
     {
         self.uses.touch_sdw(e);
     }
@@ -110,8 +110,8 @@ impl Memories {
     /// Records a use of a kept page table word.
     pub(crate) fn touch_ptw(&mut self, e: usize)
         requires { e < 16 }
-        ensures { (core : List ℕ) (dbr : DbrFields) → AreRight core dbr self.old
-            → AreRight core dbr self.new }
+        ensures { (core : List ℕ) (dbr : DbrFields) → AreCoherent core dbr self.old
+            → AreCoherent core dbr self.new }
     {
         self.uses.touch_ptw(e);
     }
@@ -122,9 +122,9 @@ impl Memories {
         requires word { word < 2 ^ 18 }
         requires above { page.now.r1 ≤ ring }
         requires below { ring < page.now.fetch_below }
-        ensures { (core : List ℕ) (dbr : DbrFields) → AreRight core dbr self.old
+        ensures { (core : List ℕ) (dbr : DbrFields) → AreCoherent core dbr self.old
             → IsPage core dbr self.old.words self.old.tables page.now seg (word / 1024)
-            → AreRight core dbr self.new }
+            → AreCoherent core dbr self.new }
     {
         self.uses.note_fetch(&self.fetching);
         self.uses.clock = self.uses.clock.wrapping_add(2);
@@ -143,9 +143,9 @@ impl Memories {
     /// Puts a page in front, in place of another. No page is fetched from until the next fetch.
     pub(crate) fn put_in_front(&mut self, i: usize, page: Page)
         requires { i < 16 }
-        ensures { (core : List ℕ) (dbr : DbrFields) → AreRight core dbr self.old
+        ensures { (core : List ℕ) (dbr : DbrFields) → AreCoherent core dbr self.old
             → IsPageInFront core dbr self.old.words self.old.tables page
-            → AreRight core dbr self.new }
+            → AreCoherent core dbr self.new }
     {
         self.uses.note_fetch(&self.fetching);
         self.uses.leave(i);
@@ -156,8 +156,8 @@ impl Memories {
     /// Records that the page at place `i` in front was found by the entries that were used last.
     pub(crate) fn note_entries(&mut self, i: usize, paged: bool)
         requires { i < 16 }
-        ensures { (core : List ℕ) (dbr : DbrFields) → AreRight core dbr self.old
-            → AreRight core dbr self.new }
+        ensures { (core : List ℕ) (dbr : DbrFields) → AreCoherent core dbr self.old
+            → AreCoherent core dbr self.new }
     {
         self.uses.enter(i, paged);
     }
@@ -165,17 +165,17 @@ impl Memories {
     /// Removes a page from the front.
     fn leave(&mut self, i: usize)
         requires { i < 16 }
-        ensures { (core : List ℕ) (dbr : DbrFields) → AreRight core dbr self.old
-            → AreRight core dbr self.new }
+        ensures { (core : List ℕ) (dbr : DbrFields) → AreCoherent core dbr self.old
+            → AreCoherent core dbr self.new }
     {
         let page = no_page();
         self.put_in_front(i, page);
     }
 
     /// Removes the pages at these places, one bit each, from the front.
-    pub(crate) fn leave_places(&mut self, places: u16)
-        ensures { (core : List ℕ) (dbr : DbrFields) → AreRight core dbr self.old
-            → AreRight core dbr self.new }
+    pub(crate) fn remove_places_from_front(&mut self, places: u16)
+        ensures { (core : List ℕ) (dbr : DbrFields) → AreCoherent core dbr self.old
+            → AreCoherent core dbr self.new }
     {
         let mut left = places;
         for _ in 0..PAGES {
@@ -192,35 +192,35 @@ impl Memories {
     /// front.
     pub(crate) fn place_for_sdw(&mut self) -> usize
         ensures place { result < 16 }
-        ensures right { (core : List ℕ) (dbr : DbrFields) → AreRight core dbr self.old
-            → AreRight core dbr self.new }
+        ensures right { (core : List ℕ) (dbr : DbrFields) → AreCoherent core dbr self.old
+            → AreCoherent core dbr self.new }
     {
         self.uses.note_fetch(&self.fetching);
-        let e = self.uses.oldest_sdw();
-        let places = self.uses.fronts_of_sdw(e);
-        self.leave_places(places);
+        let e = self.uses.least_recent_sdw();
+        let places = self.uses.front_places_of_sdw(e);
+        self.remove_places_from_front(places);
         e
     }
 
     /// As `place_for_sdw`, for a page table word.
     pub(crate) fn place_for_ptw(&mut self) -> usize
         ensures place { result < 16 }
-        ensures right { (core : List ℕ) (dbr : DbrFields) → AreRight core dbr self.old
-            → AreRight core dbr self.new }
+        ensures right { (core : List ℕ) (dbr : DbrFields) → AreCoherent core dbr self.old
+            → AreCoherent core dbr self.new }
     {
         self.uses.note_fetch(&self.fetching);
-        let e = self.uses.oldest_ptw();
-        let places = self.uses.fronts_of_ptw(e);
-        self.leave_places(places);
+        let e = self.uses.least_recent_ptw();
+        let places = self.uses.front_places_of_ptw(e);
+        self.remove_places_from_front(places);
         e
     }
 
     /// Keeps a descriptor in entry `e`, as the one used last.
     pub(crate) fn put_sdw(&mut self, e: usize, seg: u16, sdw: &Sdw)
         requires { e < 16 }
-        ensures { (core : List ℕ) (dbr : DbrFields) → AreRight core dbr self.old
+        ensures { (core : List ℕ) (dbr : DbrFields) → AreCoherent core dbr self.old
             → IsDescriptor core dbr self.old.words self.old.tables seg sdw.now
-            → AreRight core dbr self.new }
+            → AreCoherent core dbr self.new }
     {
         self.sdws[e] = SdwEntry {
             key: seg as u32 + 1,
@@ -233,9 +233,9 @@ impl Memories {
     pub(crate) fn put_ptw(&mut self, e: usize, a: u32, ptw: &Ptw)
         requires place { e < 16 }
         requires address { a < 2 ^ 24 }
-        ensures { (core : List ℕ) (dbr : DbrFields) → AreRight core dbr self.old
+        ensures { (core : List ℕ) (dbr : DbrFields) → AreCoherent core dbr self.old
             → IsTableWord core dbr self.old.words self.old.tables a ptw.now
-            → AreRight core dbr self.new }
+            → AreCoherent core dbr self.new }
     {
         self.ptws[e] = PtwEntry {
             key: a + 1,
@@ -246,24 +246,24 @@ impl Memories {
 
     /// The segment number of the kept descriptor with this rank in the order of use: 0 for the one
     /// that was used last. None if fewer are kept.
-    pub fn segment_by_use(&mut self, rank: usize) -> Option<u16>
-        ensures { (core : List ℕ) (dbr : DbrFields) → AreRight core dbr self.old
-            → AreRight core dbr self.new }
+    pub fn segment_of_rank(&mut self, rank: usize) -> Option<u16>
+        ensures { (core : List ℕ) (dbr : DbrFields) → AreCoherent core dbr self.old
+            → AreCoherent core dbr self.new }
     {
         self.uses.note_fetch(&self.fetching);
-        let e = self.uses.sdw_by_use(rank)?;
+        let e = self.uses.sdw_of_rank(rank)?;
         let key = self.sdws[e].key;
         Some((key.saturating_sub(1) % 32768) as u16)
     }
 
     /// The core address of the kept page table word with this rank in the order of use, as in
-    /// `segment_by_use`.
-    pub fn table_word_by_use(&mut self, rank: usize) -> Option<u32>
-        ensures { (core : List ℕ) (dbr : DbrFields) → AreRight core dbr self.old
-            → AreRight core dbr self.new }
+    /// `segment_of_rank`.
+    pub fn table_word_of_rank(&mut self, rank: usize) -> Option<u32>
+        ensures { (core : List ℕ) (dbr : DbrFields) → AreCoherent core dbr self.old
+            → AreCoherent core dbr self.new }
     {
         self.uses.note_fetch(&self.fetching);
-        let e = self.uses.ptw_by_use(rank)?;
+        let e = self.uses.ptw_of_rank(rank)?;
         Some(self.ptws[e].key.saturating_sub(1))
     }
 }

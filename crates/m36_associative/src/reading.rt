@@ -2,10 +2,10 @@
 
 ghost use Rattle.std.specs.Prelude.{ℕ, ◌≡◌, ◌+◌, ◌/◌, ◌%◌, ◌<◌, ◌^◌, List, Some, Ok, true, false, IfOk, IfSome, OnOk, OnSome, IsTrue, length};
 ghost use Rattle.m36_desc.specs.Fields.{DbrFields};
-ghost use Rattle.m36_model.specs.Place.{wrapped, in_frame, ptw_at, directory_at, page_at, sdw_place, core_sdw, word_place, marks_by, with_marks};
-ghost use Rattle.m36_tables.specs.Tables.{TableIn};
-ghost use Rattle.m36_associative.specs.Right.{AreRight, IsWatched, IsDescriptor, IsTableWord, IsPage, IsMarked, page_key};
-ghost use Rattle.m36_associative.specs.Watched.{watched};
+ghost use Rattle.m36_model.specs.Place.{wrapped_address, address_in_frame, ptw_at, directory_at, page_at, sdw_place, core_sdw, word_place, marks_by, with_marks};
+ghost use Rattle.m36_tables.specs.Tables.{TableWordIsInCore};
+ghost use Rattle.m36_associative.specs.Right.{AreCoherent, IsWatched, IsDescriptor, IsTableWord, IsPage, IsMarked, page_key};
+ghost use Rattle.m36_associative.specs.Watched.{is_watched};
 
 use crate::front::{Page, slot_of};
 use crate::kept::ENTRIES;
@@ -16,13 +16,13 @@ use crate::writing::with_mark;
 use m36_core::Core;
 use m36_desc::{Dbr, Ptw, Sdw};
 use m36_model::Refusal;
-use m36_tables::{directory_at, in_frame, page_at, page_table_word, wrapped};
+use m36_tables::{directory_at, address_in_frame, page_at, page_table_word, wrapped_address};
 
 /// The descriptor of a segment, if entry `e` has it.
 #[inline(always)]
 fn sdw_of_entry(_core: &Core, _dbr: Dbr, memories: &Memories, e: usize, seg: u16) -> Option<Sdw>
     requires entry { e < 16 }
-    requires right { AreRight _core.now _dbr memories.now }
+    requires right { AreCoherent _core.now _dbr memories.now }
     ensures { IfSome result (λ d. IsDescriptor _core.now _dbr memories.now.words
         memories.now.tables seg d) }
 {
@@ -35,7 +35,7 @@ fn sdw_of_entry(_core: &Core, _dbr: Dbr, memories: &Memories, e: usize, seg: u16
 
 /// The kept descriptor of a segment, with its entry. The entry that was found last is tried first.
 fn kept_sdw(core: &Core, dbr: Dbr, memories: &Memories, seg: u16) -> Option<(usize, Sdw)>
-    requires { AreRight core.now dbr memories.now }
+    requires { AreCoherent core.now dbr memories.now }
     ensures entry { IfSome result (λ r. r.0 < 16) }
     ensures kept { IfSome result (λ r. IsDescriptor core.now dbr memories.now.words
         memories.now.tables seg r.1) }
@@ -57,7 +57,7 @@ fn kept_sdw(core: &Core, dbr: Dbr, memories: &Memories, seg: u16) -> Option<(usi
 fn ptw_of_entry(_core: &Core, _dbr: Dbr, memories: &Memories, e: usize, a: u32) -> Option<Ptw>
     requires entry { e < 16 }
     requires address { a < 2 ^ 24 }
-    requires right { AreRight _core.now _dbr memories.now }
+    requires right { AreCoherent _core.now _dbr memories.now }
     ensures { IfSome result (λ p. IsTableWord _core.now _dbr memories.now.words
         memories.now.tables a p) }
 {
@@ -72,7 +72,7 @@ fn ptw_of_entry(_core: &Core, _dbr: Dbr, memories: &Memories, e: usize, a: u32) 
 /// first.
 fn kept_ptw(core: &Core, dbr: Dbr, memories: &Memories, a: u32) -> Option<(usize, Ptw)>
     requires address { a < 2 ^ 24 }
-    requires right { AreRight core.now dbr memories.now }
+    requires right { AreCoherent core.now dbr memories.now }
     ensures entry { IfSome result (λ r. r.0 < 16) }
     ensures kept { IfSome result (λ r. IsTableWord core.now dbr memories.now.words
         memories.now.tables a r.1) }
@@ -92,11 +92,11 @@ fn kept_ptw(core: &Core, dbr: Dbr, memories: &Memories, a: u32) -> Option<(usize
 /// The descriptor of a segment if it is kept, without a look at core. It becomes the one that was
 /// used last.
 fn recalled_descriptor(_core: &Core, _dbr: Dbr, memories: &mut Memories, seg: u16) -> Option<Sdw>
-    requires { AreRight _core.now _dbr memories.old }
+    requires { AreCoherent _core.now _dbr memories.old }
     ensures found { IfSome result (λ d. core_sdw _core.now _dbr seg ≡ Ok d) }
-    ensures passes { OnSome result (TableIn (length _core.now) _dbr.unpaged
+    ensures passes { OnSome result (TableWordIsInCore (length _core.now) _dbr.unpaged
         (directory_at _dbr seg)) }
-    ensures right { AreRight _core.now _dbr memories.new }
+    ensures right { AreCoherent _core.now _dbr memories.new }
 {
     let (e, sdw) = kept_sdw(_core, _dbr, memories, seg)?;
     memories.touch_sdw(e);
@@ -109,10 +109,10 @@ fn watch_descriptor(_core: &Core, dbr: Dbr, memories: &mut Memories, seg: u16, e
     requires seg { seg < 2 ^ 15 }
     requires place { even < 2 ^ 24 }
     requires even { sdw_place _core.now dbr seg ≡ Ok even }
-    requires right { AreRight _core.now dbr memories.old }
+    requires right { AreCoherent _core.now dbr memories.old }
     ensures watches { IsTrue result → IsWatched _core.now dbr memories.new.words
         memories.new.tables seg }
-    ensures right { AreRight _core.now dbr memories.new }
+    ensures right { AreCoherent _core.now dbr memories.new }
 {
     watch_words(
         _core,
@@ -129,8 +129,8 @@ fn put_descriptor(_core: &Core, _dbr: Dbr, memories: &mut Memories, e: usize, se
     requires place { e < 16 }
     requires found { core_sdw _core.now _dbr seg ≡ Ok sdw.now }
     requires watches { IsWatched _core.now _dbr memories.old.words memories.old.tables seg }
-    requires right { AreRight _core.now _dbr memories.old }
-    ensures { AreRight _core.now _dbr memories.new }
+    requires right { AreCoherent _core.now _dbr memories.old }
+    ensures { AreCoherent _core.now _dbr memories.new }
 {
     memories.put_sdw(e, seg, sdw);
 }
@@ -142,8 +142,8 @@ fn keep_descriptor(core: &Core, dbr: Dbr, memories: &mut Memories, seg: u16, eve
     requires place { even < 2 ^ 24 }
     requires even { sdw_place core.now dbr seg ≡ Ok even }
     requires found { core_sdw core.now dbr seg ≡ Ok sdw.now }
-    requires right { AreRight core.now dbr memories.old }
-    ensures { AreRight core.now dbr memories.new }
+    requires right { AreCoherent core.now dbr memories.old }
+    ensures { AreCoherent core.now dbr memories.new }
 {
     let e = memories.place_for_sdw();
     if !watch_descriptor(core, dbr, memories, seg, even) {
@@ -160,10 +160,10 @@ fn keep_descriptor(core: &Core, dbr: Dbr, memories: &mut Memories, seg: u16, eve
 #[tactic(auto, unfolding(m36_model::specs::Place::core_sdw))]
 pub fn descriptor(core: &Core, dbr: Dbr, memories: &mut Memories, seg: u16) -> Result<Sdw, Refusal>
     requires seg { seg < 2 ^ 15 }
-    requires right { AreRight core.now dbr memories.old }
+    requires right { AreCoherent core.now dbr memories.old }
     ensures value { result ≡ core_sdw core.now dbr seg }
-    ensures directory { OnOk result (TableIn (length core.now) dbr.unpaged (directory_at dbr seg)) }
-    ensures right { AreRight core.now dbr memories.new }
+    ensures directory { OnOk result (TableWordIsInCore (length core.now) dbr.unpaged (directory_at dbr seg)) }
+    ensures right { AreCoherent core.now dbr memories.new }
 {
     if let Some(sdw) = recalled_descriptor(core, dbr, memories, seg) {
         return Ok(sdw);
@@ -178,11 +178,11 @@ pub fn descriptor(core: &Core, dbr: Dbr, memories: &mut Memories, seg: u16) -> R
 /// was used last.
 fn recalled_table_word(_core: &Core, _dbr: Dbr, memories: &mut Memories, a: u32) -> Option<Ptw>
     requires address { a < 2 ^ 24 }
-    requires right { AreRight _core.now _dbr memories.old }
-    ensures finds { IfSome result (λ p. (offset : ℕ) → in_frame (ptw_at _core.now a) offset
-        ≡ in_frame (Some p) offset) }
+    requires right { AreCoherent _core.now _dbr memories.old }
+    ensures finds { IfSome result (λ p. (offset : ℕ) → address_in_frame (ptw_at _core.now a) offset
+        ≡ address_in_frame (Some p) offset) }
     ensures inside { OnSome result (a < length _core.now) }
-    ensures right { AreRight _core.now _dbr memories.new }
+    ensures right { AreCoherent _core.now _dbr memories.new }
 {
     let (e, ptw) = kept_ptw(_core, _dbr, memories, a)?;
     memories.touch_ptw(e);
@@ -191,9 +191,9 @@ fn recalled_table_word(_core: &Core, _dbr: Dbr, memories: &mut Memories, a: u32)
 
 /// Watches a page table word. Returns false if there is no room.
 fn watch_table_word(_core: &Core, _dbr: Dbr, memories: &mut Memories, a: u32) -> bool
-    requires { AreRight _core.now _dbr memories.old }
-    ensures watches { IsTrue result → watched memories.new.tables a ≡ true }
-    ensures right { AreRight _core.now _dbr memories.new }
+    requires { AreCoherent _core.now _dbr memories.old }
+    ensures watches { IsTrue result → is_watched memories.new.tables a ≡ true }
+    ensures right { AreCoherent _core.now _dbr memories.new }
 {
     memories.tables.add(a)
 }
@@ -204,9 +204,9 @@ fn put_table_word(_core: &Core, _dbr: Dbr, memories: &mut Memories, e: usize, a:
     requires found { ptw_at _core.now a ≡ Some ptw.now }
     requires inside { a < length _core.now }
     requires address { a < 2 ^ 24 }
-    requires watches { watched memories.old.tables a ≡ true }
-    requires right { AreRight _core.now _dbr memories.old }
-    ensures { AreRight _core.now _dbr memories.new }
+    requires watches { is_watched memories.old.tables a ≡ true }
+    requires right { AreCoherent _core.now _dbr memories.old }
+    ensures { AreCoherent _core.now _dbr memories.new }
 {
     memories.put_ptw(e, a, ptw);
 }
@@ -214,8 +214,8 @@ fn put_table_word(_core: &Core, _dbr: Dbr, memories: &mut Memories, e: usize, a:
 /// Keeps the page table word at an address. It is not kept if there is no room to watch it.
 fn keep_table_word(core: &Core, dbr: Dbr, memories: &mut Memories, a: u32)
     requires address { a < 2 ^ 24 }
-    requires right { AreRight core.now dbr memories.old }
-    ensures { AreRight core.now dbr memories.new }
+    requires right { AreCoherent core.now dbr memories.old }
+    ensures { AreCoherent core.now dbr memories.new }
 {
     let ptw = match page_table_word(core, a) {
         Some(ptw) => ptw,
@@ -242,19 +242,19 @@ pub fn word_place(
     word: u32,
 ) -> Result<u32, Refusal>
     requires word { word < 2 ^ 18 }
-    requires right { AreRight core.now dbr memories.old }
+    requires right { AreCoherent core.now dbr memories.old }
     ensures value { result ≡ word_place core.now sdw.now word }
-    ensures page { OnOk result (TableIn (length core.now) sdw.now.unpaged
+    ensures page { OnOk result (TableWordIsInCore (length core.now) sdw.now.unpaged
         (page_at sdw.now (word / 1024))) }
     ensures bound { IfOk result (λ a. a < 2 ^ 24) }
-    ensures right { AreRight core.now dbr memories.new }
+    ensures right { AreCoherent core.now dbr memories.new }
 {
     if sdw.unpaged {
-        return Ok(wrapped(sdw.addr + word));
+        return Ok(wrapped_address(sdw.addr + word));
     }
     let a = page_at(sdw, word / 1024);
     if let Some(ptw) = recalled_table_word(core, dbr, memories, a) {
-        return in_frame(Some(ptw), word % 1024);
+        return address_in_frame(Some(ptw), word % 1024);
     }
     let place = m36_tables::word_place(core, sdw, word)?;
     keep_table_word(core, dbr, memories, a);
@@ -274,7 +274,7 @@ fn is_marked(core: &Core, a: u32, modified: bool) -> bool
 
 /// Whether the page table word through which the descriptor of a segment is found, if there is one,
 /// is marked as used.
-fn is_passed(core: &Core, dbr: Dbr, seg: u16) -> bool
+fn is_directory_marked(core: &Core, dbr: Dbr, seg: u16) -> bool
     requires { seg < 2 ^ 15 }
     ensures { IsTrue result → dbr.unpaged ≡ false
         → IsMarked core.now (directory_at dbr seg) false }
@@ -296,17 +296,17 @@ fn found_page(
 ) -> Option<(Page, bool)>
     requires seg { seg < 2 ^ 15 }
     requires word { word < 2 ^ 18 }
-    requires right { AreRight core.now dbr memories.now }
+    requires right { AreCoherent core.now dbr memories.now }
     ensures page { IfSome result (λ r. IsPage core.now dbr memories.now.words memories.now.tables
         r.0 seg (word / 1024)) }
     ensures key { IfSome result (λ r. r.0.key ≡ page_key seg (word / 1024)) }
 {
     let (_entry, sdw) = kept_sdw(core, dbr, memories, seg)?;
-    if !is_passed(core, dbr, seg) {
+    if !is_directory_marked(core, dbr, seg) {
         return None;
     }
     if sdw.unpaged {
-        let base = wrapped(sdw.addr + word / 1024 * 1024);
+        let base = wrapped_address(sdw.addr + word / 1024 * 1024);
         return Some((page_of(core, &sdw, seg, word, base, true), false));
     }
     let a = page_at(&sdw, word / 1024);
@@ -317,7 +317,7 @@ fn found_page(
     if !is_marked(core, a, false) {
         return None;
     }
-    let base = wrapped(ptw.addr / 16 * 1024);
+    let base = wrapped_address(ptw.addr / 16 * 1024);
     let modified = is_marked(core, a, true);
     Some((page_of(core, &sdw, seg, word, base, modified), true))
 }
@@ -327,8 +327,8 @@ fn found_page(
 pub fn enter(core: &Core, dbr: Dbr, memories: &mut Memories, seg: u16, word: u32)
     requires seg { seg < 2 ^ 15 }
     requires word { word < 2 ^ 18 }
-    requires right { AreRight core.now dbr memories.old }
-    ensures { AreRight core.now dbr memories.new }
+    requires right { AreCoherent core.now dbr memories.old }
+    ensures { AreCoherent core.now dbr memories.new }
 {
     if let Some((page, paged)) = found_page(core, dbr, memories, seg, word) {
         memories.put_in_front(slot_of(seg, word), page);

@@ -99,7 +99,7 @@ impl Entries {
 
     /// Sets the time of an entry to that of the latest use of it or of its pages in front. Returns
     /// whether a page was used later than the entry itself.
-    fn learns(&mut self, e: usize, pages: &[u64; 16]) -> bool
+    fn update_entry_time(&mut self, e: usize, pages: &[u64; 16]) -> bool
         requires { e < 16 }
     {
         let before = self.times[e];
@@ -119,12 +119,12 @@ impl Entries {
     }
 
     /// The entry that was used least recently, or an empty one.
-    fn oldest(&mut self, pages: &[u64; 16]) -> usize
+    fn least_recent(&mut self, pages: &[u64; 16]) -> usize
         ensures { result < 16 }
     {
         for _ in 0..ENTRIES {
             let e = least(&self.times);
-            if !self.learns(e, pages) {
+            if !self.update_entry_time(e, pages) {
                 return e;
             }
         }
@@ -134,9 +134,9 @@ impl Entries {
 
 impl Entries {
     /// Sets the time of each entry to that of the latest use of it or of its pages in front.
-    fn update_time(&mut self, pages: &[u64; 16]) {
+    fn update_all_times(&mut self, pages: &[u64; 16]) {
         for e in 0..ENTRIES {
-            let _ = self.learns(e, pages);
+            let _ = self.update_entry_time(e, pages);
         }
     }
 
@@ -155,8 +155,8 @@ impl Entries {
     }
 
     /// The entry with this rank in the order of use: 0 for the one that was used last. None if
-    /// fewer entries are filled. The times have to be up to date (`update_time`).
-    fn by_use(&self, rank: usize) -> Option<usize>
+    /// fewer entries are filled. The times have to be up to date (`update_all_times`).
+    fn entry_of_rank(&self, rank: usize) -> Option<usize>
         ensures { IfSome result (λ e. e < 16) }
     {
         for e in 0..ENTRIES {
@@ -235,7 +235,7 @@ impl Uses {
     }
 
     /// Records that all pages leave the front.
-    pub(crate) fn leave_all(&mut self) {
+    pub(crate) fn remove_all_from_front(&mut self) {
         for i in 0..PAGES {
             self.leave(i);
         }
@@ -253,28 +253,28 @@ impl Uses {
     }
 
     /// The entry of the descriptor that was used least recently, or an empty one.
-    pub(crate) fn oldest_sdw(&mut self) -> usize
+    pub(crate) fn least_recent_sdw(&mut self) -> usize
         ensures { result < 16 }
     {
-        self.sdws.oldest(&self.pages)
+        self.sdws.least_recent(&self.pages)
     }
 
-    /// As `oldest_sdw`, for page table words.
-    pub(crate) fn oldest_ptw(&mut self) -> usize
+    /// As `least_recent_sdw`, for page table words.
+    pub(crate) fn least_recent_ptw(&mut self) -> usize
         ensures { result < 16 }
     {
-        self.ptws.oldest(&self.pages)
+        self.ptws.least_recent(&self.pages)
     }
 
     /// The places in front that have pages of a descriptor, one bit each.
-    pub(crate) fn fronts_of_sdw(&self, e: usize) -> u16
+    pub(crate) fn front_places_of_sdw(&self, e: usize) -> u16
         requires { e < 16 }
     {
         self.sdws.fronts[e]
     }
 
     /// The places in front that have pages of a page table word, one bit each.
-    pub(crate) fn fronts_of_ptw(&self, e: usize) -> u16
+    pub(crate) fn front_places_of_ptw(&self, e: usize) -> u16
         requires { e < 16 }
     {
         self.ptws.fronts[e]
@@ -282,18 +282,18 @@ impl Uses {
 
     /// The entry of the descriptor with this rank in the order of use: 0 for the one that was used
     /// last. None if fewer descriptors are kept.
-    pub(crate) fn sdw_by_use(&mut self, rank: usize) -> Option<usize>
+    pub(crate) fn sdw_of_rank(&mut self, rank: usize) -> Option<usize>
         ensures { IfSome result (λ e. e < 16) }
     {
-        self.sdws.update_time(&self.pages);
-        self.sdws.by_use(rank)
+        self.sdws.update_all_times(&self.pages);
+        self.sdws.entry_of_rank(rank)
     }
 
-    /// As `sdw_by_use`, for page table words.
-    pub(crate) fn ptw_by_use(&mut self, rank: usize) -> Option<usize>
+    /// As `sdw_of_rank`, for page table words.
+    pub(crate) fn ptw_of_rank(&mut self, rank: usize) -> Option<usize>
         ensures { IfSome result (λ e. e < 16) }
     {
-        self.ptws.update_time(&self.pages);
-        self.ptws.by_use(rank)
+        self.ptws.update_all_times(&self.pages);
+        self.ptws.entry_of_rank(rank)
     }
 }

@@ -1,7 +1,7 @@
 //! Addresses of core words that are watched, because something that is kept depends on these words.
 
 ghost use Rattle.std.specs.Prelude.{ℕ, ◌≡◌, ◌≤◌, [], true, IsTrue, IsFalse};
-ghost use Rattle.m36_associative.specs.Watched.{watched};
+ghost use Rattle.m36_associative.specs.Watched.{is_watched};
 
 use arrayvec::ArrayVec;
 use std::marker::Model;
@@ -60,7 +60,7 @@ impl Watch {
     #[inline(always)]
     #[tactic(auto, using(crate::proofs::Watching::not_below, crate::proofs::Watching::not_above))]
     pub fn has(&self, a: u32) -> bool
-        ensures { result ≡ watched self.now a }
+        ensures { result ≡ is_watched self.now a }
     {
         if a < self.low {
             return false;
@@ -73,9 +73,9 @@ impl Watch {
 
     /// As `has`, by a search of the list.
     #[inline(never)]
-    #[tactic(auto, unfolding(crate::specs::Watched::watched))]
+    #[tactic(auto, unfolding(crate::specs::Watched::is_watched))]
     fn listed(&self, a: u32) -> bool
-        ensures { result ≡ watched self.now a }
+        ensures { result ≡ is_watched self.now a }
     {
         self.places.as_slice().contains(&a)
     }
@@ -92,8 +92,8 @@ impl Watch {
     /// Adds an address, which may be watched already. Returns false if there is no room; then
     /// nothing has changed.
     pub fn add(&mut self, a: u32) -> bool
-        ensures added { IsTrue result → watched self.new a ≡ true }
-        ensures more { (b : ℕ) → watched self.old b ≡ true → watched self.new b ≡ true }
+        ensures added { IsTrue result → is_watched self.new a ≡ true }
+        ensures more { (b : ℕ) → is_watched self.old b ≡ true → is_watched self.new b ≡ true }
         ensures full { IsFalse result → self.new ≡ self.old }
     {
         if self.places.len() >= ROOM {

@@ -2,8 +2,8 @@
 
 ghost use Rattle.std.specs.Prelude.{ℕ, ◌≡◌, ◌+◌, ◌<◌, ◌^◌, true, Contains, IsTrue, Ok};
 ghost use Rattle.m36_model.specs.Place.{directory_at, sdw_place};
-ghost use Rattle.m36_associative.specs.Right.{AreRight, IsWatched};
-ghost use Rattle.m36_associative.specs.Watched.{watched};
+ghost use Rattle.m36_associative.specs.Right.{AreCoherent, IsWatched};
+ghost use Rattle.m36_associative.specs.Watched.{is_watched};
 ghost use Rattle.m36_associative.specs.declared.kept.SdwEntry.{SdwEntry};
 ghost use Rattle.m36_associative.specs.declared.kept.PtwEntry.{PtwEntry};
 
@@ -12,7 +12,7 @@ use crate::memories::Memories;
 use crate::watch::Watch;
 use m36_core::Core;
 use m36_desc::Dbr;
-use m36_tables::{SEGMENTS, descriptor_place, directory_at, wrapped};
+use m36_tables::{SEGMENTS, descriptor_place, directory_at, wrapped_address};
 
 /// Watches the words through which the descriptor of a segment is found. Its even word is at
 /// address `even`. Returns false if there is no room.
@@ -28,13 +28,13 @@ pub(crate) fn watch_words(
     requires place { even < 2 ^ 24 }
     requires even { sdw_place _core.now dbr seg ≡ Ok even }
     ensures watches { IsTrue result → IsWatched _core.now dbr words.new tables.new seg }
-    ensures words { (b : ℕ) → watched words.old b ≡ true → watched words.new b ≡ true }
-    ensures tables { (b : ℕ) → watched tables.old b ≡ true → watched tables.new b ≡ true }
+    ensures words { (b : ℕ) → is_watched words.old b ≡ true → is_watched words.new b ≡ true }
+    ensures tables { (b : ℕ) → is_watched tables.old b ≡ true → is_watched tables.new b ≡ true }
 {
     if !words.add(even) {
         return false;
     }
-    if !words.add(wrapped(even + 1)) {
+    if !words.add(wrapped_address(even + 1)) {
         return false;
     }
     if dbr.unpaged {
@@ -47,8 +47,8 @@ pub(crate) fn watch_words(
 /// descriptor, or if there is no room.
 fn watch_segment(core: &Core, dbr: Dbr, words: &mut Watch, tables: &mut Watch, seg: u16) -> bool
     ensures watches { IsTrue result → IsWatched core.now dbr words.new tables.new seg }
-    ensures words { (b : ℕ) → watched words.old b ≡ true → watched words.new b ≡ true }
-    ensures tables { (b : ℕ) → watched tables.old b ≡ true → watched tables.new b ≡ true }
+    ensures words { (b : ℕ) → is_watched words.old b ≡ true → is_watched words.new b ≡ true }
+    ensures tables { (b : ℕ) → is_watched tables.old b ≡ true → is_watched tables.new b ≡ true }
 {
     if seg >= SEGMENTS {
         return false;
@@ -64,8 +64,8 @@ fn watch_segment(core: &Core, dbr: Dbr, words: &mut Watch, tables: &mut Watch, s
 fn watch_kept(core: &Core, dbr: Dbr, kept: &SdwEntry, words: &mut Watch, tables: &mut Watch) -> bool
     ensures watches { IsTrue result → (seg : ℕ) → kept.now.key ≡ seg + 1
         → IsWatched core.now dbr words.new tables.new seg }
-    ensures words { (b : ℕ) → watched words.old b ≡ true → watched words.new b ≡ true }
-    ensures tables { (b : ℕ) → watched tables.old b ≡ true → watched tables.new b ≡ true }
+    ensures words { (b : ℕ) → is_watched words.old b ≡ true → is_watched words.new b ≡ true }
+    ensures tables { (b : ℕ) → is_watched tables.old b ≡ true → is_watched tables.new b ≡ true }
 {
     let key = kept.key;
     if key == 0 {
@@ -100,8 +100,8 @@ fn watch_descriptors(
 /// Watches a kept page table word, if there is one. Returns false if there is no room.
 fn watch_kept_word(kept: &PtwEntry, tables: &mut Watch) -> bool
     ensures watches { IsTrue result → (a : ℕ) → kept.now.key ≡ a + 1
-        → watched tables.new a ≡ true }
-    ensures more { (b : ℕ) → watched tables.old b ≡ true → watched tables.new b ≡ true }
+        → is_watched tables.new a ≡ true }
+    ensures more { (b : ℕ) → is_watched tables.old b ≡ true → is_watched tables.new b ≡ true }
 {
     let key = kept.key;
     if key == 0 {
@@ -113,8 +113,8 @@ fn watch_kept_word(kept: &PtwEntry, tables: &mut Watch) -> bool
 /// Watches all kept page table words. Returns false if there is no room.
 fn watch_table_words(ptws: &[PtwEntry; 16], tables: &mut Watch) -> bool
     ensures watches { IsTrue result → (e : PtwEntry) (a : ℕ) → Contains ptws.now e → e.key ≡ a + 1
-        → watched tables.new a ≡ true }
-    ensures more { (b : ℕ) → watched tables.old b ≡ true → watched tables.new b ≡ true }
+        → is_watched tables.new a ≡ true }
+    ensures more { (b : ℕ) → is_watched tables.old b ≡ true → is_watched tables.new b ≡ true }
 {
     for kept in ptws {
         if !watch_kept_word(kept, tables) {
@@ -126,8 +126,8 @@ fn watch_table_words(ptws: &[PtwEntry; 16], tables: &mut Watch) -> bool
 
 /// Watches exactly the words on which kept entries depend, and empties the front.
 pub(crate) fn rewatch(core: &Core, dbr: Dbr, memories: &mut Memories)
-    requires { AreRight core.now dbr memories.old }
-    ensures { AreRight core.now dbr memories.new }
+    requires { AreCoherent core.now dbr memories.old }
+    ensures { AreCoherent core.now dbr memories.new }
 {
     memories.clear_front();
     let mut words = Watch::new();

@@ -2,8 +2,8 @@
 
 ghost use Rattle.std.specs.Prelude.{ℕ, ◌≡◌, ◌<◌, List, Bool, true, false, IsFalse, length, slice_set};
 ghost use Rattle.m36_model.specs.Place.{marked_word, with_mark};
-ghost use Rattle.m36_associative.specs.Right.{AreRight};
-ghost use Rattle.m36_associative.specs.Watched.{watched};
+ghost use Rattle.m36_associative.specs.Right.{AreCoherent};
+ghost use Rattle.m36_associative.specs.Watched.{is_watched};
 
 use crate::memories::Memories;
 use crate::watched_words::rewatch;
@@ -15,9 +15,9 @@ use m36_word::Word;
 /// the word, and otherwise only the front.
 #[cold]
 #[inline(never)]
-fn release_watched(core: &Core, dbr: &Dbr, memories: &mut Memories, a: u32)
-    requires { AreRight core.now dbr.now memories.old }
-    ensures { (v : ℕ) → AreRight (slice_set core.now a v) dbr.now memories.new }
+fn prepare_watched_write(core: &Core, dbr: &Dbr, memories: &mut Memories, a: u32)
+    requires { AreCoherent core.now dbr.now memories.old }
+    ensures { (v : ℕ) → AreCoherent (slice_set core.now a v) dbr.now memories.new }
 {
     rewatch(core, *dbr, memories);
     if memories.words.has(a) {
@@ -32,24 +32,24 @@ fn release_watched(core: &Core, dbr: &Dbr, memories: &mut Memories, a: u32)
 /// Prepares for a write of the word at address `a`, so that what is kept stays right whatever value
 /// is written.
 #[inline(always)]
-fn release(core: &Core, dbr: &Dbr, memories: &mut Memories, a: u32)
-    requires { AreRight core.now dbr.now memories.old }
-    ensures { (v : ℕ) → AreRight (slice_set core.now a v) dbr.now memories.new }
+fn prepare_write(core: &Core, dbr: &Dbr, memories: &mut Memories, a: u32)
+    requires { AreCoherent core.now dbr.now memories.old }
+    ensures { (v : ℕ) → AreCoherent (slice_set core.now a v) dbr.now memories.new }
 {
     if memories.words.has(a) {
-        release_watched(core, dbr, memories, a);
+        prepare_watched_write(core, dbr, memories, a);
         return;
     }
     if memories.tables.has(a) {
-        release_watched(core, dbr, memories, a);
+        prepare_watched_write(core, dbr, memories, a);
     }
 }
 
 /// Whether a kept descriptor was read from the word at address `a`.
-fn is_read(core: &Core, dbr: &Dbr, memories: &mut Memories, a: u32) -> bool
-    requires { AreRight core.now dbr.now memories.old }
-    ensures none { IsFalse result → watched memories.new.words a ≡ false }
-    ensures right { AreRight core.now dbr.now memories.new }
+fn is_of_kept_descriptor(core: &Core, dbr: &Dbr, memories: &mut Memories, a: u32) -> bool
+    requires { AreCoherent core.now dbr.now memories.old }
+    ensures none { IsFalse result → is_watched memories.new.words a ≡ false }
+    ensures right { AreCoherent core.now dbr.now memories.new }
 {
     if !memories.words.has(a) {
         return false;
@@ -60,13 +60,13 @@ fn is_read(core: &Core, dbr: &Dbr, memories: &mut Memories, a: u32) -> bool
 
 /// Prepares for a mark that changes the page table word at address `a`. If a kept descriptor was
 /// read from it, everything is emptied, and otherwise the front.
-fn release_marked(core: &Core, dbr: &Dbr, memories: &mut Memories, a: u32)
-    requires { AreRight core.now dbr.now memories.old }
+fn prepare_mark(core: &Core, dbr: &Dbr, memories: &mut Memories, a: u32)
+    requires { AreCoherent core.now dbr.now memories.old }
     ensures { (modified : Bool)
-        → AreRight (with_mark core.now (record { address = a; modified = modified })) dbr.now
+        → AreCoherent (with_mark core.now (record { address = a; modified = modified })) dbr.now
         memories.new }
 {
-    if is_read(core, dbr, memories, a) {
+    if is_of_kept_descriptor(core, dbr, memories, a) {
         memories.forget();
         return;
     }
@@ -77,11 +77,11 @@ fn release_marked(core: &Core, dbr: &Dbr, memories: &mut Memories, a: u32)
 #[inline(always)]
 pub fn store(core: &mut Core, dbr: &Dbr, memories: &mut Memories, a: u32, w: Word)
     requires place { a < length core.old }
-    requires right { AreRight core.old dbr.now memories.old }
+    requires right { AreCoherent core.old dbr.now memories.old }
     ensures core { core.new ≡ slice_set core.old a w }
-    ensures right { AreRight core.new dbr.now memories.new }
+    ensures right { AreCoherent core.new dbr.now memories.new }
 {
-    release(core, dbr, memories, a);
+    prepare_write(core, dbr, memories, a);
     core.poke(a, w);
 }
 
@@ -118,16 +118,16 @@ pub(crate) fn with_mark(w: Word, modified: bool) -> Word
 #[tactic(auto, using(crate::proofs::Found::unchanged))]
 pub fn mark(core: &mut Core, dbr: &Dbr, memories: &mut Memories, a: u32, modified: bool)
     requires place { a < length core.old }
-    requires right { AreRight core.old dbr.now memories.old }
+    requires right { AreCoherent core.old dbr.now memories.old }
     ensures marked { core.new ≡ with_mark core.old (record { address = a; modified = modified }) }
     ensures len { length core.new ≡ length core.old }
-    ensures right { AreRight core.new dbr.now memories.new }
+    ensures right { AreCoherent core.new dbr.now memories.new }
 {
     let word = core.peek(a);
     let marked = with_mark(word, modified);
     if marked == word {
         return;
     }
-    release_marked(core, dbr, memories, a);
+    prepare_mark(core, dbr, memories, a);
     core.poke(a, marked);
 }

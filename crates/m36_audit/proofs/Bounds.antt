@@ -6,7 +6,7 @@ use Rattle.m36_desc.specs.Fields.{SdwFields, PtwFields, DbrFields}
 use Rattle.m36_desc.specs.Descriptors.{sdw_of}
 use Rattle.m36_desc.specs.Widths.{IsSdw}
 use Rattle.m36_desc.proofs.WidthLaws.{sdw_fits}
-use Rattle.m36_model.specs.Place.{wrapped, in_bounds, ptw_at, directory_at, sdw_place, sdw_place_by, sdw_words, live_by, sdw_at, core_sdw}
+use Rattle.m36_model.specs.Place.{wrapped_address, has_descriptor_in_bounds, ptw_at, directory_at, sdw_place, sdw_place_by, sdw_words, live_by, sdw_at, core_sdw}
 use Rattle.m36_model.specs.declared.outcome.Refusal.{Refusal}
 
 placed_in_bounds : (b unpaged : Bool) (dbr : DbrFields) (seg : ℕ) (p : Option PtwFields) (a : ℕ) → sdw_place_by b unpaged dbr seg p ≡ Ok a → b ≡ true
@@ -14,15 +14,15 @@ placed_in_bounds true unpaged dbr seg p a h = refl
 placed_in_bounds false unpaged dbr seg p a h = cc
 
 -- a descriptor that has a place is in bounds
-pub sdw_place_in_bounds : (core : List ℕ) (dbr : DbrFields) (seg a : ℕ) → sdw_place core dbr seg ≡ Ok a → in_bounds dbr seg ≡ true
-sdw_place_in_bounds core dbr seg a h = placed_in_bounds (in_bounds dbr seg) dbr.unpaged dbr seg (ptw_at core (directory_at dbr seg)) a h
+pub sdw_place_in_bounds : (core : List ℕ) (dbr : DbrFields) (seg a : ℕ) → sdw_place core dbr seg ≡ Ok a → has_descriptor_in_bounds dbr seg ≡ true
+sdw_place_in_bounds core dbr seg a h = placed_in_bounds (has_descriptor_in_bounds dbr seg) dbr.unpaged dbr seg (ptw_at core (directory_at dbr seg)) a h
 
-live_in_bounds_by : (core : List ℕ) (dbr : DbrFields) (seg : ℕ) (d : SdwFields) (v : Result ℕ Refusal) → sdw_place core dbr seg ≡ v → sdw_at core v ≡ Ok d → in_bounds dbr seg ≡ true
+live_in_bounds_by : (core : List ℕ) (dbr : DbrFields) (seg : ℕ) (d : SdwFields) (v : Result ℕ Refusal) → sdw_place core dbr seg ≡ v → sdw_at core v ≡ Ok d → has_descriptor_in_bounds dbr seg ≡ true
 live_in_bounds_by core dbr seg d (Ok a) e h = sdw_place_in_bounds core dbr seg a e
 live_in_bounds_by core dbr seg d (Err r) e h = cc
 
 -- a live segment's descriptor is in bounds
-pub live_in_bounds : (core : List ℕ) (dbr : DbrFields) (seg : ℕ) (d : SdwFields) → core_sdw core dbr seg ≡ Ok d → in_bounds dbr seg ≡ true
+pub live_in_bounds : (core : List ℕ) (dbr : DbrFields) (seg : ℕ) (d : SdwFields) → core_sdw core dbr seg ≡ Ok d → has_descriptor_in_bounds dbr seg ≡ true
 unfolding core_sdw
 live_in_bounds core dbr seg d h = live_in_bounds_by core dbr seg d (sdw_place core dbr seg) refl h
 
@@ -39,7 +39,7 @@ fits_words (Some even) (Some odd) d h = fits_by (is_on even 33) even odd d h
 
 fits_at : (core : List ℕ) (v : Result ℕ Refusal) (d : SdwFields) → sdw_at core v ≡ Ok d → IsSdw d
 fits_at core (Err e) d h = cc
-fits_at core (Ok a) d h = fits_words (slice_get core a) (slice_get core (wrapped (a + 1))) d h
+fits_at core (Ok a) d h = fits_words (slice_get core a) (slice_get core (wrapped_address (a + 1))) d h
 
 -- the fields of a live segment's descriptor are within their widths
 pub live_fits : (core : List ℕ) (dbr : DbrFields) (seg : ℕ) (d : SdwFields) → core_sdw core dbr seg ≡ Ok d → IsSdw d

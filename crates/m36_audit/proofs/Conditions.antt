@@ -5,14 +5,14 @@ use Rattle.std.specs.Prelude.{◌⊎◌, Bool, true, false, not, ◌==◌, ◌&&
 use Rattle.std.specs.Result.{result_ok}
 use Rattle.std.proofs.lemmas.Bool.{ltb-true, lt-ltb, leb-true, le-leb, and_parts, and_from, eq-eqb, ne_eqb, cases_eq, cases_lt}
 use Rattle.m36_desc.specs.Fields.{SdwFields, DbrFields}
-use Rattle.m36_desc.specs.Access.{in_order}
+use Rattle.m36_desc.specs.Access.{has_ordered_brackets}
 use Rattle.m36_desc.specs.Widths.{IsSdw}
-use Rattle.m36_model.specs.Place.{in_frame, ptw_at, page_at, in_bounds, core_sdw}
-use Rattle.m36_model.specs.Audit.{IsSegmentWord, IsOf, IsInTwoTables, IsTableAndSegment, IsInTwoSegments, Finds}
+use Rattle.m36_model.specs.Place.{address_in_frame, ptw_at, page_at, has_descriptor_in_bounds, core_sdw}
+use Rattle.m36_model.specs.Audit.{IsSegmentWord, IsWordOfTable, IsInTwoTables, IsTableAndSegment, IsInTwoSegments, Finds}
 use Rattle.m36_model.specs.declared.outcome.Refusal.{Refusal}
 use Rattle.m36_audit.specs.TableMarks.{AreMarked}
 use Rattle.m36_audit.specs.declared.run.Run.{Run}
-use Rattle.m36_audit.specs.Runs.{words, whole_run, frame_run, page_run_by, run_by, run_ordered, run_of, run, covers, coverage, InOrder, AreCounted, AreOpen}
+use Rattle.m36_audit.specs.Runs.{word_count, unpaged_run, frame_run, page_run_by, run_by, run_if_ordered, run_of, run, covers, coverage, EndAfterBegin, AreCounted, IsOpenCount}
 use Rattle.m36_audit.proofs.Bounds.{live_fits, live_in_bounds}
 use Rattle.m36_audit.proofs.Counting.{PassTwice, one, two, at_least_one, at_least_two}
 use Rattle.m36_audit.proofs.Covering.{open_on}
@@ -36,14 +36,14 @@ is_covers (Some r) a k =
     and_from (nat_le r.first a) (nat_lt a r.end) (le-leb r.first a first) (lt-ltb a r.end end)
 
 -- segment numbers have 15 bits, so the numbers of runs have 23
-pub few_segments : (dbr : DbrFields) (seg : ℕ) → in_bounds dbr seg ≡ true → seg < 2 ^ 15
+pub few_segments : (dbr : DbrFields) (seg : ℕ) → has_descriptor_in_bounds dbr seg ≡ true → seg < 2 ^ 15
 few_segments dbr seg h = ltb-true seg (2 ^ 15) (and_parts (nat_lt (2 * seg) (16 * (dbr.bnd + 1))) (nat_lt seg (2 ^ 15)) h).1
 
 pub word_below : (core : List ℕ) (dbr : DbrFields) (seg w a : ℕ) → IsSegmentWord core dbr seg w a → number_of core dbr seg w < 2 ^ 23
 word_below core dbr seg w a h =
-    let live = word_live core dbr seg w a h in
-    let few = few_segments dbr seg (live_in_bounds core dbr seg live.0 live.1) in
-    let number = word_number core dbr seg w a h in
+    let live_descriptor = word_live core dbr seg w a h in
+    let few = few_segments dbr seg (live_in_bounds core dbr seg live_descriptor.0 live_descriptor.1) in
+    let table_number = word_number core dbr seg w a h in
     omega arith
 
 pub word_passes : (core : List ℕ) (dbr : DbrFields) (seg w a : ℕ) → IsSegmentWord core dbr seg w a → covers a (run core dbr (number_of core dbr seg w)) ≡ true
@@ -86,11 +86,11 @@ counted_two core dbr a inside h =
 
 -- Third condition: a core word is a segment word and a table word exactly if a run covers it and it
 -- has a mark.
-pub table_counted : (core : List ℕ) (dbr : DbrFields) (tables : List ℕ) (least : Option ℕ) (a : ℕ) → AreMarked (IsOf core dbr) (length core) tables least → IsTableAndSegment core dbr a → slice_index tables a ≢ 0
+pub table_counted : (core : List ℕ) (dbr : DbrFields) (tables : List ℕ) (least : Option ℕ) (a : ℕ) → AreMarked (IsWordOfTable core dbr) (length core) tables least → IsTableAndSegment core dbr a → slice_index tables a ≢ 0
 table_counted core dbr tables least a m k =
     λ e. m.none a (word_inside core dbr k.seg k.w a k.word) e k.table k.of
 
-pub counted_table : (core : List ℕ) (dbr : DbrFields) (tables : List ℕ) (least : Option ℕ) (a : ℕ) → AreMarked (IsOf core dbr) (length core) tables least → a < length core → 1 ≤ coverage core dbr a → slice_index tables a ≢ 0 → IsTableAndSegment core dbr a
+pub counted_table : (core : List ℕ) (dbr : DbrFields) (tables : List ℕ) (least : Option ℕ) (a : ℕ) → AreMarked (IsWordOfTable core dbr) (length core) tables least → a < length core → 1 ≤ coverage core dbr a → slice_index tables a ≢ 0 → IsTableAndSegment core dbr a
 counted_table core dbr tables least a m inside h some =
     let k = one (λ i. covers a (run core dbr i)) (2 ^ 23) h in
     let x = covered_word core dbr k.at a inside (covers_is (run core dbr k.at) a k.passes) in
@@ -98,19 +98,19 @@ counted_table core dbr tables least a m inside h some =
     record { table = mark.table; of = mark.of; seg = x.seg; w = x.w; word = x.word }
 
 -- Second condition: the least word that was marked for two tables.
-pub two_tables : (core : List ℕ) (dbr : DbrFields) (tables : List ℕ) (least : Option ℕ) → AreMarked (IsOf core dbr) (length core) tables least → Finds (IsInTwoTables core dbr) least
+pub two_tables : (core : List ℕ) (dbr : DbrFields) (tables : List ℕ) (least : Option ℕ) → AreMarked (IsWordOfTable core dbr) (length core) tables least → Finds (IsInTwoTables core dbr) least
 two_tables core dbr tables least m = m.least_two
 
 -- no run ends before it begins
-whole_order : (d : SdwFields) (t : ℕ) (r : Run) → IsSdw d → whole_run d t ≡ Some r → r.first ≤ r.end
+whole_order : (d : SdwFields) (t : ℕ) (r : Run) → IsSdw d → unpaged_run d t ≡ Some r → r.first ≤ r.end
 whole_order d zero r fits h =
     let addr = fits.addr in
-    let same : record { first = d.addr; end = min (d.addr + words d) (2 ^ 24) } ≡ r = cc in
-    let goal : d.addr ≤ min (d.addr + words d) (2 ^ 24) = omega arith in
+    let same : record { first = d.addr; end = min (d.addr + word_count d) (2 ^ 24) } ≡ r = cc in
+    let goal : d.addr ≤ min (d.addr + word_count d) (2 ^ 24) = omega arith in
     subst (λ (x : Run). x.first ≤ x.end) same goal
 whole_order d (suc zero) r fits h =
-    let same : record { first = 0; end = (d.addr + words d) - 2 ^ 24 } ≡ r = cc in
-    let goal : 0 ≤ (d.addr + words d) - 2 ^ 24 = omega arith in
+    let same : record { first = 0; end = (d.addr + word_count d) - 2 ^ 24 } ≡ r = cc in
+    let goal : 0 ≤ (d.addr + word_count d) - 2 ^ 24 = omega arith in
     subst (λ (x : Run). x.first ≤ x.end) same goal
 whole_order d (suc (suc t)) r fits h = cc
 
@@ -123,26 +123,26 @@ frame_order (Some frame) count r h =
 
 page_order : (b : Bool) (core : List ℕ) (d : SdwFields) (page : ℕ) (r : Run) → page_run_by b core d page ≡ Some r → r.first ≤ r.end
 page_order false core d page r h = cc
-page_order true core d page r h = frame_order (result_ok (in_frame (ptw_at core (page_at d page)) 0)) (words d - 1024 * page) r h
+page_order true core d page r h = frame_order (result_ok (address_in_frame (ptw_at core (page_at d page)) 0)) (word_count d - 1024 * page) r h
 
 piece_order : (u : Bool) (core : List ℕ) (d : SdwFields) (piece : ℕ) (r : Run) → IsSdw d → run_by u core d piece ≡ Some r → r.first ≤ r.end
 piece_order true core d piece r fits h = whole_order d piece r fits h
 piece_order false core d piece r fits h = page_order (nat_le piece (d.bound / 64)) core d piece r h
 
-ordered_order : (b : Bool) (core : List ℕ) (d : SdwFields) (piece : ℕ) (r : Run) → IsSdw d → run_ordered b core d piece ≡ Some r → r.first ≤ r.end
+ordered_order : (b : Bool) (core : List ℕ) (d : SdwFields) (piece : ℕ) (r : Run) → IsSdw d → run_if_ordered b core d piece ≡ Some r → r.first ≤ r.end
 ordered_order false core d piece r fits h = cc
 ordered_order true core d piece r fits h = piece_order d.unpaged core d piece r fits h
 
 run_order : (core : List ℕ) (dbr : DbrFields) (seg : ℕ) (v : Result SdwFields Refusal) (piece : ℕ) (r : Run) → core_sdw core dbr seg ≡ v → run_of core v piece ≡ Some r → r.first ≤ r.end
-run_order core dbr seg (Err e) piece r live h = cc
-run_order core dbr seg (Ok d) piece r live h = ordered_order (in_order d) core d piece r (live_fits core dbr seg d live) h
+run_order core dbr seg (Err e) piece r live_descriptor h = cc
+run_order core dbr seg (Ok d) piece r live_descriptor h = ordered_order (has_ordered_brackets d) core d piece r (live_fits core dbr seg d live_descriptor) h
 
-pub runs_in_order : (core : List ℕ) (dbr : DbrFields) → InOrder (run core dbr)
+pub runs_in_order : (core : List ℕ) (dbr : DbrFields) → EndAfterBegin (run core dbr)
 unfolding run
 runs_in_order core dbr = record { each = λ i r h. run_order core dbr (i / 256) (core_sdw core dbr (i / 256)) (i % 256) r refl h }
 
 -- the test of the third condition
-pub on_table_decides : (core : List ℕ) (dbr : DbrFields) (tables : List ℕ) (least : Option ℕ) (a n mark : ℕ) → AreMarked (IsOf core dbr) (length core) tables least → a < length core → n ≡ coverage core dbr a → mark ≡ slice_index tables a → Decides (nat_lt 0 n && not (mark == 0)) (IsTableAndSegment core dbr a)
+pub on_table_decides : (core : List ℕ) (dbr : DbrFields) (tables : List ℕ) (least : Option ℕ) (a n mark : ℕ) → AreMarked (IsWordOfTable core dbr) (length core) tables least → a < length core → n ≡ coverage core dbr a → mark ≡ slice_index tables a → Decides (nat_lt 0 n && not (mark == 0)) (IsTableAndSegment core dbr a)
 on_table_decides core dbr tables least a n mark m inside e f = (
   λ h.
       let k = and_parts (nat_lt 0 n) (not (mark == 0)) h in
@@ -171,7 +171,7 @@ on_segment_decides core dbr a n inside e = (
 )
 
 -- where no word below breaks the third condition, and no word from there on has a mark, none breaks it
-pub none_marked : (core : List ℕ) (dbr : DbrFields) (tables : List ℕ) (least : Option ℕ) (n m : ℕ) → AreMarked (IsOf core dbr) (length core) tables least → ((a : ℕ) → n ≤ a → slice_index tables a ≡ 0) → n ≤ m
+pub none_marked : (core : List ℕ) (dbr : DbrFields) (tables : List ℕ) (least : Option ℕ) (n m : ℕ) → AreMarked (IsWordOfTable core dbr) (length core) tables least → ((a : ℕ) → n ≤ a → slice_index tables a ≡ 0) → n ≤ m
     → ((a : ℕ) → a < m → IsTableAndSegment core dbr a → ⊥) → Finds (IsTableAndSegment core dbr) None
 none_marked core dbr tables least n m marked unmarked le below = λ a k. at a k (cases_lt a m)
   where
@@ -188,7 +188,7 @@ few_open core dbr a n inside e h = at (cases_lt 1 n)
     at (inr few) = few
 
 -- where no word below breaks the fourth condition, and from there on no run begins, none breaks it
-pub none_begun : (core : List ℕ) (dbr : DbrFields) (starts stops : List ℕ) (n m open_runs : ℕ) → AreCounted (run core dbr) (2 ^ 23) (length core) starts stops → AreOpen (run core dbr) (2 ^ 23) m open_runs → open_runs ≤ 1
+pub none_begun : (core : List ℕ) (dbr : DbrFields) (starts stops : List ℕ) (n m open_runs : ℕ) → AreCounted (run core dbr) (2 ^ 23) (length core) starts stops → IsOpenCount (run core dbr) (2 ^ 23) m open_runs → open_runs ≤ 1
     → ((a : ℕ) → n ≤ a → slice_index starts a ≡ 0) → n ≤ m → ((a : ℕ) → a < m → IsInTwoSegments core dbr a → ⊥) → Finds (IsInTwoSegments core dbr) None
 none_begun core dbr starts stops n m open_runs counted opened few none le below = λ a k. at a k (cases_lt a m)
   where

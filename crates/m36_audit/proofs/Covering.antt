@@ -5,7 +5,7 @@ use Rattle.std.proofs.lemmas.Bool.{cases_eq, cases_lt, lt-ltb, le-ltb, le-leb, l
 use Rattle.std.proofs.lemmas.List.{get_or-set_same, get_or-set_other, length-set}
 use Rattle.m36_word.specs.Bits.{of_bit}
 use Rattle.m36_audit.specs.declared.run.Run.{Run}
-use Rattle.m36_audit.specs.Runs.{count_below, begins_at, ends_at, covers, counted, AreCounted, begins_before, ends_before, AreOpen, InOrder}
+use Rattle.m36_audit.specs.Runs.{count_below, begins_at, ends_at, covers, counted, AreCounted, begins_before, ends_before, IsOpenCount, EndAfterBegin}
 use Rattle.m36_audit.proofs.Counting.{count_most, count_more, count_sum, count_none, count_past}
 
 counted_at : (counts : List ℕ) (x a : ℕ) → a < length counts → slice_index (counted counts x) a ≡ slice_index counts a + of_bit (x == a)
@@ -126,7 +126,7 @@ module _ (runs : ℕ → Option Run) (n : ℕ) where
       each None = refl
       each (Some r) = next_bit r.end a
 
-  covered : InOrder runs → (a : ℕ) → count_below (λ i. begins_before (a + 1) (runs i)) n ≡ count_below (λ i. ends_before (a + 1) (runs i)) n + count_below (λ i. covers a (runs i)) n
+  covered : EndAfterBegin runs → (a : ℕ) → count_below (λ i. begins_before (a + 1) (runs i)) n ≡ count_below (λ i. ends_before (a + 1) (runs i)) n + count_below (λ i. covers a (runs i)) n
   covered order a = count_sum (λ i. begins_before (a + 1) (runs i)) (λ i. ends_before (a + 1) (runs i)) (λ i. covers a (runs i)) n (λ i. each i (runs i) refl)
     where
       each : (i : ℕ) (o : Option Run) → runs i ≡ o → of_bit (begins_before (a + 1) o) ≡ of_bit (ends_before (a + 1) o) + of_bit (covers a o)
@@ -134,7 +134,7 @@ module _ (runs : ℕ → Option Run) (n : ℕ) where
       each i (Some r) e = cover_bit r.first r.end a (order.each i r e)
 
   -- no run begins before the first word
-  pub none_open : AreOpen runs n 0 0
+  pub none_open : IsOpenCount runs n 0 0
   none_open =
       let begun = count_none (λ i. begins_before 0 (runs i)) n (λ i. early (runs i)) in
       let ended = count_none (λ i. ends_before 0 (runs i)) n (λ i. late (runs i)) in
@@ -149,7 +149,7 @@ module _ (runs : ℕ → Option Run) (n : ℕ) where
       late (Some r) = le-ltb r.end 0 (omega arith)
 
   -- from a word on at which no more runs begin, no more are open
-  begun_on : (size : ℕ) (starts stops : List ℕ) → AreCounted runs n size starts stops → (a open_runs : ℕ) → AreOpen runs n a open_runs → ((q : ℕ) → a ≤ q → slice_index starts q ≡ 0)
+  begun_on : (size : ℕ) (starts stops : List ℕ) → AreCounted runs n size starts stops → (a open_runs : ℕ) → IsOpenCount runs n a open_runs → ((q : ℕ) → a ≤ q → slice_index starts q ≡ 0)
       → (more b : ℕ) → b ≡ a + more → b ≤ size → count_below (λ i. begins_before b (runs i)) n ≤ open_runs + count_below (λ i. ends_before b (runs i)) n
   begun_on size starts stops c a open_runs k none zero b e inside =
       let sum = k.sum in
@@ -168,7 +168,7 @@ module _ (runs : ℕ → Option Run) (n : ℕ) where
       let ended = ap (λ (x : ℕ). count_below (λ i. ends_before x (runs i)) n) here in
       omega arith
 
-  pub open_on : (size : ℕ) (starts stops : List ℕ) → AreCounted runs n size starts stops → InOrder runs → (a open_runs : ℕ) → AreOpen runs n a open_runs → ((q : ℕ) → a ≤ q → slice_index starts q ≡ 0)
+  pub open_on : (size : ℕ) (starts stops : List ℕ) → AreCounted runs n size starts stops → EndAfterBegin runs → (a open_runs : ℕ) → IsOpenCount runs n a open_runs → ((q : ℕ) → a ≤ q → slice_index starts q ≡ 0)
       → (p : ℕ) → a ≤ p → p < size → count_below (λ i. covers p (runs i)) n ≤ open_runs
   open_on size starts stops c order a open_runs k none p past inside =
       let begun = begun_on size starts stops c a open_runs k none ((p + 1) - a) (p + 1) (omega arith) (omega arith) in
@@ -176,7 +176,7 @@ module _ (runs : ℕ → Option Run) (n : ℕ) where
       omega arith
 
   -- what a step from a word to the next does to the number of open runs
-  module _ (size : ℕ) (starts stops : List ℕ) (c : AreCounted runs n size starts stops) (order : InOrder runs) (a open_runs : ℕ) (k : AreOpen runs n a open_runs) (inside : a < size) where
+  module _ (size : ℕ) (starts stops : List ℕ) (c : AreCounted runs n size starts stops) (order : EndAfterBegin runs) (a open_runs : ℕ) (k : IsOpenCount runs n a open_runs) (inside : a < size) where
     pub open_most : open_runs + slice_index starts a ≤ n
     open_most =
         let sum = k.sum in
@@ -205,7 +205,7 @@ module _ (runs : ℕ → Option Run) (n : ℕ) where
         let all = covered order a in
         omega arith
 
-    pub open_next : AreOpen runs n (a + 1) ((open_runs + slice_index starts a) - slice_index stops a)
+    pub open_next : IsOpenCount runs n (a + 1) ((open_runs + slice_index starts a) - slice_index stops a)
     open_next =
         let sum = k.sum in
         let begin = c.begin a inside in

@@ -9,10 +9,10 @@ use Rattle.m36_desc.specs.Fields.{DbrFields}
 use Rattle.m36_model.specs.Audit.{IsSegmentWord}
 use Rattle.m36_model.specs.JointAudit.{AreSameWord, IsJointSegment}
 use Rattle.m36_audit.specs.declared.run.Run.{Run}
-use Rattle.m36_audit.specs.Runs.{run, covers, InOrder}
-use Rattle.m36_audit.specs.Classes.{AreClasses}
+use Rattle.m36_audit.specs.Runs.{run, covers, EndAfterBegin}
+use Rattle.m36_audit.specs.Classes.{AreFirstEquals}
 use Rattle.m36_audit.specs.RecordedNumbers.{several, IsRecorded, AreRecorded}
-use Rattle.m36_audit.specs.WordOwners.{SegmentOwned, Below, first_run, run_of_process, joint_run, joint_coverage}
+use Rattle.m36_audit.specs.WordOwners.{OwnsSegmentWord, IsOfProcessBelow, unpaged_first_run, run_of_process, joint_run, joint_coverage}
 use Rattle.m36_audit.proofs.Clashes.{Clash, clash}
 use Rattle.m36_audit.proofs.Counting.{two, at_least_two}
 use Rattle.m36_audit.proofs.Conditions.{covers_is, word_below, word_passes, few_segments, runs_in_order}
@@ -44,8 +44,8 @@ pub record HasWord (core : List ℕ) (dbrs : List DbrFields) (firsts : List ℕ)
 
 segment_small : (core : List ℕ) (dbr : DbrFields) (seg w a : ℕ) → IsSegmentWord core dbr seg w a → seg < 2 ^ 15
 segment_small core dbr seg w a h =
-    let live = word_live core dbr seg w a h in
-    few_segments dbr seg (live_in_bounds core dbr seg live.0 live.1)
+    let live_descriptor = word_live core dbr seg w a h in
+    few_segments dbr seg (live_in_bounds core dbr seg live_descriptor.0 live_descriptor.1)
 
 -- the parts of the run with a number
 record RunOf (core : List ℕ) (dbrs : List DbrFields) (firsts : List ℕ) (i a : ℕ) : Type 0 where
@@ -54,7 +54,7 @@ record RunOf (core : List ℕ) (dbrs : List DbrFields) (firsts : List ℕ) (i a 
   pub first : slice_index firsts (i / 256) ≡ i / 256
   pub covered : covers a (run core dbr (i % 2 ^ 23)) ≡ true
 
-run_taken : (core : List ℕ) (dbrs : List DbrFields) (firsts : List ℕ) (i a : ℕ) (b : Bool) (o : Option DbrFields) → (slice_index firsts (i / 256) == i / 256) ≡ b → slice_get dbrs (i / 2 ^ 23) ≡ o → covers a (first_run b (run_of_process core o (i % 2 ^ 23))) ≡ true → RunOf core dbrs firsts i a
+run_taken : (core : List ℕ) (dbrs : List DbrFields) (firsts : List ℕ) (i a : ℕ) (b : Bool) (o : Option DbrFields) → (slice_index firsts (i / 256) == i / 256) ≡ b → slice_get dbrs (i / 2 ^ 23) ≡ o → covers a (unpaged_first_run b (run_of_process core o (i % 2 ^ 23))) ≡ true → RunOf core dbrs firsts i a
 run_taken core dbrs firsts i a false o e f h = cc
 run_taken core dbrs firsts i a true None e f h = cc
 run_taken core dbrs firsts i a true (Some dbr) e f h =
@@ -64,26 +64,26 @@ run_parts : (core : List ℕ) (dbrs : List DbrFields) (firsts : List ℕ) (i a :
 unfolding joint_run
 run_parts core dbrs firsts i a h = run_taken core dbrs firsts i a (slice_index firsts (i / 256) == i / 256) (slice_get dbrs (i / 2 ^ 23)) refl refl h
 
-run_is : (core : List ℕ) (dbrs : List DbrFields) (firsts : List ℕ) (i a k number : ℕ) (dbr : DbrFields) → i / 2 ^ 23 ≡ k → i % 2 ^ 23 ≡ number → slice_get dbrs k ≡ Some dbr → slice_index firsts (i / 256) ≡ i / 256 → covers a (run core dbr number) ≡ true → covers a (joint_run core dbrs firsts i) ≡ true
+run_is : (core : List ℕ) (dbrs : List DbrFields) (firsts : List ℕ) (i a k table_number : ℕ) (dbr : DbrFields) → i / 2 ^ 23 ≡ k → i % 2 ^ 23 ≡ table_number → slice_get dbrs k ≡ Some dbr → slice_index firsts (i / 256) ≡ i / 256 → covers a (run core dbr table_number) ≡ true → covers a (joint_run core dbrs firsts i) ≡ true
 unfolding joint_run
-run_is core dbrs firsts i a k number dbr e f process first covered =
+run_is core dbrs firsts i a k table_number dbr e f process first covered =
     let at : slice_get dbrs (i / 2 ^ 23) ≡ Some dbr = ap (slice_get dbrs) e ∙ process in
     let test : (slice_index firsts (i / 256) == i / 256) ≡ true = eq-eqb (slice_index firsts (i / 256)) (i / 256) first in
-    let whole : first_run (slice_index firsts (i / 256) == i / 256) (run_of_process core (slice_get dbrs (i / 2 ^ 23)) (i % 2 ^ 23)) ≡ run core dbr number = λ j. first_run (test j) (run_of_process core (at j) (f j)) in
+    let whole : unpaged_first_run (slice_index firsts (i / 256) == i / 256) (run_of_process core (slice_get dbrs (i / 2 ^ 23)) (i % 2 ^ 23)) ≡ run core dbr table_number = λ j. unpaged_first_run (test j) (run_of_process core (at j) (f j)) in
     ap (covers a) whole ∙ covered
 
 -- no run ends before it begins
-order_by : (core : List ℕ) (b : Bool) (o : Option DbrFields) (n : ℕ) (r : Run) → first_run b (run_of_process core o n) ≡ Some r → r.first ≤ r.end
+order_by : (core : List ℕ) (b : Bool) (o : Option DbrFields) (n : ℕ) (r : Run) → unpaged_first_run b (run_of_process core o n) ≡ Some r → r.first ≤ r.end
 order_by core false o n r h = cc
 order_by core true None n r h = cc
 order_by core true (Some dbr) n r h = (runs_in_order core dbr).each n r h
 
-pub joint_in_order : (core : List ℕ) (dbrs : List DbrFields) (firsts : List ℕ) → InOrder (joint_run core dbrs firsts)
+pub joint_in_order : (core : List ℕ) (dbrs : List DbrFields) (firsts : List ℕ) → EndAfterBegin (joint_run core dbrs firsts)
 unfolding joint_run
 joint_in_order core dbrs firsts = record { each = λ i r h. order_by core (slice_index firsts (i / 256) == i / 256) (slice_get dbrs (i / 2 ^ 23)) (i % 2 ^ 23) r h }
 
-module _ (core : List ℕ) (dbrs : List DbrFields) (firsts : List ℕ) (classes : AreClasses core dbrs (2 ^ 15 * length dbrs) firsts) (a : ℕ) where
-  owned_word : (k x : ℕ) → k < length dbrs → SegmentOwned core dbrs k a x → (n : Named) × HasWord core dbrs firsts a k n
+module _ (core : List ℕ) (dbrs : List DbrFields) (firsts : List ℕ) (equal_descriptors : AreFirstEquals core dbrs (2 ^ 15 * length dbrs) firsts) (a : ℕ) where
+  owned_word : (k x : ℕ) → k < length dbrs → OwnsSegmentWord core dbrs k a x → (n : Named) × HasWord core dbrs firsts a k n
   owned_word k x lt h = (
     record { first = slice_index firsts (2 ^ 15 * k + h.seg); w = h.w },
     record { below = lt; dbr = h.dbr; process = h.process; seg = h.seg; small = segment_small core h.dbr h.seg h.w a h.word; word = h.word; first_is = refl },
@@ -91,8 +91,8 @@ module _ (core : List ℕ) (dbrs : List DbrFields) (firsts : List ℕ) (classes 
 
   live_word : (k : ℕ) (x : Named) → (h : HasWord core dbrs firsts a k x) → LiveOf core dbrs k h.seg h.dbr
   live_word k x h =
-      let live = word_live core h.dbr h.seg x.w a h.word in
-      live_of core dbrs k h.seg h.dbr live.0 h.process live.1
+      let live_descriptor = word_live core h.dbr h.seg x.w a h.word in
+      live_of core dbrs k h.seg h.dbr live_descriptor.0 h.process live_descriptor.1
 
   clash_breaks : Clash (HasWord core dbrs firsts a) → IsJointSegment core dbrs a
   clash_breaks c =
@@ -112,7 +112,7 @@ module _ (core : List ℕ) (dbrs : List DbrFields) (firsts : List ℕ) (classes 
       firsts_are : AreSameWord core c.has.dbr c.has_other.dbr c.has.seg c.thing.w c.has_other.seg c.other_thing.w → c.thing.first ≡ c.other_thing.first
       firsts_are s =
           c.has.first_is
-          ∙ same_firsts core dbrs firsts classes c.one c.other c.has.seg c.has_other.seg c.has.dbr c.has_other.dbr (live_word c.one c.thing c.has) (live_word c.other c.other_thing c.has_other) c.has.below c.has_other.below s.segment
+          ∙ same_firsts core dbrs firsts equal_descriptors c.one c.other c.has.seg c.has_other.seg c.has.dbr c.has_other.dbr (live_word c.one c.thing c.has) (live_word c.other c.other_thing c.has_other) c.has.below c.has_other.below s.segment
           ∙ sym c.has_other.first_is
 
   -- a covered word of a segment with a first descriptor
@@ -120,7 +120,7 @@ module _ (core : List ℕ) (dbrs : List DbrFields) (firsts : List ℕ) (classes 
     pub named : Named
     pub has : HasWord core dbrs firsts a (i / 2 ^ 23) named
     pub first : named.first ≡ i / 256
-    pub number : number_of core has.dbr has.seg named.w ≡ i % 2 ^ 23
+    pub table_number : number_of core has.dbr has.seg named.w ≡ i % 2 ^ 23
 
   first_word : a < length core → (i : ℕ) → covers a (joint_run core dbrs firsts i) ≡ true → FirstWord i
   first_word inside i h =
@@ -143,7 +143,7 @@ module _ (core : List ℕ) (dbrs : List DbrFields) (firsts : List ℕ) (classes 
           first_is = sym k.first ∙ ap (slice_index firsts) same;
         };
         first = refl;
-        number = x.numbered;
+        table_number = x.numbered;
       }
 
   numbers_differ : (i j : ℕ) (x : FirstWord i) (y : FirstWord j) → i ≢ j → x.named ≢ y.named
@@ -158,15 +158,15 @@ module _ (core : List ℕ) (dbrs : List DbrFields) (firsts : List ℕ) (classes 
       let high = (word_number core x.has.dbr x.has.seg x.named.w a x.has.word).high in
       let low_too = (word_number core y.has.dbr y.has.seg y.named.w a y.has.word).low in
       let high_too = (word_number core y.has.dbr y.has.seg y.named.w a y.has.word).high in
-      let number = x.number in
-      let number_too = y.number in
+      let table_number = x.table_number in
+      let number_too = y.table_number in
       let seg : y.has.seg ≡ x.has.seg = omega arith in
       let w : y.named.w ≡ x.named.w = ap (λ (n : Named). n.w) (sym e) in
       let same : number_of core y.has.dbr y.has.seg y.named.w ≡ number_of core x.has.dbr x.has.seg x.named.w = λ t. number_of core (dbr t) (seg t) (w t) in
       apart (omega arith)
 
   -- two processes and two words
-  counts_break : a < length core → (segments : ℕ) → IsRecorded (Below (SegmentOwned core dbrs) (length dbrs) a) segments → segments ≡ several → 2 ≤ joint_coverage core dbrs firsts a → IsJointSegment core dbrs a
+  counts_break : a < length core → (segments : ℕ) → IsRecorded (IsOfProcessBelow (OwnsSegmentWord core dbrs) (length dbrs) a) segments → segments ≡ several → 2 ≤ joint_coverage core dbrs firsts a → IsJointSegment core dbrs a
   counts_break inside segments s e more =
       let p = s.two e in
       let k = two (λ i. covers a (joint_run core dbrs firsts i)) (2 ^ 23 * length dbrs) more in
@@ -183,18 +183,18 @@ module _ (core : List ℕ) (dbrs : List DbrFields) (firsts : List ℕ) (classes 
     below : k < length dbrs
     below = slice_get_within dbrs k dbr process
 
-    live : LiveOf core dbrs k seg dbr
-    live =
+    live_descriptor : LiveOf core dbrs k seg dbr
+    live_descriptor =
         let d = word_live core dbr seg w a word in
         live_of core dbrs k seg dbr d.0 process d.1
 
-    first : FirstOf core dbrs firsts classes k seg dbr
-    first = first_of core dbrs firsts classes k seg dbr live below
+    first : FirstOf core dbrs firsts equal_descriptors k seg dbr
+    first = first_of core dbrs firsts equal_descriptors k seg dbr live_descriptor below
 
     word_first : IsSegmentWord core first.dbr_first (slice_index firsts (2 ^ 15 * k + seg) % 2 ^ 15) w a
     word_first =
         let p = word_parts core dbr seg w a word in
-        word_is core first.dbr_first (slice_index firsts (2 ^ 15 * k + seg) % 2 ^ 15) w a (record { sdw = p.sdw; live = first.sdw ∙ p.live; order = p.order; bound = p.bound; lies = p.lies; inside = p.inside })
+        word_is core first.dbr_first (slice_index firsts (2 ^ 15 * k + seg) % 2 ^ 15) w a (record { sdw = p.sdw; live_descriptor = first.sdw ∙ p.live_descriptor; order = p.order; bound = p.bound; lies = p.lies; inside = p.inside })
 
     first_number : ℕ
     first_number =
@@ -233,12 +233,12 @@ module _ (core : List ℕ) (dbrs : List DbrFields) (firsts : List ℕ) (classes 
       let here = one.process in
       let dbr_is : two_of.dbr_first ≡ one.dbr_first = cc in
       let seg_is : slice_index firsts (2 ^ 15 * l + other_seg) % 2 ^ 15 ≡ slice_index firsts (2 ^ 15 * k + seg) % 2 ^ 15 = ap (λ (x : ℕ). x % 2 ^ 15) (sym firsts_are) in
-      let words = word_first l other at_too other_seg other_w other_word in
-      let moved : IsSegmentWord core one.dbr_first (slice_index firsts (2 ^ 15 * k + seg) % 2 ^ 15) other_w a = (λ (P : DbrFields → ℕ → Type 0) (x : P two_of.dbr_first (slice_index firsts (2 ^ 15 * l + other_seg) % 2 ^ 15)). subst (λ (d : DbrFields). P d (slice_index firsts (2 ^ 15 * k + seg) % 2 ^ 15)) dbr_is (subst (P two_of.dbr_first) seg_is x)) (λ d s. IsSegmentWord core d s other_w a) words in
-      let number : number_of core one.dbr_first (slice_index firsts (2 ^ 15 * k + seg) % 2 ^ 15) w ≡ number_of core one.dbr_first (slice_index firsts (2 ^ 15 * k + seg) % 2 ^ 15) other_w = sym n.run_is_at ∙ ap (λ (x : ℕ). x % 2 ^ 23) e ∙ m.run_is_at ∙ (λ t. number_of core (dbr_is t) (seg_is t) other_w) in
+      let word_count = word_first l other at_too other_seg other_w other_word in
+      let moved : IsSegmentWord core one.dbr_first (slice_index firsts (2 ^ 15 * k + seg) % 2 ^ 15) other_w a = (λ (P : DbrFields → ℕ → Type 0) (x : P two_of.dbr_first (slice_index firsts (2 ^ 15 * l + other_seg) % 2 ^ 15)). subst (λ (d : DbrFields). P d (slice_index firsts (2 ^ 15 * k + seg) % 2 ^ 15)) dbr_is (subst (P two_of.dbr_first) seg_is x)) (λ d s. IsSegmentWord core d s other_w a) word_count in
+      let table_number : number_of core one.dbr_first (slice_index firsts (2 ^ 15 * k + seg) % 2 ^ 15) w ≡ number_of core one.dbr_first (slice_index firsts (2 ^ 15 * k + seg) % 2 ^ 15) other_w = sym n.run_is_at ∙ ap (λ (x : ℕ). x % 2 ^ 23) e ∙ m.run_is_at ∙ (λ t. number_of core (dbr_is t) (seg_is t) other_w) in
       record {
-        segment = firsts_same core dbrs firsts classes k l seg other_seg dbr other (live k dbr at seg w word) (live l other at_too other_seg other_w other_word) (below k dbr at seg w word) (below l other at_too other_seg other_w other_word) firsts_are;
-        word = word_once core one.dbr_first (slice_index firsts (2 ^ 15 * k + seg) % 2 ^ 15) w other_w a (word_first k dbr at seg w word) moved number;
+        segment = firsts_same core dbrs firsts equal_descriptors k l seg other_seg dbr other (live_descriptor k dbr at seg w word) (live_descriptor l other at_too other_seg other_w other_word) (below k dbr at seg w word) (below l other at_too other_seg other_w other_word) firsts_are;
+        word = word_once core one.dbr_first (slice_index firsts (2 ^ 15 * k + seg) % 2 ^ 15) w other_w a (word_first k dbr at seg w word) moved table_number;
       }
 
   breaks_count : IsJointSegment core dbrs a → 2 ≤ joint_coverage core dbrs firsts a
@@ -249,10 +249,10 @@ module _ (core : List ℕ) (dbrs : List DbrFields) (firsts : List ℕ) (classes 
       (λ e. b.differ (same_numbers b.two.first b.two.second b.dbr b.other b.two.at b.two.other_at b.seg b.w b.other_seg b.other_w b.word b.other_word e))
       (first_passes b.two.first b.dbr b.two.at b.seg b.w b.word) (first_passes b.two.second b.other b.two.other_at b.other_seg b.other_w b.other_word)
 
-  segment_there : (l : ℕ) (other : DbrFields) (seg w : ℕ) → slice_get dbrs l ≡ Some other → IsSegmentWord core other seg w a → Below (SegmentOwned core dbrs) (length dbrs) a (l + 1)
+  segment_there : (l : ℕ) (other : DbrFields) (seg w : ℕ) → slice_get dbrs l ≡ Some other → IsSegmentWord core other seg w a → IsOfProcessBelow (OwnsSegmentWord core dbrs) (length dbrs) a (l + 1)
   segment_there l other seg w at word = (l, slice_get_within dbrs l other at, record { dbr = other; process = at; seg = seg; w = w; word = word; is = refl })
 
-  breaks_told : (segments : ℕ) → IsRecorded (Below (SegmentOwned core dbrs) (length dbrs) a) segments → IsJointSegment core dbrs a → segments ≡ several
+  breaks_told : (segments : ℕ) → IsRecorded (IsOfProcessBelow (OwnsSegmentWord core dbrs) (length dbrs) a) segments → IsJointSegment core dbrs a → segments ≡ several
   breaks_told segments s b = at (cases_eq segments several)
     where
       at : (segments ≡ several) ⊎ (segments ≡ several → ⊥) → segments ≡ several
@@ -262,7 +262,7 @@ module _ (core : List ℕ) (dbrs : List DbrFields) (firsts : List ℕ) (classes 
           let other = s.only far (b.two.second + 1) (segment_there b.two.second b.other b.other_seg b.other_w b.two.other_at b.other_word) in
           absurd (b.two.differ (omega arith))
 
-  pub joint_segment_decides : (segments open_runs : ℕ) → a < length core → IsRecorded (Below (SegmentOwned core dbrs) (length dbrs) a) segments → open_runs ≡ joint_coverage core dbrs firsts a → Decides ((segments == several) && nat_lt 1 open_runs) (IsJointSegment core dbrs a)
+  pub joint_segment_decides : (segments open_runs : ℕ) → a < length core → IsRecorded (IsOfProcessBelow (OwnsSegmentWord core dbrs) (length dbrs) a) segments → open_runs ≡ joint_coverage core dbrs firsts a → Decides ((segments == several) && nat_lt 1 open_runs) (IsJointSegment core dbrs a)
   joint_segment_decides segments open_runs inside s e = (
     λ h.
         let k = and_parts (segments == several) (nat_lt 1 open_runs) h in
@@ -277,8 +277,8 @@ pub joint_segment_inside : (core : List ℕ) (dbrs : List DbrFields) (a : ℕ) �
 joint_segment_inside core dbrs a b = word_inside core b.dbr b.seg b.w a b.word
 
 -- the test of a core word
-pub parted_at : (core : List ℕ) (dbrs : List DbrFields) (firsts : List ℕ) → AreClasses core dbrs (2 ^ 15 * length dbrs) firsts → (a : ℕ) → a < length core → (segments : List ℕ) → AreRecorded (Below (SegmentOwned core dbrs) (length dbrs)) (length core) segments → (x open_runs : ℕ) (b : Bool) → x ≡ slice_index segments a → open_runs ≡ joint_coverage core dbrs firsts a → b ≡ ((x == several) && nat_lt 1 open_runs) → Decides b (IsJointSegment core dbrs a)
-parted_at core dbrs firsts classes a inside segments s x open_runs b e f h =
+pub parted_at : (core : List ℕ) (dbrs : List DbrFields) (firsts : List ℕ) → AreFirstEquals core dbrs (2 ^ 15 * length dbrs) firsts → (a : ℕ) → a < length core → (segments : List ℕ) → AreRecorded (IsOfProcessBelow (OwnsSegmentWord core dbrs) (length dbrs)) (length core) segments → (x open_runs : ℕ) (b : Bool) → x ≡ slice_index segments a → open_runs ≡ joint_coverage core dbrs firsts a → b ≡ ((x == several) && nat_lt 1 open_runs) → Decides b (IsJointSegment core dbrs a)
+parted_at core dbrs firsts equal_descriptors a inside segments s x open_runs b e f h =
     let same : b ≡ ((slice_index segments a == several) && nat_lt 1 open_runs) = h ∙ (λ i. (e i == several) && nat_lt 1 open_runs) in
     subst (λ (v : Bool). Decides v (IsJointSegment core dbrs a)) (sym same)
-    (joint_segment_decides core dbrs firsts classes a (slice_index segments a) open_runs inside (s.each a inside) f)
+    (joint_segment_decides core dbrs firsts equal_descriptors a (slice_index segments a) open_runs inside (s.each a inside) f)

@@ -5,27 +5,27 @@ use Rattle.std.specs.Bool.{Decides}
 use Rattle.std.proofs.lemmas.Bool.{eq-eqb, eqb-true, eqb-false, cases_eq}
 use Rattle.std.proofs.lemmas.Option.{slice_get_within}
 use Rattle.m36_desc.specs.Fields.{DbrFields}
-use Rattle.m36_model.specs.Audit.{Table, Sdws, Directory, Pages, IsOf, IsSegmentWord}
+use Rattle.m36_model.specs.Audit.{Table, Sdws, Directory, Pages, IsWordOfTable, IsSegmentWord}
 use Rattle.m36_model.specs.JointAudit.{AreShared, IsUsedByOther, IsJointTable}
-use Rattle.m36_audit.specs.Classes.{AreClasses}
+use Rattle.m36_audit.specs.Classes.{AreFirstEquals}
 use Rattle.m36_audit.specs.RecordedNumbers.{several, TwoOf, IsRecorded, AreRecorded}
-use Rattle.m36_audit.specs.WordOwners.{identity, Identified, TableOwned, SegmentOwned, Below, is_between}
+use Rattle.m36_audit.specs.WordOwners.{identity, HasTableNumbered, OwnsTableWord, OwnsSegmentWord, IsOfProcessBelow, is_joint_table_word}
 use Rattle.m36_audit.proofs.Clashes.{Clash, clash}
 use Rattle.m36_audit.proofs.SameDescriptors.{live_of, same_firsts, firsts_same}
 
-module _ (core : List ℕ) (dbrs : List DbrFields) (firsts : List ℕ) (classes : AreClasses core dbrs (2 ^ 15 * length dbrs) firsts) (few : length dbrs ≤ 8) (a : ℕ) where
-  shared_by : (k l : ℕ) (dbr other : DbrFields) (t u : Table) → k < length dbrs → l < length dbrs → slice_get dbrs k ≡ Some dbr → slice_get dbrs l ≡ Some other → IsOf core dbr t a → IsOf core other u a → AreShared core dbr other t u → identity firsts k t ≡ identity firsts l u
+module _ (core : List ℕ) (dbrs : List DbrFields) (firsts : List ℕ) (equal_descriptors : AreFirstEquals core dbrs (2 ^ 15 * length dbrs) firsts) (few : length dbrs ≤ 8) (a : ℕ) where
+  shared_by : (k l : ℕ) (dbr other : DbrFields) (t u : Table) → k < length dbrs → l < length dbrs → slice_get dbrs k ≡ Some dbr → slice_get dbrs l ≡ Some other → IsWordOfTable core dbr t a → IsWordOfTable core other u a → AreShared core dbr other t u → identity firsts k t ≡ identity firsts l u
   shared_by k l dbr other (Pages s) (Pages r) lt lt_too at at_too of of_too h =
-      ap (λ (n : ℕ). 17 + n) (same_firsts core dbrs firsts classes k l s r dbr other (live_of core dbrs k s dbr of.1.sdw at of.1.live) (live_of core dbrs l r other of_too.1.sdw at_too of_too.1.live) lt lt_too h)
+      ap (λ (n : ℕ). 17 + n) (same_firsts core dbrs firsts equal_descriptors k l s r dbr other (live_of core dbrs k s dbr of.1.sdw at of.1.live_descriptor) (live_of core dbrs l r other of_too.1.sdw at_too of_too.1.live_descriptor) lt lt_too h)
   shared_by k l dbr other (Pages s) Sdws lt lt_too at at_too of of_too h = absurd h
   shared_by k l dbr other (Pages s) Directory lt lt_too at at_too of of_too h = absurd h
   shared_by k l dbr other Sdws u lt lt_too at at_too of of_too h = absurd h
   shared_by k l dbr other Directory u lt lt_too at at_too of of_too h = absurd h
 
-  same_by : (k l : ℕ) (dbr other : DbrFields) (t u : Table) → k < length dbrs → l < length dbrs → k ≢ l → slice_get dbrs k ≡ Some dbr → slice_get dbrs l ≡ Some other → IsOf core dbr t a → IsOf core other u a → identity firsts k t ≡ identity firsts l u → AreShared core dbr other t u
+  same_by : (k l : ℕ) (dbr other : DbrFields) (t u : Table) → k < length dbrs → l < length dbrs → k ≢ l → slice_get dbrs k ≡ Some dbr → slice_get dbrs l ≡ Some other → IsWordOfTable core dbr t a → IsWordOfTable core other u a → identity firsts k t ≡ identity firsts l u → AreShared core dbr other t u
   same_by k l dbr other (Pages s) (Pages r) lt lt_too apart at at_too of of_too e =
       let one : slice_index firsts (2 ^ 15 * k + s) ≡ slice_index firsts (2 ^ 15 * l + r) = omega arith in
-      firsts_same core dbrs firsts classes k l s r dbr other (live_of core dbrs k s dbr of.1.sdw at of.1.live) (live_of core dbrs l r other of_too.1.sdw at_too of_too.1.live) lt lt_too one
+      firsts_same core dbrs firsts equal_descriptors k l s r dbr other (live_of core dbrs k s dbr of.1.sdw at of.1.live_descriptor) (live_of core dbrs l r other of_too.1.sdw at_too of_too.1.live_descriptor) lt lt_too one
   same_by k l dbr other (Pages s) Sdws lt lt_too apart at at_too of of_too e = absurd (omega arith)
   same_by k l dbr other (Pages s) Directory lt lt_too apart at at_too of of_too e = absurd (omega arith)
   same_by k l dbr other Sdws Sdws lt lt_too apart at at_too of of_too e = absurd (apart (omega arith))
@@ -37,9 +37,9 @@ module _ (core : List ℕ) (dbrs : List DbrFields) (firsts : List ℕ) (classes 
 
   -- one of the processes has the table with this number at the word
   Has : ℕ → ℕ → Type 0
-  Has k x = (k < length dbrs) × Identified core dbrs firsts k a x
+  Has k x = (k < length dbrs) × HasTableNumbered core dbrs firsts k a x
 
-  has_table : (k : ℕ) (x : ℕ) → k < length dbrs → TableOwned core dbrs k a x → (n : ℕ) × Has k n
+  has_table : (k : ℕ) (x : ℕ) → k < length dbrs → OwnsTableWord core dbrs k a x → (n : ℕ) × Has k n
   unfolding Has
   has_table k x lt h =
       (identity firsts k h.table, (lt, record { dbr = h.dbr; process = h.process; table = h.table; of = h.of; is = refl }))
@@ -62,7 +62,7 @@ module _ (core : List ℕ) (dbrs : List DbrFields) (firsts : List ℕ) (classes 
   owners_apart : (k l x y : ℕ) → x ≡ k + 1 → y ≡ l + 1 → x ≢ y → k ≢ l
   owners_apart k l x y e f apart g = apart (omega arith)
 
-  module _ (inside : a < length core) (tables segments identities : ℕ) (t : IsRecorded (Below (TableOwned core dbrs) (length dbrs) a) tables) (s : IsRecorded (Below (SegmentOwned core dbrs) (length dbrs) a) segments) (n : IsRecorded (Below (Identified core dbrs firsts) (length dbrs) a) identities) where
+  module _ (inside : a < length core) (tables segments identities : ℕ) (t : IsRecorded (IsOfProcessBelow (OwnsTableWord core dbrs) (length dbrs) a) tables) (s : IsRecorded (IsOfProcessBelow (OwnsSegmentWord core dbrs) (length dbrs) a) segments) (n : IsRecorded (IsOfProcessBelow (HasTableNumbered core dbrs firsts) (length dbrs) a) identities) where
     -- two different numbers mean two processes
     by_tables : tables ≡ several → identities ≡ several → IsJointTable core dbrs a
     unfolding Has
@@ -74,7 +74,7 @@ module _ (core : List ℕ) (dbrs : List DbrFields) (firsts : List ℕ) (classes 
         clash_breaks inside (clash Has (λ x y. cases_eq x y) p.has.0 p.has_other.0 q.has.0 q.has_other.0 one.0 other.0 q.one q.other (owners_apart p.has.0 p.has_other.0 p.one p.other p.has.2.is p.has_other.2.is p.differ) one.1 other.1 (q.has.1, q.has.2) (q.has_other.1, q.has_other.2) q.differ)
 
     -- a table of one process and a segment of another
-    on_segment_of : (k l x y : ℕ) → k ≢ l → TableOwned core dbrs k a x → SegmentOwned core dbrs l a y → IsJointTable core dbrs a
+    on_segment_of : (k l x y : ℕ) → k ≢ l → OwnsTableWord core dbrs k a x → OwnsSegmentWord core dbrs l a y → IsJointTable core dbrs a
     on_segment_of k l x y apart h g =
         record {
           inside = inside;
@@ -87,14 +87,14 @@ module _ (core : List ℕ) (dbrs : List DbrFields) (firsts : List ℕ) (classes 
         }
 
     -- one of two different processes is not this one
-    table_beside : (l y : ℕ) → SegmentOwned core dbrs l a y → TwoOf (Below (TableOwned core dbrs) (length dbrs) a) → IsJointTable core dbrs a
+    table_beside : (l y : ℕ) → OwnsSegmentWord core dbrs l a y → TwoOf (IsOfProcessBelow (OwnsTableWord core dbrs) (length dbrs) a) → IsJointTable core dbrs a
     table_beside l y g p = at (cases_eq p.has.0 l)
       where
         at : (p.has.0 ≡ l) ⊎ (p.has.0 ≡ l → ⊥) → IsJointTable core dbrs a
         at (inr far) = on_segment_of p.has.0 l p.one y far p.has.2 g
         at (inl e) = on_segment_of p.has_other.0 l p.other y (λ f. owners_apart p.has.0 p.has_other.0 p.one p.other p.has.2.is p.has_other.2.is p.differ (e ∙ sym f)) p.has_other.2 g
 
-    segment_beside : (k x : ℕ) → TableOwned core dbrs k a x → TwoOf (Below (SegmentOwned core dbrs) (length dbrs) a) → IsJointTable core dbrs a
+    segment_beside : (k x : ℕ) → OwnsTableWord core dbrs k a x → TwoOf (IsOfProcessBelow (OwnsSegmentWord core dbrs) (length dbrs) a) → IsJointTable core dbrs a
     segment_beside k x h p = at (cases_eq k p.has.0)
       where
         at : (k ≡ p.has.0) ⊎ (k ≡ p.has.0 → ⊥) → IsJointTable core dbrs a
@@ -143,13 +143,13 @@ module _ (core : List ℕ) (dbrs : List DbrFields) (firsts : List ℕ) (classes 
     process_below : (k : ℕ) (dbr : DbrFields) → slice_get dbrs k ≡ Some dbr → k < length dbrs
     process_below k dbr h = slice_get_within dbrs k dbr h
 
-    table_there : (k : ℕ) (dbr : DbrFields) (u : Table) → slice_get dbrs k ≡ Some dbr → IsOf core dbr u a → Below (TableOwned core dbrs) (length dbrs) a (k + 1)
+    table_there : (k : ℕ) (dbr : DbrFields) (u : Table) → slice_get dbrs k ≡ Some dbr → IsWordOfTable core dbr u a → IsOfProcessBelow (OwnsTableWord core dbrs) (length dbrs) a (k + 1)
     table_there k dbr u at of = (k, process_below k dbr at, record { dbr = dbr; process = at; table = u; of = of; is = refl })
 
-    segment_there : (l : ℕ) (other : DbrFields) (seg w : ℕ) → slice_get dbrs l ≡ Some other → IsSegmentWord core other seg w a → Below (SegmentOwned core dbrs) (length dbrs) a (l + 1)
+    segment_there : (l : ℕ) (other : DbrFields) (seg w : ℕ) → slice_get dbrs l ≡ Some other → IsSegmentWord core other seg w a → IsOfProcessBelow (OwnsSegmentWord core dbrs) (length dbrs) a (l + 1)
     segment_there l other seg w at word = (l, process_below l other at, record { dbr = other; process = at; seg = seg; w = w; word = word; is = refl })
 
-    number_there : (k : ℕ) (dbr : DbrFields) (u : Table) → slice_get dbrs k ≡ Some dbr → IsOf core dbr u a → Below (Identified core dbrs firsts) (length dbrs) a (identity firsts k u)
+    number_there : (k : ℕ) (dbr : DbrFields) (u : Table) → slice_get dbrs k ≡ Some dbr → IsWordOfTable core dbr u a → IsOfProcessBelow (HasTableNumbered core dbrs firsts) (length dbrs) a (identity firsts k u)
     number_there k dbr u at of = (k, process_below k dbr at, record { dbr = dbr; process = at; table = u; of = of; is = refl })
 
     next_apart : (k l : ℕ) → k ≢ l → (k + 1) ≢ (l + 1)
@@ -195,18 +195,18 @@ module _ (core : List ℕ) (dbrs : List DbrFields) (firsts : List ℕ) (classes 
               (λ e. other.2 (same_by b.two.first b.two.second b.dbr b.other b.table other.0 (process_below b.two.first b.dbr b.two.at) (process_below b.two.second b.other b.two.other_at) b.two.differ b.two.at b.two.other_at b.of other.1 e)),
         )
 
-    pub between_decides : Decides (is_between tables segments identities) (IsJointTable core dbrs a)
+    pub between_decides : Decides (is_joint_table_word tables segments identities) (IsJointTable core dbrs a)
     between_decides = (
       λ passed. test_breaks _ _ _ _ _ refl refl refl refl refl passed,
       λ b. tested _ _ _ _ _ refl refl refl refl refl (breaks_by b b.taken),
     )
 
 -- the test of a core word
-pub between_at : (core : List ℕ) (dbrs : List DbrFields) (firsts : List ℕ) → AreClasses core dbrs (2 ^ 15 * length dbrs) firsts → length dbrs ≤ 8 → (a : ℕ) → a < length core → (tables segments identities : List ℕ) → AreRecorded (Below (TableOwned core dbrs) (length dbrs)) (length core) tables → AreRecorded (Below (SegmentOwned core dbrs) (length dbrs)) (length core) segments → AreRecorded (Below (Identified core dbrs firsts) (length dbrs)) (length core) identities → (x y z : ℕ) (b : Bool) → x ≡ slice_index tables a → y ≡ slice_index segments a → z ≡ slice_index identities a → b ≡ is_between x y z → Decides b (IsJointTable core dbrs a)
-between_at core dbrs firsts classes few a inside tables segments identities t s n x y z b e f g h =
-    let same : b ≡ is_between (slice_index tables a) (slice_index segments a) (slice_index identities a) = h ∙ (λ i. is_between (e i) (f i) (g i)) in
+pub between_at : (core : List ℕ) (dbrs : List DbrFields) (firsts : List ℕ) → AreFirstEquals core dbrs (2 ^ 15 * length dbrs) firsts → length dbrs ≤ 8 → (a : ℕ) → a < length core → (tables segments identities : List ℕ) → AreRecorded (IsOfProcessBelow (OwnsTableWord core dbrs) (length dbrs)) (length core) tables → AreRecorded (IsOfProcessBelow (OwnsSegmentWord core dbrs) (length dbrs)) (length core) segments → AreRecorded (IsOfProcessBelow (HasTableNumbered core dbrs firsts) (length dbrs)) (length core) identities → (x y z : ℕ) (b : Bool) → x ≡ slice_index tables a → y ≡ slice_index segments a → z ≡ slice_index identities a → b ≡ is_joint_table_word x y z → Decides b (IsJointTable core dbrs a)
+between_at core dbrs firsts equal_descriptors few a inside tables segments identities t s n x y z b e f g h =
+    let same : b ≡ is_joint_table_word (slice_index tables a) (slice_index segments a) (slice_index identities a) = h ∙ (λ i. is_joint_table_word (e i) (f i) (g i)) in
     subst (λ (v : Bool). Decides v (IsJointTable core dbrs a)) (sym same)
-    (between_decides core dbrs firsts classes few a inside (slice_index tables a) (slice_index segments a) (slice_index identities a) (t.each a inside) (s.each a inside) (n.each a inside))
+    (between_decides core dbrs firsts equal_descriptors few a inside (slice_index tables a) (slice_index segments a) (slice_index identities a) (t.each a inside) (s.each a inside) (n.each a inside))
 
 pub joint_table_inside : (core : List ℕ) (dbrs : List DbrFields) (a : ℕ) → IsJointTable core dbrs a → a < length core
 joint_table_inside core dbrs a b = b.inside

@@ -5,15 +5,15 @@ use Rattle.std.proofs.lemmas.Bool.{cases_eq, cases_lt, eqb-true, eq-eqb, ltb-tru
 use Rattle.std.proofs.lemmas.List.{get_or-set_same, get_or-set_other, length-set, length-replicate}
 use Rattle.std.proofs.lemmas.Option.{slice_get_cases, get_or_from_slice_get}
 use Rattle.m36_desc.specs.Fields.{DbrFields}
-use Rattle.m36_model.specs.Place.{in_bounds}
-use Rattle.m36_audit.specs.Classes.{IsKey, KeyAt, AreClasses, FirstNoted, AreRecordedFindings, AreNotedSo}
+use Rattle.m36_model.specs.Place.{has_descriptor_in_bounds}
+use Rattle.m36_audit.specs.Classes.{IsDescriptorKey, KeyAt, AreFirstEquals, IsKeyRecorded, IsDescriptorRecorded, AreDescriptorsRecorded}
 use Rattle.m36_audit.proofs.Bounds.{sdw_place_in_bounds}
 use Rattle.m36_audit.proofs.SameDescriptors.{keys_same, numbered, numbered_odd}
 use Rattle.m36_audit.proofs.TableWords.{zeros}
 
 module _ (core : List ℕ) (dbrs : List DbrFields) (few : length dbrs ≤ 8) where
   -- numbers without a key are skipped
-  pub noted_on : (n m : ℕ) (places : ℕ → Option ℕ) (firsts : List ℕ) → n ≤ m → ((i key : ℕ) → n ≤ i → i < m → KeyAt core dbrs i key → ⊥) → AreNotedSo core dbrs n places firsts → AreNotedSo core dbrs m places firsts
+  pub noted_on : (n m : ℕ) (places : ℕ → Option ℕ) (firsts : List ℕ) → n ≤ m → ((i key : ℕ) → n ≤ i → i < m → KeyAt core dbrs i key → ⊥) → AreDescriptorsRecorded core dbrs n places firsts → AreDescriptorsRecorded core dbrs m places firsts
   noted_on n m places firsts le none s =
       record {
         len = s.len;
@@ -31,7 +31,7 @@ module _ (core : List ℕ) (dbrs : List DbrFields) (few : length dbrs ≤ 8) whe
           at (inl k) = k
           at (inr far) = absurd (none i key far lt h)
 
-  module _ (n : ℕ) (inside : n < 2 ^ 15 * length dbrs) (places new : ℕ → Option ℕ) (firsts after : List ℕ) (s : AreNotedSo core dbrs n places firsts) (small : (x : ℕ) → (h : KeyAt core dbrs n x) → h.is.odd < 2 ^ 36) where
+  module _ (n : ℕ) (inside : n < 2 ^ 15 * length dbrs) (places new : ℕ → Option ℕ) (firsts after : List ℕ) (s : AreDescriptorsRecorded core dbrs n places firsts) (small : (x : ℕ) → (h : KeyAt core dbrs n x) → h.is.odd < 2 ^ 36) where
     last : (i : ℕ) → i < n + 1 → (i < n) ⊎ (i ≡ n)
     last i lt = at (cases_lt i n)
       where
@@ -61,11 +61,11 @@ module _ (core : List ℕ) (dbrs : List DbrFields) (few : length dbrs ≤ 8) whe
         at (inr far) = let is = get_or-set_other firsts n i f 0 far in let before = s.below i in omega arith
 
     module _ (x : ℕ) (here : KeyAt core dbrs n x) where
-      found_noted : (f : ℕ) → places x ≡ Some f → ((q : ℕ) → new q ≡ places q) → after ≡ slice_set firsts n f → AreNotedSo core dbrs (n + 1) new after
-      found_noted f found kept put =
+      found_noted : (f : ℕ) → places x ≡ Some f → ((q : ℕ) → new q ≡ places q) → after ≡ slice_set firsts n f → AreDescriptorsRecorded core dbrs (n + 1) new after
+      found_noted f findings_from_marks kept put =
           record {
             len = ap length put ∙ length-set firsts n f ∙ s.len;
-            below = λ i. let lt = s.earlier x f found in subst (λ (l : List ℕ). slice_index l i < 2 ^ 18) (sym put) (put_below f (omega arith) i);
+            below = λ i. let lt = s.earlier x f findings_from_marks in subst (λ (l : List ℕ). slice_index l i < 2 ^ 18) (sym put) (put_below f (omega arith) i);
             listed = λ i key lt h. at i key h (put_at f i (last i lt) after put);
             known = λ key g h. s.known key g (sym (kept key) ∙ h);
             earlier = λ key g h. let lt = s.earlier key g (sym (kept key) ∙ h) in omega arith;
@@ -76,9 +76,9 @@ module _ (core : List ℕ) (dbrs : List DbrFields) (few : length dbrs ≤ 8) whe
           at i key h (inl k) = kept key ∙ s.listed i key k.0 h ∙ ap (λ (m : ℕ). Some m) (sym k.1)
           at i key h (inr k) =
               let same : key ≡ x = keys_same core dbrs n key x (subst (λ (m : ℕ). KeyAt core dbrs m key) k.0 h) here in
-              kept key ∙ ap places same ∙ found ∙ ap (λ (m : ℕ). Some m) (sym k.1)
+              kept key ∙ ap places same ∙ findings_from_marks ∙ ap (λ (m : ℕ). Some m) (sym k.1)
 
-      new_noted : places x ≡ None → ((q : ℕ) → new q ≡ cond (x == q) (Some n) (places q)) → after ≡ slice_set firsts n n → AreNotedSo core dbrs (n + 1) new after
+      new_noted : places x ≡ None → ((q : ℕ) → new q ≡ cond (x == q) (Some n) (places q)) → after ≡ slice_set firsts n n → AreDescriptorsRecorded core dbrs (n + 1) new after
       new_noted absent kept put =
           record {
             len = ap length put ∙ length-set firsts n n ∙ s.len;
@@ -109,11 +109,11 @@ module _ (core : List ℕ) (dbrs : List DbrFields) (few : length dbrs ≤ 8) whe
               let same : key ≡ x = keys_same core dbrs n key x (subst (λ (m : ℕ). KeyAt core dbrs m key) k.0 h) here in
               kept key ∙ ap (λ (b : Bool). cond b (Some n) (places key)) (eq-eqb x key (sym same)) ∙ ap (λ (m : ℕ). Some m) (sym k.1)
 
-      first_noted : (o : Option ℕ) → places x ≡ o → FirstNoted places new firsts after x n o → AreNotedSo core dbrs (n + 1) new after
+      first_noted : (o : Option ℕ) → places x ≡ o → IsKeyRecorded places new firsts after x n o → AreDescriptorsRecorded core dbrs (n + 1) new after
       first_noted (Some f) e h = found_noted f e h.0 h.1
       first_noted None e h = new_noted e h.0 h.1
 
-    pub noted_next : (key : Option ℕ) → ((x : ℕ) → key ≡ Some x → KeyAt core dbrs n x) → (key ≡ None → (x : ℕ) → KeyAt core dbrs n x → ⊥) → AreRecordedFindings places new firsts after key n → AreNotedSo core dbrs (n + 1) new after
+    pub noted_next : (key : Option ℕ) → ((x : ℕ) → key ≡ Some x → KeyAt core dbrs n x) → (key ≡ None → (x : ℕ) → KeyAt core dbrs n x → ⊥) → IsDescriptorRecorded places new firsts after key n → AreDescriptorsRecorded core dbrs (n + 1) new after
     noted_next None hit miss h =
         let le : n ≤ n + 1 = omega arith in
         let there = noted_on n (n + 1) places firsts le (λ i key far lt k. let e : i ≡ n = omega arith in miss refl key (subst (λ (m : ℕ). KeyAt core dbrs m key) e k)) s in
@@ -129,15 +129,15 @@ module _ (core : List ℕ) (dbrs : List DbrFields) (few : length dbrs ≤ 8) whe
 
   -- a key of a segment of process k is the key of its number, and conversely
   module _ (k : ℕ) (dbr : DbrFields) (process : slice_get dbrs k ≡ Some dbr) where
-    pub key_taken : (seg key : ℕ) → seg < 2 ^ 15 → KeyAt core dbrs (2 ^ 15 * k + seg) key → IsKey core dbr seg key
+    pub key_taken : (seg key : ℕ) → seg < 2 ^ 15 → KeyAt core dbrs (2 ^ 15 * k + seg) key → IsDescriptorKey core dbr seg key
     key_taken seg key lt h =
         let quotient : (2 ^ 15 * k + seg) / 2 ^ 15 ≡ k = omega arith in
         let rest : (2 ^ 15 * k + seg) % 2 ^ 15 ≡ seg = omega arith in
         let at : slice_get dbrs k ≡ Some h.dbr = ap (slice_get dbrs) (sym quotient) ∙ h.process in
         let one : h.dbr ≡ dbr = cc in
-        subst (λ (d : DbrFields). IsKey core d seg key) one (subst (λ (m : ℕ). IsKey core h.dbr m key) rest h.is)
+        subst (λ (d : DbrFields). IsDescriptorKey core d seg key) one (subst (λ (m : ℕ). IsDescriptorKey core h.dbr m key) rest h.is)
 
-    pub small_taken : (seg : ℕ) → seg < 2 ^ 15 → ((key : ℕ) → (h : IsKey core dbr seg key) → h.odd < 2 ^ 36) → (key : ℕ) → (h : KeyAt core dbrs (2 ^ 15 * k + seg) key) → h.is.odd < 2 ^ 36
+    pub small_taken : (seg : ℕ) → seg < 2 ^ 15 → ((key : ℕ) → (h : IsDescriptorKey core dbr seg key) → h.odd < 2 ^ 36) → (key : ℕ) → (h : KeyAt core dbrs (2 ^ 15 * k + seg) key) → h.is.odd < 2 ^ 36
     small_taken seg lt small key h =
         let mine = key_taken seg key lt h in
         let bound = small key mine in
@@ -145,15 +145,15 @@ module _ (core : List ℕ) (dbrs : List DbrFields) (few : length dbrs ≤ 8) whe
         omega arith
 
     -- there are no keys after the last descriptor
-    pub none_past : (n m : ℕ) → ((q : ℕ) → in_bounds dbr q ≡ nat_lt q n) → n ≤ m → (i key : ℕ) → 2 ^ 15 * k + m ≤ i → i < 2 ^ 15 * (k + 1) → KeyAt core dbrs i key → ⊥
+    pub none_past : (n m : ℕ) → ((q : ℕ) → has_descriptor_in_bounds dbr q ≡ nat_lt q n) → n ≤ m → (i key : ℕ) → 2 ^ 15 * k + m ≤ i → i < 2 ^ 15 * (k + 1) → KeyAt core dbrs i key → ⊥
     none_past n m bounds enough i key far near h =
         let e : i ≡ 2 ^ 15 * k + (i - 2 ^ 15 * k) = omega arith in
         let small : i - 2 ^ 15 * k < 2 ^ 15 = omega arith in
         let mine = key_taken (i - 2 ^ 15 * k) key small (subst (λ (j : ℕ). KeyAt core dbrs j key) e h) in
-        let lt = ltb-true (i - 2 ^ 15 * k) n (sym (bounds (i - 2 ^ 15 * k)) ∙ sdw_place_in_bounds core dbr (i - 2 ^ 15 * k) mine.at mine.found) in
+        let lt = ltb-true (i - 2 ^ 15 * k) n (sym (bounds (i - 2 ^ 15 * k)) ∙ sdw_place_in_bounds core dbr (i - 2 ^ 15 * k) mine.at mine.findings_from_marks) in
         omega arith
 
-  pub nothing_noted : (places : ℕ → Option ℕ) (firsts : List ℕ) → ((q : ℕ) → places q ≡ None) → firsts ≡ replicate (2 ^ 15 * length dbrs) 0 → AreNotedSo core dbrs 0 places firsts
+  pub nothing_noted : (places : ℕ → Option ℕ) (firsts : List ℕ) → ((q : ℕ) → places q ≡ None) → firsts ≡ replicate (2 ^ 15 * length dbrs) 0 → AreDescriptorsRecorded core dbrs 0 places firsts
   nothing_noted places firsts none e =
       record {
         len = ap length e ∙ length-replicate {A = ℕ} (2 ^ 15 * length dbrs) 0;
@@ -164,7 +164,7 @@ module _ (core : List ℕ) (dbrs : List DbrFields) (few : length dbrs ≤ 8) whe
         small = λ i key lt h. absurd (omega arith);
       }
 
-  pub all_noted : (n : ℕ) (places : ℕ → Option ℕ) (firsts : List ℕ) → AreNotedSo core dbrs n places firsts → AreClasses core dbrs n firsts
+  pub all_noted : (n : ℕ) (places : ℕ → Option ℕ) (firsts : List ℕ) → AreDescriptorsRecorded core dbrs n places firsts → AreFirstEquals core dbrs n firsts
   all_noted n places firsts s =
       record {
         len = s.len;
@@ -192,17 +192,17 @@ dbr_at dbrs k d lt e = at (slice_get_cases dbrs k).1
     at (inr h) = let past = h.0 in absurd (omega arith)
 
 -- the descriptor of one segment more
-pub noted_step : (core : List ℕ) (dbrs : List DbrFields) → length dbrs ≤ 8 → (k seg : ℕ) (dbr : DbrFields) → slice_get dbrs k ≡ Some dbr → k < length dbrs → seg < 2 ^ 15 → (places new : ℕ → Option ℕ) (firsts after : List ℕ) (key : Option ℕ) (number : ℕ) → number ≡ 2 ^ 15 * k + seg → MatchOption key ((x : ℕ) → IsKey core dbr seg x → ⊥) (λ x. IsKey core dbr seg x) → ((x : ℕ) → (h : IsKey core dbr seg x) → h.odd < 2 ^ 36) → AreRecordedFindings places new firsts after key number → AreNotedSo core dbrs (2 ^ 15 * k + seg) places firsts → AreNotedSo core dbrs (2 ^ 15 * k + (seg + 1)) new after
-noted_step core dbrs few k seg dbr process there small places new firsts after key number e says odd noted s =
+pub noted_step : (core : List ℕ) (dbrs : List DbrFields) → length dbrs ≤ 8 → (k seg : ℕ) (dbr : DbrFields) → slice_get dbrs k ≡ Some dbr → k < length dbrs → seg < 2 ^ 15 → (places new : ℕ → Option ℕ) (firsts after : List ℕ) (key : Option ℕ) (table_number : ℕ) → table_number ≡ 2 ^ 15 * k + seg → MatchOption key ((x : ℕ) → IsDescriptorKey core dbr seg x → ⊥) (λ x. IsDescriptorKey core dbr seg x) → ((x : ℕ) → (h : IsDescriptorKey core dbr seg x) → h.odd < 2 ^ 36) → IsDescriptorRecorded places new firsts after key table_number → AreDescriptorsRecorded core dbrs (2 ^ 15 * k + seg) places firsts → AreDescriptorsRecorded core dbrs (2 ^ 15 * k + (seg + 1)) new after
+noted_step core dbrs few k seg dbr process there small places new firsts after key table_number e says odd noted s =
     let inside : 2 ^ 15 * k + seg < 2 ^ 15 * length dbrs = omega arith in
     let next : 2 ^ 15 * k + seg + 1 ≡ 2 ^ 15 * k + (seg + 1) = omega arith in
-    subst (λ (n : ℕ). AreNotedSo core dbrs n new after) next
+    subst (λ (n : ℕ). AreDescriptorsRecorded core dbrs n new after) next
     (noted_next core dbrs few (2 ^ 15 * k + seg) inside places new firsts after s (small_taken core dbrs few k dbr process seg small odd) key
     (λ x f. numbered core dbrs k seg x dbr process small (hit_of key _ _ says x f))
     (λ f x h. miss_of key _ _ says f x (key_taken core dbrs few k dbr process seg x small h))
-    (subst (AreRecordedFindings places new firsts after key) e noted))
+    (subst (IsDescriptorRecorded places new firsts after key) e noted))
 
-pub noted_rest : (core : List ℕ) (dbrs : List DbrFields) → length dbrs ≤ 8 → (k : ℕ) (dbr : DbrFields) → slice_get dbrs k ≡ Some dbr → (n m : ℕ) → ((q : ℕ) → in_bounds dbr q ≡ nat_lt q n) → n ≤ m → m ≤ 2 ^ 15 → (places : ℕ → Option ℕ) (firsts : List ℕ) → AreNotedSo core dbrs (2 ^ 15 * k + m) places firsts → AreNotedSo core dbrs (2 ^ 15 * (k + 1)) places firsts
+pub noted_rest : (core : List ℕ) (dbrs : List DbrFields) → length dbrs ≤ 8 → (k : ℕ) (dbr : DbrFields) → slice_get dbrs k ≡ Some dbr → (n m : ℕ) → ((q : ℕ) → has_descriptor_in_bounds dbr q ≡ nat_lt q n) → n ≤ m → m ≤ 2 ^ 15 → (places : ℕ → Option ℕ) (firsts : List ℕ) → AreDescriptorsRecorded core dbrs (2 ^ 15 * k + m) places firsts → AreDescriptorsRecorded core dbrs (2 ^ 15 * (k + 1)) places firsts
 noted_rest core dbrs few k dbr process n m bounds enough most places firsts s =
     noted_on core dbrs few (2 ^ 15 * k + m) (2 ^ 15 * (k + 1)) places firsts (omega arith) (none_past core dbrs few k dbr process n m bounds enough) s
 

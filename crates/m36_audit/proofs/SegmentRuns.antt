@@ -4,11 +4,11 @@ use Rattle.std.specs.Prelude.{◌⊎◌, Bool, true, false, nat_lt, List, length
 use Rattle.std.proofs.lemmas.Bool.{ltb-true, lt-leb, cases_lt}
 use Rattle.std.proofs.lemmas.List.{get_or_past, length-replicate, get_or-replicate}
 use Rattle.m36_desc.specs.Fields.{SdwFields, DbrFields}
-use Rattle.m36_desc.specs.Access.{in_order}
-use Rattle.m36_model.specs.Place.{in_bounds, core_sdw}
+use Rattle.m36_desc.specs.Access.{has_ordered_brackets}
+use Rattle.m36_model.specs.Place.{has_descriptor_in_bounds, core_sdw}
 use Rattle.m36_model.specs.declared.outcome.Refusal.{Refusal}
 use Rattle.m36_audit.specs.declared.run.Run.{Run}
-use Rattle.m36_audit.specs.Runs.{whole_run, page_run_by, page_run, run_by, run_ordered, run_of, run, counted, begins_at, ends_at, AreCounted}
+use Rattle.m36_audit.specs.Runs.{unpaged_run, page_run_by, page_run, run_by, run_if_ordered, run_of, run, counted, begins_at, ends_at, AreCounted}
 use Rattle.m36_audit.proofs.Bounds.{live_fits, live_in_bounds}
 use Rattle.m36_audit.proofs.Counting.{count_zero}
 use Rattle.m36_audit.proofs.Covering.{counted_more, counted_on, starts_most, stops_most}
@@ -37,9 +37,9 @@ counted_by runs n size starts stops r begun ended e f g c =
     subst (λ (l : List ℕ). AreCounted runs (n + 1) size l ended) (sym f) (subst (λ (l : List ℕ). AreCounted runs (n + 1) size (counted starts r.first) l) (sym g) (counted_more runs n size starts stops r e c))
 
 module _ (core : List ℕ) (dbr : DbrFields) (seg : ℕ) where
-  none_by : (v : Result SdwFields Refusal) → core_sdw core dbr seg ≡ v → ((d : SdwFields) → v ≡ Ok d → in_order d ≡ false) → (piece : ℕ) → run_of core v piece ≡ None
-  none_by (Err e) live off piece = refl
-  none_by (Ok d) live off piece = ap (λ (b : Bool). run_ordered b core d piece) (off d refl)
+  none_by : (v : Result SdwFields Refusal) → core_sdw core dbr seg ≡ v → ((d : SdwFields) → v ≡ Ok d → has_ordered_brackets d ≡ false) → (piece : ℕ) → run_of core v piece ≡ None
+  none_by (Err e) live_descriptor off piece = refl
+  none_by (Ok d) live_descriptor off piece = ap (λ (b : Bool). run_if_ordered b core d piece) (off d refl)
 
   -- a number of this segment
   at_number : (i : ℕ) → 256 * seg ≤ i → i < 256 * (seg + 1) → run core dbr i ≡ run_of core (core_sdw core dbr seg) (i - 256 * seg)
@@ -48,33 +48,33 @@ module _ (core : List ℕ) (dbr : DbrFields) (seg : ℕ) where
       ap (run core dbr) e ∙ run_at core dbr seg (i - 256 * seg) (omega arith)
 
   -- a segment without words
-  pub no_runs : ((d : SdwFields) → core_sdw core dbr seg ≡ Ok d → in_order d ≡ false) → (size : ℕ) (starts stops : List ℕ) → AreCounted (run core dbr) (256 * seg) size starts stops → AreCounted (run core dbr) (256 * (seg + 1)) size starts stops
+  pub no_runs : ((d : SdwFields) → core_sdw core dbr seg ≡ Ok d → has_ordered_brackets d ≡ false) → (size : ℕ) (starts stops : List ℕ) → AreCounted (run core dbr) (256 * seg) size starts stops → AreCounted (run core dbr) (256 * (seg + 1)) size starts stops
   no_runs off size starts stops c =
       counted_on (run core dbr) (256 * seg) (256 * (seg + 1)) size starts stops (omega arith)
       (λ i low high. at_number i low high ∙ none_by (core_sdw core dbr seg) refl off (i - 256 * seg)) c
 
-  module _ (d : SdwFields) (live : core_sdw core dbr seg ≡ Ok d) (order : in_order d ≡ true) where
+  module _ (d : SdwFields) (live_descriptor : core_sdw core dbr seg ≡ Ok d) (order : has_ordered_brackets d ≡ true) where
     -- the run of a number of a live segment
     pub live_at : (u : Bool) → d.unpaged ≡ u → (piece : ℕ) → piece < 256 → run core dbr (256 * seg + piece) ≡ run_by u core d piece
     live_at u e piece few =
-        run_at core dbr seg piece few ∙ run_live core d (core_sdw core dbr seg) piece live order ∙ ap (λ (b : Bool). run_by b core d piece) e
+        run_at core dbr seg piece few ∙ run_live core d (core_sdw core dbr seg) piece live_descriptor order ∙ ap (λ (b : Bool). run_by b core d piece) e
 
     live_number : (u : Bool) → d.unpaged ≡ u → (i : ℕ) → 256 * seg ≤ i → i < 256 * (seg + 1) → run core dbr i ≡ run_by u core d (i - 256 * seg)
     live_number u e i low high =
         let same : i ≡ 256 * seg + (i - 256 * seg) = omega arith in
         ap (run core dbr) same ∙ live_at u e (i - 256 * seg) (omega arith)
 
-    two_only : (piece : ℕ) → 2 ≤ piece → whole_run d piece ≡ None
+    two_only : (piece : ℕ) → 2 ≤ piece → unpaged_run d piece ≡ None
     two_only zero h = absurd (omega arith)
     two_only (suc zero) h = absurd (omega arith)
     two_only (suc (suc n)) h = refl
 
-    pub first_whole : d.unpaged ≡ true → run core dbr (256 * seg) ≡ whole_run d 0
+    pub first_whole : d.unpaged ≡ true → run core dbr (256 * seg) ≡ unpaged_run d 0
     first_whole whole =
         let e : 256 * seg ≡ 256 * seg + 0 = omega arith in
         ap (run core dbr) e ∙ live_at true whole 0 (omega arith)
 
-    pub second_whole : d.unpaged ≡ true → run core dbr (256 * seg + 1) ≡ whole_run d 1
+    pub second_whole : d.unpaged ≡ true → run core dbr (256 * seg + 1) ≡ unpaged_run d 1
     second_whole whole = live_at true whole 1 (omega arith)
 
     pub whole_done : d.unpaged ≡ true → (size : ℕ) (starts stops : List ℕ) → AreCounted (run core dbr) (256 * seg + 1 + 1) size starts stops → AreCounted (run core dbr) (256 * (seg + 1)) size starts stops
@@ -85,7 +85,7 @@ module _ (core : List ℕ) (dbr : DbrFields) (seg : ℕ) where
     -- one page
     pub page_at_number : d.unpaged ≡ false → (page : ℕ) → page ≤ d.bound / 64 → run core dbr (256 * seg + page) ≡ page_run core d page
     page_at_number paged page begins =
-        let bound = (live_fits core dbr seg d live).bound in
+        let bound = (live_fits core dbr seg d live_descriptor).bound in
         live_at false paged page (omega arith)
 
     pub page_absent : d.unpaged ≡ false → (page : ℕ) → page ≤ d.bound / 64 → None ≡ page_run core d page → (size : ℕ) (starts stops : List ℕ) → AreCounted (run core dbr) (256 * seg + page) size starts stops → AreCounted (run core dbr) (256 * seg + page + 1) size starts stops
@@ -99,11 +99,11 @@ module _ (core : List ℕ) (dbr : DbrFields) (seg : ℕ) where
         (λ i low high. live_number false paged i (omega arith) high ∙ ap (λ (b : Bool). page_run_by b core d (i - 256 * seg)) (lt-leb (i - 256 * seg) (d.bound / 64) (omega arith))) c
 
 -- once every segment in bounds was visited, all runs are counted
-module _ (core : List ℕ) (dbr : DbrFields) (n m : ℕ) (bounds : (q : ℕ) → in_bounds dbr q ≡ nat_lt q n) (enough : n ≤ m) (few : m ≤ 2 ^ 15) where
+module _ (core : List ℕ) (dbr : DbrFields) (n m : ℕ) (bounds : (q : ℕ) → has_descriptor_in_bounds dbr q ≡ nat_lt q n) (enough : n ≤ m) (few : m ≤ 2 ^ 15) where
   dead_by : (seg : ℕ) → m ≤ seg → (v : Result SdwFields Refusal) → core_sdw core dbr seg ≡ v → (piece : ℕ) → run_of core v piece ≡ None
-  dead_by seg far (Err e) live piece = refl
-  dead_by seg far (Ok d) live piece =
-      let lt : seg < n = ltb-true seg n (sym (bounds seg) ∙ live_in_bounds core dbr seg d live) in
+  dead_by seg far (Err e) live_descriptor piece = refl
+  dead_by seg far (Ok d) live_descriptor piece =
+      let lt : seg < n = ltb-true seg n (sym (bounds seg) ∙ live_in_bounds core dbr seg d live_descriptor) in
       absurd (omega arith)
 
   dead : (i : ℕ) → 256 * m ≤ i → run core dbr i ≡ None
@@ -114,10 +114,10 @@ module _ (core : List ℕ) (dbr : DbrFields) (n m : ℕ) (bounds : (q : ℕ) →
   all_counted size starts stops c =
       counted_on (run core dbr) (256 * m) (2 ^ 23) size starts stops (omega arith) (λ i low high. dead i low) c
 
-pub disorder_at : (core : List ℕ) (dbr : DbrFields) (seg : ℕ) (d : SdwFields) → core_sdw core dbr seg ≡ Ok d → in_order d ≡ false → (e : SdwFields) → core_sdw core dbr seg ≡ Ok e → in_order e ≡ false
-disorder_at core dbr seg d live off e live_too =
+pub disorder_at : (core : List ℕ) (dbr : DbrFields) (seg : ℕ) (d : SdwFields) → core_sdw core dbr seg ≡ Ok d → has_ordered_brackets d ≡ false → (e : SdwFields) → core_sdw core dbr seg ≡ Ok e → has_ordered_brackets e ≡ false
+disorder_at core dbr seg d live_descriptor off e live_too =
     let same : e ≡ d = cc in
-    ap in_order same ∙ off
+    ap has_ordered_brackets same ∙ off
 
 -- no run is counted
 pub nothing_counted : (runs : ℕ → Option Run) (size : ℕ) (starts stops : List ℕ) → starts ≡ replicate size 0 → stops ≡ replicate size 0 → AreCounted runs 0 size starts stops

@@ -5,7 +5,7 @@ use Rattle.std.specs.Prelude.{◌≡◌, ℕ, ◌+◌, ◌*◌, ◌/◌, ◌%◌
 use Rattle.std.specs.Prelude.{◌==◌, cond, slice_get, slice_index, slice_set, Option, Some, None, Ok}
 use Rattle.m36_word.specs.Pairs.{number_of}
 use Rattle.m36_desc.specs.Fields.{DbrFields}
-use Rattle.m36_model.specs.Place.{wrapped, sdw_place}
+use Rattle.m36_model.specs.Place.{wrapped_address, sdw_place}
 
 -- the number of descriptors of a process
 abbrev pub descriptors_of_process : ℕ
@@ -16,24 +16,24 @@ abbrev pub most_descriptors : ℕ
 most_descriptors = 2 ^ 18
 
 -- the two words of a segment's descriptor are in core, and this is their number
-pub record IsKey (core : List ℕ) (dbr : DbrFields) (seg key : ℕ) : Type 0 where
+pub record IsDescriptorKey (core : List ℕ) (dbr : DbrFields) (seg key : ℕ) : Type 0 where
   pub at : ℕ
-  pub found : sdw_place core dbr seg ≡ Ok at
+  pub findings_from_marks : sdw_place core dbr seg ≡ Ok at
   pub even : ℕ
   pub odd : ℕ
   pub even_is : slice_get core at ≡ Some even
-  pub odd_is : slice_get core (wrapped (at + 1)) ≡ Some odd
+  pub odd_is : slice_get core (wrapped_address (at + 1)) ≡ Some odd
   pub key_is : key ≡ number_of (record { even = even; odd = odd })
 
 -- the words of descriptor i have this number
 pub record KeyAt (core : List ℕ) (dbrs : List DbrFields) (i key : ℕ) : Type 0 where
   pub dbr : DbrFields
   pub process : slice_get dbrs (i / descriptors_of_process) ≡ Some dbr
-  pub is : IsKey core dbr (i % descriptors_of_process) key
+  pub is : IsDescriptorKey core dbr (i % descriptors_of_process) key
 
 -- Each of the first n descriptors that is in core has in `firsts` the number of one of these n with
 -- the same words. Descriptors with the same words have the same number.
-pub record AreClasses (core : List ℕ) (dbrs : List DbrFields) (n : ℕ) (firsts : List ℕ)
+pub record AreFirstEquals (core : List ℕ) (dbrs : List DbrFields) (n : ℕ) (firsts : List ℕ)
     : Type 0 where
   pub len : length firsts ≡ descriptors_of_process * length dbrs
   pub below : (i : ℕ) → slice_index firsts i < most_descriptors
@@ -47,23 +47,23 @@ pub record AreClasses (core : List ℕ) (dbrs : List DbrFields) (n : ℕ) (first
 
 -- One more descriptor is recorded: in the map from words to the number of the first descriptor with
 -- these words, and in the list of these numbers.
-abbrev pub FirstNoted : (ℕ → Option ℕ) → (ℕ → Option ℕ) → List ℕ → List ℕ → ℕ → ℕ → Option ℕ
+abbrev pub IsKeyRecorded : (ℕ → Option ℕ) → (ℕ → Option ℕ) → List ℕ → List ℕ → ℕ → ℕ → Option ℕ
     → Type 0
-FirstNoted old new firsts after key number (Some first) =
-    ((q : ℕ) → new q ≡ old q) × (after ≡ slice_set firsts number first)
-FirstNoted old new firsts after key number None =
-    ((q : ℕ) → new q ≡ cond (key == q) (Some number) (old q))
-    × (after ≡ slice_set firsts number number)
+IsKeyRecorded old new firsts after key table_number (Some first) =
+    ((q : ℕ) → new q ≡ old q) × (after ≡ slice_set firsts table_number first)
+IsKeyRecorded old new firsts after key table_number None =
+    ((q : ℕ) → new q ≡ cond (key == q) (Some table_number) (old q))
+    × (after ≡ slice_set firsts table_number table_number)
 
--- as `FirstNoted`, for a descriptor that may not be in core
-abbrev pub AreRecordedFindings : (ℕ → Option ℕ) → (ℕ → Option ℕ) → List ℕ → List ℕ → Option ℕ → ℕ → Type 0
-AreRecordedFindings old new firsts after None number = ((q : ℕ) → new q ≡ old q) × (after ≡ firsts)
-AreRecordedFindings old new firsts after (Some key) number =
-    FirstNoted old new firsts after key number (old key)
+-- as `IsKeyRecorded`, for a descriptor that may not be in core
+abbrev pub IsDescriptorRecorded : (ℕ → Option ℕ) → (ℕ → Option ℕ) → List ℕ → List ℕ → Option ℕ → ℕ → Type 0
+IsDescriptorRecorded old new firsts after None table_number = ((q : ℕ) → new q ≡ old q) × (after ≡ firsts)
+IsDescriptorRecorded old new firsts after (Some key) table_number =
+    IsKeyRecorded old new firsts after key table_number (old key)
 
--- The first n descriptors are recorded, with numbers as in `AreClasses`. The map has the number of
+-- The first n descriptors are recorded, with numbers as in `AreFirstEquals`. The map has the number of
 -- each of them by its words, and nothing else.
-pub record AreNotedSo (core : List ℕ) (dbrs : List DbrFields) (n : ℕ) (places : ℕ → Option ℕ)
+pub record AreDescriptorsRecorded (core : List ℕ) (dbrs : List DbrFields) (n : ℕ) (places : ℕ → Option ℕ)
     (firsts : List ℕ) : Type 0 where
   pub len : length firsts ≡ descriptors_of_process * length dbrs
   pub below : (i : ℕ) → slice_index firsts i < most_descriptors

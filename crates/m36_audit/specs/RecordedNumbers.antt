@@ -9,11 +9,11 @@ several = 4294967295
 
 -- the value of a word after one more number was recorded for it
 unfoldable pub with_number : ℕ → ℕ → ℕ
-with_number seen number = if seen == 0 || seen == number then number else several
+with_number seen table_number = if seen == 0 || seen == table_number then table_number else several
 
 -- the values after one more number was recorded for a word; a word past the end of core is ignored
 abbrev pub with_number_at : List ℕ → ℕ → ℕ → List ℕ
-with_number_at values a number = slice_set values a (with_number (slice_index values a) number)
+with_number_at values a table_number = slice_set values a (with_number (slice_index values a) table_number)
 
 -- two different numbers satisfy Has
 pub record TwoOf (Has : ℕ → Type 0) : Type 0 where

@@ -6,21 +6,21 @@ use Rattle.std.specs.Prelude.{slice_set, Option, Some, None, Result, Ok, Err}
 use Rattle.std.specs.Result.{result_ok}
 use Rattle.m36_word.specs.Bits.{of_bit}
 use Rattle.m36_desc.specs.Fields.{SdwFields, DbrFields}
-use Rattle.m36_desc.specs.Access.{in_order}
+use Rattle.m36_desc.specs.Access.{has_ordered_brackets}
 use Rattle.m36_model.specs.Place.{page_frame, last_page, core_sdw}
 use Rattle.m36_model.specs.declared.outcome.Refusal.{Refusal}
 use Rattle.m36_audit.specs.declared.run.Run.{Run}
 
 -- the number of words of a segment that are within its bound
-abbrev pub words : SdwFields → ℕ
-words d = 16 * (d.bound + 1)
+abbrev pub word_count : SdwFields → ℕ
+word_count d = 16 * (d.bound + 1)
 
 -- the two runs of an unpaged segment: its words up to the last address, and those past it, which
 -- continue at address 0
-abbrev pub whole_run : SdwFields → ℕ → Option Run
-whole_run d zero = Some (record { first = d.addr; end = min (d.addr + words d) (2 ^ 24) })
-whole_run d (suc zero) = Some (record { first = 0; end = (d.addr + words d) - 2 ^ 24 })
-whole_run d (suc (suc n)) = None
+abbrev pub unpaged_run : SdwFields → ℕ → Option Run
+unpaged_run d zero = Some (record { first = d.addr; end = min (d.addr + word_count d) (2 ^ 24) })
+unpaged_run d (suc zero) = Some (record { first = 0; end = (d.addr + word_count d) - 2 ^ 24 })
+unpaged_run d (suc (suc n)) = None
 
 -- the run of `count` words of a page that begins at this address, at most 1024 of them
 abbrev pub frame_run : Option ℕ → ℕ → Option Run
@@ -32,7 +32,7 @@ frame_run (Some frame) count = Some (record { first = frame; end = frame + min 1
 abbrev pub page_run_by : Bool → List ℕ → SdwFields → ℕ → Option Run
 page_run_by false core d page = None
 page_run_by true core d page =
-    frame_run (result_ok (page_frame core d page)) (words d - 1024 * page)
+    frame_run (result_ok (page_frame core d page)) (word_count d - 1024 * page)
 
 -- the run of a page: its words that are within the bound, if it is a page of the segment and in a
 -- frame
@@ -41,19 +41,19 @@ page_run core d page = page_run_by (nat_le page (last_page d)) core d page
 
 -- run `piece` of a segment: of its core words if it is unpaged (true), and otherwise of a page
 abbrev pub run_by : Bool → List ℕ → SdwFields → ℕ → Option Run
-run_by true core d piece = whole_run d piece
+run_by true core d piece = unpaged_run d piece
 run_by false core d piece = page_run core d piece
 
 -- run `piece` of a segment whose brackets are in order; one whose brackets are out of order (false)
 -- has no runs
-abbrev pub run_ordered : Bool → List ℕ → SdwFields → ℕ → Option Run
-run_ordered false core d piece = None
-run_ordered true core d piece = run_by d.unpaged core d piece
+abbrev pub run_if_ordered : Bool → List ℕ → SdwFields → ℕ → Option Run
+run_if_ordered false core d piece = None
+run_if_ordered true core d piece = run_by d.unpaged core d piece
 
--- as `run_ordered`, for a segment that may not be live
+-- as `run_if_ordered`, for a segment that may not be live
 abbrev pub run_of : List ℕ → Result SdwFields Refusal → ℕ → Option Run
 run_of core (Err e) piece = None
-run_of core (Ok d) piece = run_ordered (in_order d) core d piece
+run_of core (Ok d) piece = run_if_ordered (has_ordered_brackets d) core d piece
 
 -- The most pages of a segment. Each segment has this many numbers of runs. Segment numbers have 15
 -- bits, so a process has 2^23 numbers of runs.
@@ -116,12 +116,12 @@ ends_before a None = false
 ends_before a (Some r) = nat_lt r.end a
 
 -- the number of the first n runs that begin before word a and do not end before it
-pub record AreOpen (runs : ℕ → Option Run) (n a open_runs : ℕ) : Type 0 where
+pub record IsOpenCount (runs : ℕ → Option Run) (n a open_runs : ℕ) : Type 0 where
   pub sum : open_runs + count_below (λ i. ends_before a (runs i)) n
       ≡ count_below (λ i. begins_before a (runs i)) n
 
 -- no run ends before it begins
-pub record InOrder (runs : ℕ → Option Run) : Type 0 where
+pub record EndAfterBegin (runs : ℕ → Option Run) : Type 0 where
   pub each : (i : ℕ) (r : Run) → runs i ≡ Some r → r.first ≤ r.end
 
 -- the number of runs of all segments that cover a word

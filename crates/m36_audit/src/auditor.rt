@@ -1,10 +1,10 @@
 //! The audit of a core and a descriptor segment base register (DBR).
 
 ghost use Rattle.std.specs.Prelude.{ℕ, [], ◌≡◌, ◌^◌, ◌↔◌, IfOk, None, length, replicate};
-ghost use Rattle.m36_model.specs.Audit.{IsOf, AreFindings, IsAudited};
+ghost use Rattle.m36_model.specs.Audit.{IsWordOfTable, AreFindings, IsAudited};
 ghost use Rattle.m36_model.specs.Core.{core_store, core_tables};
 ghost use Rattle.m36_model.specs.Isolation.{Isolated};
-ghost use Rattle.m36_audit.specs.Findings.{pairs};
+ghost use Rattle.m36_audit.specs.Findings.{finding_pairs};
 ghost use Rattle.m36_audit.specs.TableMarks.{AreMarked};
 ghost use Rattle.m36_audit.specs.Runs.{runs_of_process, run, AreCounted};
 
@@ -14,7 +14,7 @@ use crate::segment_runs::count_segments;
 use crate::table_words::mark_tables;
 use crate::tables::TableMarks;
 use crate::verdict::{Verdict, note};
-use crate::words::{on_segment, on_table};
+use crate::word_count::{first_word_in_two_segments, first_table_and_segment_word};
 use arrayvec::ArrayVec;
 use m36_core::Core;
 use m36_desc::Dbr;
@@ -24,17 +24,17 @@ use std::alloc::Global;
 
 /// The findings for a DBR, in the order of the conditions. The table words are marked already, and
 /// the runs of the segments are counted.
-pub(crate) fn found(marks: &TableMarks, counts: &RunCounts, core: &Core, dbr: Dbr) -> Verdict
-    requires marked { AreMarked (IsOf core.now dbr) (length core.now) marks.now.tables
+pub(crate) fn findings_from_marks(marks: &TableMarks, counts: &RunCounts, core: &Core, dbr: Dbr) -> Verdict
+    requires marked { AreMarked (IsWordOfTable core.now dbr) (length core.now) marks.now.tables
         marks.now.least }
     requires counted { AreCounted (run core.now dbr) runs_of_process (length core.now)
         counts.now.starts counts.now.stops }
-    ensures { AreFindings core.now dbr (pairs result.findings.items) }
+    ensures { AreFindings core.now dbr (finding_pairs result.findings.items) }
 {
     let first = first_segment(Condition::Brackets, core, dbr);
     let second = marks.least;
-    let third = on_table(marks, counts, core, dbr);
-    let fourth = on_segment(counts, core, dbr);
+    let third = first_table_and_segment_word(marks, counts, core, dbr);
+    let fourth = first_word_in_two_segments(counts, core, dbr);
     let fifth = first_segment(Condition::Gate, core, dbr);
     let sixth = first_segment(Condition::Stack, core, dbr);
     let mut findings = ArrayVec::new();
@@ -54,11 +54,11 @@ fn findings_of(marks: &mut TableMarks, counts: &mut RunCounts, core: &Core, dbr:
     requires least { marks.old.least ≡ None }
     requires starts { counts.old.starts ≡ replicate (length core.now) 0 }
     requires stops { counts.old.stops ≡ replicate (length core.now) 0 }
-    ensures { AreFindings core.now dbr (pairs result.findings.items) }
+    ensures { AreFindings core.now dbr (finding_pairs result.findings.items) }
 {
     mark_tables(marks, core, dbr);
     count_segments(counts, core, dbr);
-    found(marks, counts, core, dbr)
+    findings_from_marks(marks, counts, core, dbr)
 }
 
 /// Decides the six audit conditions of the tables that a DBR gives to a core. For each condition
@@ -66,7 +66,7 @@ fn findings_of(marks: &mut TableMarks, counts: &mut RunCounts, core: &Core, dbr:
 /// breaks it. If there are none, all six conditions hold, and the tables isolate each ring from 1
 /// to 7. Fails only if memory runs out, before anything is read.
 pub fn audit(alloc: Global, core: &Core, dbr: Dbr) -> Result<Verdict, NoMemory>
-    ensures findings { IfOk result (λ v. AreFindings core.now dbr (pairs v.findings.items)) }
+    ensures findings { IfOk result (λ v. AreFindings core.now dbr (finding_pairs v.findings.items)) }
     ensures audited { IfOk result (λ v. (v.findings.items ≡ []) ↔ IsAudited core.now dbr) }
     ensures isolated { IfOk result (λ v. v.findings.items ≡ []
         → Isolated core_store (core_tables core.now dbr)) }

@@ -3,20 +3,20 @@
 ghost use Rattle.std.specs.Prelude.{ℕ, ◌≡◌, ◌<◌, ◌^◌};
 ghost use Rattle.std.specs.Bool.{Decides};
 ghost use Rattle.m36_model.specs.Audit.{IsOutOfOrder};
-ghost use Rattle.m36_audit.specs.Live.{disordered};
+ghost use Rattle.m36_audit.specs.Live.{has_disordered_brackets};
 ghost use Rattle.m36_model.specs.Place.{core_sdw};
 
-use crate::live::live;
+use crate::live_descriptor::live_descriptor;
 use m36_core::Core;
 use m36_desc::{Dbr, Sdw};
-use m36_tables::in_order;
+use m36_tables::has_ordered_brackets;
 
 /// Whether the brackets of the segment, if there is one, are out of order.
-fn disordered(found: Option<Sdw>) -> bool
-    ensures { result ≡ disordered found }
+fn has_disordered_brackets(findings_from_marks: Option<Sdw>) -> bool
+    ensures { result ≡ has_disordered_brackets findings_from_marks }
 {
-    match found {
-        Some(sdw) => !in_order(&sdw),
+    match findings_from_marks {
+        Some(sdw) => !has_ordered_brackets(&sdw),
         None => false,
     }
 }
@@ -27,5 +27,5 @@ pub(crate) fn is_out_of_order(core: &Core, dbr: Dbr, seg: u16) -> bool
     requires { seg < 2 ^ 15 }
     ensures { Decides result (IsOutOfOrder (core_sdw core.now dbr) seg) }
 {
-    disordered(live(core, dbr, seg))
+    has_disordered_brackets(live_descriptor(core, dbr, seg))
 }

@@ -7,16 +7,16 @@ ghost use Rattle.m36_model.specs.Audit.{AreFindings};
 ghost use Rattle.m36_model.specs.Core.{core_store, core_tables};
 ghost use Rattle.m36_model.specs.JointAudit.{AreFindingsFrom, AreJointFindings, IsJointlyAudited, most_processes};
 ghost use Rattle.m36_model.specs.JointIsolation.{JointlyIsolated};
-ghost use Rattle.m36_audit.specs.Findings.{pairs};
-ghost use Rattle.m36_audit.specs.Classes.{descriptors_of_process, AreClasses};
-ghost use Rattle.m36_audit.specs.Joints.{all_found, AreShares};
+ghost use Rattle.m36_audit.specs.Findings.{finding_pairs};
+ghost use Rattle.m36_audit.specs.Classes.{descriptors_of_process, AreFirstEquals};
+ghost use Rattle.m36_audit.specs.Joints.{all_found, AreWordOwners};
 
-use crate::auditor::found;
-use crate::classes::classes;
+use crate::auditor::findings_from_marks;
+use crate::equal_descriptors::equal_descriptors;
 use crate::identities::record_tables;
 use crate::joint_runs::count_processes;
-use crate::joint_verdict::{Joint, JointFinding, note_between, note_process};
-use crate::joint_words::{on_joint_segment, on_joint_table};
+use crate::joint_verdict::{JointVerdict, JointFinding, note_between, note_process};
+use crate::joint_words::{first_joint_segment_word, first_joint_table_word};
 use crate::owners::record_owners;
 use crate::recorded::RecordedNumbers;
 use crate::run::RunCounts;
@@ -76,16 +76,16 @@ fn findings_of(
     requires marks_len { length marks.old.tables ≡ length core.now }
     requires starts_len { length counts.old.starts ≡ length core.now }
     requires stops_len { length counts.old.stops ≡ length core.now }
-    requires classes { AreClasses core.now dbrs.now (descriptors_of_process * length dbrs.now) firsts.now.items }
-    requires before { AreShares core.now dbrs.now firsts.now.items k
+    requires equal_descriptors { AreFirstEquals core.now dbrs.now (descriptors_of_process * length dbrs.now) firsts.now.items }
+    requires before { AreWordOwners core.now dbrs.now firsts.now.items k
         shares.old.tables.values.items shares.old.segments.values.items
         shares.old.identities.values.items }
     ensures marks_len { length marks.new.tables ≡ length core.now }
     ensures starts_len { length counts.new.starts ≡ length core.now }
     ensures stops_len { length counts.new.stops ≡ length core.now }
     ensures findings { (dbr : DbrFields) → slice_get dbrs.now k ≡ Some dbr
-        → AreFindings core.now dbr (pairs result.findings.items) }
-    ensures after { AreShares core.now dbrs.now firsts.now.items (k + 1)
+        → AreFindings core.now dbr (finding_pairs result.findings.items) }
+    ensures after { AreWordOwners core.now dbrs.now firsts.now.items (k + 1)
         shares.new.tables.values.items shares.new.segments.values.items
         shares.new.identities.values.items }
 {
@@ -94,7 +94,7 @@ fn findings_of(
     counts.clear();
     mark_tables(marks, core, dbr);
     count_segments(counts, core, dbr);
-    let number = k as u32;
+    let table_number = k as u32;
     record_owners(
         &mut shares.tables,
         &mut shares.segments,
@@ -102,10 +102,10 @@ fn findings_of(
         counts,
         core,
         dbr,
-        number,
+        table_number,
     );
-    record_tables(&mut shares.identities, core, dbr, firsts, number);
-    found(marks, counts, core, dbr)
+    record_tables(&mut shares.identities, core, dbr, firsts, table_number);
+    findings_from_marks(marks, counts, core, dbr)
 }
 
 /// The findings of each process by itself, in the order of the processes. Records in `shares` which
@@ -122,15 +122,15 @@ fn findings_of_all(
     requires marks_len { length marks.old.tables ≡ length core.now }
     requires starts_len { length counts.old.starts ≡ length core.now }
     requires stops_len { length counts.old.stops ≡ length core.now }
-    requires classes { AreClasses core.now dbrs.now (descriptors_of_process * length dbrs.now) firsts.now.items }
-    requires before { AreShares core.now dbrs.now firsts.now.items 0
+    requires equal_descriptors { AreFirstEquals core.now dbrs.now (descriptors_of_process * length dbrs.now) firsts.now.items }
+    requires before { AreWordOwners core.now dbrs.now firsts.now.items 0
         shares.old.tables.values.items shares.old.segments.values.items
         shares.old.identities.values.items }
     ensures starts_len { length counts.new.starts ≡ length core.now }
     ensures stops_len { length counts.new.stops ≡ length core.now }
     ensures findings { AreFindingsFrom 0 core.now dbrs.now (all_found result.items) }
     ensures room { array_vec_len result ≤ 48 }
-    ensures after { AreShares core.now dbrs.now firsts.now.items (length dbrs.now)
+    ensures after { AreWordOwners core.now dbrs.now firsts.now.items (length dbrs.now)
         shares.new.tables.values.items shares.new.segments.values.items
         shares.new.identities.values.items }
 {
@@ -151,19 +151,19 @@ fn joint_findings(
     core: &Core,
     dbrs: &[Dbr],
     firsts: &Vec<u32>,
-) -> Joint
+) -> JointVerdict
     requires few { length dbrs.now ≤ most_processes }
     requires marks_len { length marks.old.tables ≡ length core.now }
     requires starts_len { length counts.old.starts ≡ length core.now }
     requires stops_len { length counts.old.stops ≡ length core.now }
-    requires classes { AreClasses core.now dbrs.now (descriptors_of_process * length dbrs.now) firsts.now.items }
-    requires before { AreShares core.now dbrs.now firsts.now.items 0
+    requires equal_descriptors { AreFirstEquals core.now dbrs.now (descriptors_of_process * length dbrs.now) firsts.now.items }
+    requires before { AreWordOwners core.now dbrs.now firsts.now.items 0
         shares.old.tables.values.items shares.old.segments.values.items
         shares.old.identities.values.items }
     ensures { AreJointFindings core.now dbrs.now (all_found result.findings.items) }
 {
     let mut findings = findings_of_all(marks, counts, shares, core, dbrs, firsts);
-    let second = on_joint_table(
+    let second = first_joint_table_word(
         &shares.tables,
         &shares.segments,
         &shares.identities,
@@ -173,10 +173,10 @@ fn joint_findings(
     );
     counts.clear();
     count_processes(counts, core, dbrs, firsts);
-    let third = on_joint_segment(&shares.segments, counts, core, dbrs, firsts);
+    let third = first_joint_segment_word(&shares.segments, counts, core, dbrs, firsts);
     note_between(&mut findings, 2, second);
     note_between(&mut findings, 3, third);
-    Joint { findings }
+    JointVerdict { findings }
 }
 
 /// Decides the joint audit of one to eight processes on one core, by their DBRs. The conditions are
@@ -191,7 +191,7 @@ fn joint_findings(
 /// that fails, the least core word that breaks it. If there are none, every schedule of the
 /// processes is isolated in each ring from 1 to 7. Fails only if memory runs out, before any
 /// finding is made.
-pub fn joint(alloc: Global, core: &Core, dbrs: &[Dbr]) -> Result<Joint, NoMemory>
+pub fn joint_audit(alloc: Global, core: &Core, dbrs: &[Dbr]) -> Result<JointVerdict, NoMemory>
     requires some { 1 ≤ length dbrs.now }
     requires few { length dbrs.now ≤ most_processes }
     ensures findings { IfOk result (λ j. AreJointFindings core.now dbrs.now
@@ -205,7 +205,7 @@ pub fn joint(alloc: Global, core: &Core, dbrs: &[Dbr]) -> Result<Joint, NoMemory
     let mut marks = TableMarks::new(alloc, size)?;
     let mut counts = RunCounts::new(alloc, size)?;
     let mut shares = WordOwners::new(alloc, size)?;
-    let firsts = classes(alloc, core, dbrs)?;
+    let firsts = equal_descriptors(alloc, core, dbrs)?;
     law_joint_findings();
     law_schedule();
     Ok(joint_findings(&mut marks, &mut counts, &mut shares, core, dbrs, &firsts))

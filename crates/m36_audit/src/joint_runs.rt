@@ -2,19 +2,19 @@
 //! only the runs of the first one are counted.
 
 ghost use Rattle.std.specs.Prelude.{ℕ, ◌≡◌, ◌+◌, ◌*◌, ◌/◌, ◌<◌, ◌≤◌, ◌^◌, Ok, Some, true, length, slice_get, slice_index};
-ghost use Rattle.m36_desc.specs.Access.{in_order};
+ghost use Rattle.m36_desc.specs.Access.{has_ordered_brackets};
 ghost use Rattle.m36_model.specs.JointAudit.{most_processes};
 ghost use Rattle.m36_model.specs.Place.{core_sdw};
 ghost use Rattle.m36_audit.specs.Runs.{runs_of_segment, runs_of_process, run_by, AreCounted};
 ghost use Rattle.m36_audit.specs.Classes.{descriptors_of_process, most_descriptors};
-ghost use Rattle.m36_audit.specs.WordOwners.{joint_run, piece_count, starts_with, stops_with, HasRoom};
+ghost use Rattle.m36_audit.specs.WordOwners.{joint_run, piece_count, with_start, with_stop, HasRoom};
 
-use crate::live::live;
+use crate::live_descriptor::live_descriptor;
 use crate::run::{Run, RunCounts};
-use crate::segment_runs::{first_run, page_run, second_run};
+use crate::segment_runs::{unpaged_first_run, page_run, unpaged_second_run};
 use m36_core::Core;
 use m36_desc::{Dbr, Sdw};
-use m36_tables::{in_order, segment_count};
+use m36_tables::{has_ordered_brackets, segment_count};
 
 /// The most runs that a segment has.
 fn pieces(sdw: &Sdw) -> u32
@@ -38,9 +38,9 @@ fn piece_run(core: &Core, sdw: &Sdw, piece: u32) -> Option<Run>
         return page_run(core, sdw, piece);
     }
     if piece == 0 {
-        Some(first_run(sdw))
+        Some(unpaged_first_run(sdw))
     } else {
-        Some(second_run(sdw))
+        Some(unpaged_second_run(sdw))
     }
 }
 
@@ -50,9 +50,9 @@ fn count_piece(counts: &mut RunCounts, core: &Core, sdw: &Sdw, piece: u32)
     requires room { HasRoom counts.old.starts }
     requires room_at_end { HasRoom counts.old.stops }
     ensures starts { counts.new.starts
-        ≡ starts_with (run_by sdw.now.unpaged core.now sdw.now piece) counts.old.starts }
+        ≡ with_start (run_by sdw.now.unpaged core.now sdw.now piece) counts.old.starts }
     ensures stops { counts.new.stops
-        ≡ stops_with (run_by sdw.now.unpaged core.now sdw.now piece) counts.old.stops }
+        ≡ with_stop (run_by sdw.now.unpaged core.now sdw.now piece) counts.old.stops }
 {
     match piece_run(core, sdw, piece) {
         Some(run) => counts.add(run),
@@ -60,24 +60,24 @@ fn count_piece(counts: &mut RunCounts, core: &Core, sdw: &Sdw, piece: u32)
     }
 }
 
-/// Counts all runs of a segment that is live and has its brackets in order. `number` is the number
+/// Counts all runs of a segment that is live and has its brackets in order. `table_number` is the number
 /// of its descriptor among those of all processes.
 fn count_pieces(
     counts: &mut RunCounts,
     core: &Core,
     dbrs: &[Dbr],
     firsts: &Vec<u32>,
-    number: u32,
+    table_number: u32,
     sdw: &Sdw,
 )
     requires few { length dbrs.now ≤ most_processes }
-    requires small { number < most_descriptors }
+    requires small { table_number < most_descriptors }
     requires runs { (piece : ℕ) → piece < runs_of_segment
-        → joint_run core.now dbrs.now firsts.now.items (runs_of_segment * number + piece)
+        → joint_run core.now dbrs.now firsts.now.items (runs_of_segment * table_number + piece)
         ≡ run_by sdw.now.unpaged core.now sdw.now piece }
-    requires before { AreCounted (joint_run core.now dbrs.now firsts.now.items) (runs_of_segment * number)
+    requires before { AreCounted (joint_run core.now dbrs.now firsts.now.items) (runs_of_segment * table_number)
         (length core.now) counts.old.starts counts.old.stops }
-    ensures { AreCounted (joint_run core.now dbrs.now firsts.now.items) (runs_of_segment * (number + 1))
+    ensures { AreCounted (joint_run core.now dbrs.now firsts.now.items) (runs_of_segment * (table_number + 1))
         (length core.now) counts.new.starts counts.new.stops }
 {
     for piece in 0..pieces(sdw) {
@@ -87,7 +87,7 @@ fn count_pieces(
 
 /// Counts the runs of a segment, if its descriptor is the first with its words, it is live, and its
 /// brackets are in order.
-fn count_first(
+fn count_segment_if_first(
     counts: &mut RunCounts,
     core: &Core,
     dbrs: &[Dbr],
@@ -106,14 +106,14 @@ fn count_first(
         (runs_of_segment * (descriptors_of_process * k + seg + 1)) (length core.now) counts.new.starts
         counts.new.stops }
 {
-    let number = (1 << 15) * k as u32 + seg as u32;
-    if firsts[number as usize] != number {
+    let table_number = (1 << 15) * k as u32 + seg as u32;
+    if firsts[table_number as usize] != table_number {
         return;
     }
-    match live(core, dbrs[k], seg) {
+    match live_descriptor(core, dbrs[k], seg) {
         Some(sdw) => {
-            if in_order(&sdw) {
-                count_pieces(counts, core, dbrs, firsts, number, &sdw);
+            if has_ordered_brackets(&sdw) {
+                count_pieces(counts, core, dbrs, firsts, table_number, &sdw);
             }
         }
         None => {}
@@ -133,7 +133,7 @@ fn count_process(counts: &mut RunCounts, core: &Core, dbrs: &[Dbr], firsts: &Vec
         counts.new.stops }
 {
     for seg in 0..segment_count(dbrs[k]) {
-        count_first(counts, core, dbrs, firsts, k, seg);
+        count_segment_if_first(counts, core, dbrs, firsts, k, seg);
     }
 }
 

@@ -3,8 +3,8 @@
 ghost use Rattle.std.specs.Prelude.{ℕ, [], ◌≡◌, ◌++◌, ◌+◌, ◌*◌, ◌<◌, ◌≤◌, Some, None};
 ghost use Rattle.std.specs.Bool.{Decides};
 ghost use Rattle.arrayvec.specs.ArrayVec.{array_vec_len};
-ghost use Rattle.m36_model.specs.JointAudit.{between, of_process};
-ghost use Rattle.m36_audit.specs.Findings.{pairs};
+ghost use Rattle.m36_model.specs.JointAudit.{between, findings_of_process};
+ghost use Rattle.m36_audit.specs.Findings.{finding_pairs};
 ghost use Rattle.m36_audit.specs.Joints.{all_found};
 
 use crate::verdict::Verdict;
@@ -38,13 +38,13 @@ impl Default for JointFinding {
 /// The findings of a joint audit: those of each process in order, and one for each condition
 /// between processes that fails.
 #[derive(Drop)]
-pub struct Joint {
+pub struct JointVerdict {
     pub findings: ArrayVec<JointFinding, 50>,
 }
 
-impl Joint {
+impl JointVerdict {
     /// Whether there are no findings: all conditions hold.
-    pub fn yes(&self) -> bool
+    pub fn has_no_findings(&self) -> bool
         ensures { Decides result (self.now.findings.items ≡ []) }
     {
         self.findings.is_empty()
@@ -55,7 +55,7 @@ impl Joint {
 pub(crate) fn note_process(findings: &mut ArrayVec<JointFinding, 50>, process: u8, own: &Verdict)
     requires room { array_vec_len findings.old ≤ 42 }
     ensures listed { all_found findings.new.items
-        ≡ all_found findings.old.items ++ of_process process (pairs own.now.findings.items) }
+        ≡ all_found findings.old.items ++ findings_of_process process (finding_pairs own.now.findings.items) }
     ensures len { array_vec_len findings.new ≤ array_vec_len findings.old + 6 }
 {
     let list = own.findings.as_slice();
@@ -72,14 +72,14 @@ pub(crate) fn note_process(findings: &mut ArrayVec<JointFinding, 50>, process: u
 pub(crate) fn note_between(
     findings: &mut ArrayVec<JointFinding, 50>,
     condition: u8,
-    found: Option<u32>,
+    findings_from_marks: Option<u32>,
 )
     requires room { array_vec_len findings.old < 50 }
     ensures listed { all_found findings.new.items
-        ≡ all_found findings.old.items ++ between condition found }
+        ≡ all_found findings.old.items ++ between condition findings_from_marks }
     ensures len { array_vec_len findings.new ≤ array_vec_len findings.old + 1 }
 {
-    match found {
+    match findings_from_marks {
         Some(place) => findings.push(JointFinding {
             place,
             process: None,

@@ -17,10 +17,10 @@
 //! exactly if all six conditions hold (`audited`), and then each ring r from 1 to 7 is isolated
 //! (`isolated`): for programs in ring r and above, up to a fault, a stop or a gate call, no word
 //! changes that ring r may not write, and no record depends on a word that ring r may not read.
-//! `Verdict::yes` says whether there are no findings. The only error is `NoMemory`, before anything
+//! `Verdict::has_no_findings` says whether there are no findings. The only error is `NoMemory`, before anything
 //! is read.
 //!
-//! `joint` decides the same for one to eight processes on one core, each with its DBR, and two
+//! `joint_audit` decides the same for one to eight processes on one core, each with its DBR, and two
 //! conditions between them. No table word of one process is a table word or a segment word of
 //! another, except in the page table of a segment that both have. No segment word of one is at the
 //! core address of one of another, except for the same word of such a segment. Two segments are the
@@ -37,7 +37,7 @@
 //! knows how many runs are open at each word. It ends at the last word at which a run begins, since
 //! after it the number of open runs does not grow.
 //!
-//! Cost of `joint`: three more numbers for each core word, and one for each descriptor. The marks
+//! Cost of `joint_audit`: three more numbers for each core word, and one for each descriptor. The marks
 //! and counts are used again for each process. Three values are recorded for each core word, each
 //! of them "none", one number, or "several": the process that has a table word there, the process
 //! that has a segment word there, and the table. Each descriptor gets the number of the first one
@@ -57,14 +57,14 @@
 pub mod auditor;
 mod brackets;
 mod breaking;
-mod classes;
+mod equal_descriptors;
 mod gates;
 mod identities;
 pub mod joint_auditor;
 mod joint_runs;
 pub mod joint_verdict;
 mod joint_words;
-mod live;
+mod live_descriptor;
 mod owners;
 mod recorded;
 mod run;
@@ -72,9 +72,9 @@ mod segment_runs;
 mod table_words;
 mod tables;
 pub mod verdict;
-mod words;
+mod word_count;
 
 pub use auditor::audit;
-pub use joint_auditor::joint;
-pub use joint_verdict::{Joint, JointFinding};
+pub use joint_auditor::joint_audit;
+pub use joint_verdict::{JointVerdict, JointFinding};
 pub use verdict::{Finding, Verdict};

@@ -1,26 +1,26 @@
 //! Which processes have table words and segment words at each core word.
 
 ghost use Rattle.std.specs.Prelude.{ℕ, ◌≡◌, ◌+◌, ◌<◌, ◌≤◌, ◌^◌, ◌==◌, not, nat_lt, length, slice_index, slice_set};
-ghost use Rattle.m36_model.specs.Audit.{IsOf};
+ghost use Rattle.m36_model.specs.Audit.{IsWordOfTable};
 ghost use Rattle.m36_model.specs.JointAudit.{most_processes};
 ghost use Rattle.m36_audit.specs.TableMarks.{AreMarked};
 ghost use Rattle.m36_audit.specs.Runs.{runs_of_process, run, coverage, AreCounted};
 ghost use Rattle.m36_audit.specs.RecordedNumbers.{with_number_at};
-ghost use Rattle.m36_audit.specs.WordOwners.{owned_at, AreOwned};
+ghost use Rattle.m36_audit.specs.WordOwners.{with_owner_at, AreOwned};
 
 use crate::recorded::RecordedNumbers;
 use crate::run::RunCounts;
 use crate::tables::TableMarks;
-use crate::words::open_at;
+use crate::word_count::open_runs_at;
 use m36_core::Core;
 use m36_desc::Dbr;
 
 /// Records a process for a core word, if it has something there.
-fn record_owner(recorded: &mut RecordedNumbers, a: u32, has: bool, number: u32)
-    ensures { recorded.new.values.items ≡ owned_at has recorded.old.values.items a number }
+fn record_owner(recorded: &mut RecordedNumbers, a: u32, has: bool, table_number: u32)
+    ensures { recorded.new.values.items ≡ with_owner_at has recorded.old.values.items a table_number }
 {
     if has {
-        recorded.record_number(a, number);
+        recorded.record_number(a, table_number);
     }
 }
 
@@ -48,7 +48,7 @@ pub(crate) fn record_owners(
 {
     let mut open_runs = 0;
     for a in 0..core.len() {
-        open_runs = open_at(counts, core, dbr, a, open_runs);
+        open_runs = open_runs_at(counts, core, dbr, a, open_runs);
         record_owner(tables, a, marks.tables.at(a) != 0, k + 1);
         record_owner(segments, a, open_runs > 0, k + 1);
     }

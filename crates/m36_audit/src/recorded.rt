@@ -19,11 +19,11 @@ pub(crate) struct RecordedNumbers {
 
 /// The value of a word after one more number was recorded for it.
 #[tactic(auto, unfolding(crate::specs::RecordedNumbers::with_number))]
-fn with_number(seen: u32, number: u32) -> u32
-    ensures { result ≡ with_number seen number }
+fn with_number(seen: u32, table_number: u32) -> u32
+    ensures { result ≡ with_number seen table_number }
 {
-    if seen == 0 || seen == number {
-        number
+    if seen == 0 || seen == table_number {
+        table_number
     } else {
         SEVERAL
     }
@@ -39,12 +39,12 @@ impl RecordedNumbers {
     }
 
     /// Records a number for a core word. A word past the end of core is ignored.
-    pub(crate) fn record_number(&mut self, a: u32, number: u32)
-        ensures { self.new.values.items ≡ with_number_at self.old.values.items a number }
+    pub(crate) fn record_number(&mut self, a: u32, table_number: u32)
+        ensures { self.new.values.items ≡ with_number_at self.old.values.items a table_number }
     {
         let index = a as usize;
         if index < self.values.len() {
-            self.values[index] = with_number(self.values[index], number);
+            self.values[index] = with_number(self.values[index], table_number);
         }
     }
 

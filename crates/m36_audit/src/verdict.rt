@@ -3,8 +3,8 @@
 ghost use Rattle.std.specs.Prelude.{ℕ, [], ◌≡◌, ◌++◌, ◌+◌, ◌<◌, ◌≤◌};
 ghost use Rattle.std.specs.Bool.{Decides};
 ghost use Rattle.arrayvec.specs.ArrayVec.{array_vec_len};
-ghost use Rattle.m36_model.specs.Audit.{noted};
-ghost use Rattle.m36_audit.specs.Findings.{pairs};
+ghost use Rattle.m36_model.specs.Audit.{numbered_finding};
+ghost use Rattle.m36_audit.specs.Findings.{finding_pairs};
 
 use arrayvec::ArrayVec;
 
@@ -38,7 +38,7 @@ pub struct Verdict {
 
 impl Verdict {
     /// Whether there are no findings: all six conditions hold.
-    pub fn yes(&self) -> bool
+    pub fn has_no_findings(&self) -> bool
         ensures { Decides result (self.now.findings.items ≡ []) }
     {
         self.findings.is_empty()
@@ -46,12 +46,12 @@ impl Verdict {
 }
 
 /// Adds the finding that this place breaks the condition; nothing if no place does.
-pub(crate) fn note(findings: &mut ArrayVec<Finding, 6>, condition: u8, found: Option<u32>)
+pub(crate) fn note(findings: &mut ArrayVec<Finding, 6>, condition: u8, findings_from_marks: Option<u32>)
     requires room { array_vec_len findings.old < 6 }
-    ensures listed { pairs findings.new.items ≡ pairs findings.old.items ++ noted condition found }
+    ensures listed { finding_pairs findings.new.items ≡ finding_pairs findings.old.items ++ numbered_finding condition findings_from_marks }
     ensures len { array_vec_len findings.new ≤ array_vec_len findings.old + 1 }
 {
-    match found {
+    match findings_from_marks {
         Some(place) => findings.push(Finding { place, condition }),
         None => {}
     }

@@ -1,7 +1,7 @@
 -- The history of a machine whose turns are a function of its state: the first state, the state
 -- that the turn from it leaves, the state that the turn from that leaves, and so on.
 use Rattle.std.specs.Prelude.{ℕ, zero, suc, ◌≡◌, ◌-◌, ◌<◌, ◌≤◌, ◌==◌, if◌then◌else◌}
-use Rattle.m36_step.specs.Counting.{most_taken, counted}
+use Rattle.m36_step.specs.Counting.{step_count_limit, step_count_after}
 use Rattle.m36_step.specs.declared.turns.Turn.{Turn}
 use Rattle.m36_step.specs.declared.turns.Turn.TheVariants.{Full}
 use Rattle.m36_step.specs.declared.turns.BackAnswer.{BackAnswer}
@@ -27,12 +27,12 @@ current_state after h = state_at after h.first h.taken
 -- steps is at its maximum
 abbrev pub past_answer : {M : Type 0} → (M → Turn) → (M → M) → History M → Turn
 past_answer answer after h =
-    if h.taken == most_taken then Full else answer (current_state after h)
+    if h.taken == step_count_limit then Full else answer (current_state after h)
 
 -- the history after the turn of `past_answer`: a step adds one to the count
 abbrev pub past_after : {M : Type 0} → (M → Turn) → (M → M) → History M → History M
 past_after answer after h =
-    record { first = h.first; taken = counted h.taken (past_answer answer after h) }
+    record { first = h.first; taken = step_count_after h.taken (past_answer answer after h) }
 
 -- the machine makes this turn, and its history is `later` after it
 abbrev pub PastTurns :

@@ -1,8 +1,8 @@
 -- Laws of a machine that goes back.
 use Rattle.std.specs.Prelude.{ℕ, suc, ◌≡◌, ◌==◌, ◌⊎◌, Bool, true, false, if◌then◌else◌}
 use Rattle.std.proofs.Common.{inl, inr, subst, ap, ◌∙◌, add-one}
-use Rattle.m36_step.specs.Answers.{IsDone, IsService, IsStep, IsStepOrEnd, PrecludesStep}
-use Rattle.m36_step.specs.Counting.{most_taken, counted}
+use Rattle.m36_step.specs.Answers.{HasGoneBack, IsService, IsStep, IsStepOrEnd, PrecludesStep}
+use Rattle.m36_step.specs.Counting.{step_count_limit, step_count_after}
 use Rattle.m36_step.specs.declared.turns.Turn.{Turn}
 use Rattle.m36_step.specs.declared.turns.Turn.TheVariants.{Stepped, Linked, Console, Ended, Full}
 use Rattle.m36_step.specs.declared.turns.Turn.TheVariants.{NoMemory}
@@ -13,7 +13,7 @@ use Rattle.m36_back.specs.History.{History, state_at, current_state, past_answer
 -- going back changes nothing unless it answers Done
 pub past_stays :
     {M : Type 0} (before : History M) (n : ℕ) (answer : BackAnswer) (later : History M)
-    → MayGoBack before n answer later → IsDone answer ⊎ (later ≡ before)
+    → MayGoBack before n answer later → HasGoneBack answer ⊎ (later ≡ before)
 past_stays before n back.Done later went = inl tt
 past_stays before n (back.Before taken) later went = inr went.2
 past_stays before n back.Unable later went = absurd went
@@ -42,7 +42,7 @@ pub past_apart :
     → IsService one → IsService two → ⊥
 past_apart answer after kept first second third one two turns further service other =
     no_service_if (after (current_state after first) ≡ current_state after first)
-    (first.taken == most_taken) (answer (current_state after first))
+    (first.taken == step_count_limit) (answer (current_state after first))
     (kept (current_state after first)) (subst IsService turns.0 service)
 
 -- ---- a turn that interrupts is not followed by a step
@@ -59,7 +59,7 @@ no_step_if false turn none step = none step
 
 -- a turn that interrupts is a step, and counts 1
 counts_one : (Same : Type 0) (taken : ℕ) (turn : Turn)
-    → IsStepOrEnd Same turn → PrecludesStep turn → counted taken turn ≡ suc taken
+    → IsStepOrEnd Same turn → PrecludesStep turn → step_count_after taken turn ≡ suc taken
 counts_one Same taken (Stepped told) kept interrupts = add-one taken
 counts_one Same taken (Linked note) kept interrupts = absurd kept
 counts_one Same taken (Console text) kept interrupts = absurd kept
@@ -69,7 +69,7 @@ counts_one Same taken NoMemory kept interrupts = absurd interrupts
 
 counts_one_if : (Same : Type 0) (full : Bool) (taken : ℕ) (turn : Turn)
     → IsStepOrEnd Same turn → PrecludesStep (if full then Full else turn)
-    → counted taken (if full then Full else turn) ≡ suc taken
+    → step_count_after taken (if full then Full else turn) ≡ suc taken
 counts_one_if Same true taken turn kept interrupts = absurd interrupts
 counts_one_if Same false taken turn kept interrupts = counts_one Same taken turn kept interrupts
 
@@ -84,13 +84,13 @@ pub past_interrupted :
 unfolding state_at
 past_interrupted answer after kept held first second third one two turns further last step =
     let here = current_state after first in
-    let full = first.taken == most_taken in
+    let full = first.taken == step_count_limit in
     let interrupts = subst PrecludesStep turns.0 last in
-    let count : counted first.taken (past_answer answer after first) ≡ suc first.taken =
+    let count : step_count_after first.taken (past_answer answer after first) ≡ suc first.taken =
     counts_one_if (after here ≡ here) full first.taken (answer here) (kept here) interrupts in
     let there : current_state after second ≡ after here =
     ap (current_state after) turns.1 ∙ ap (state_at after first.first) count in
-    no_step_if (second.taken == most_taken) (answer (current_state after second))
+    no_step_if (second.taken == step_count_limit) (answer (current_state after second))
     (λ stepped.
     held here (interrupts_if full (answer here) interrupts)
     (subst (λ state. IsStep (answer state)) there stepped))

@@ -21,7 +21,7 @@ pub struct Kept<M> {
 /// A copy of the last kept state whose number is at most `target`, or of the first state if there
 /// is none. Fails only with `NoMemory`.
 #[tactic(auto, unfolding(crate::specs::History::state_at))]
-pub(crate) fn nearest<M: Replay + Drop>(
+pub(crate) fn copy_nearest<M: Replay + Drop>(
     alloc: Global,
     first: &M,
     kept: &[Kept<M>],

@@ -1,9 +1,9 @@
 //! A machine that goes back.
 
 ghost use Rattle.std.specs.Prelude.{ℕ, ◌≡◌, ◌-◌, ◌<◌, ◌^◌, MatchResult};
-ghost use Rattle.m36_step.specs.Counting.{most_taken, counted};
+ghost use Rattle.m36_step.specs.Counting.{step_count_limit, step_count_after};
 
-use crate::kept::{Kept, drop_later, keep, nearest};
+use crate::kept::{Kept, drop_later, keep, copy_nearest};
 use crate::replaying::replay;
 use m36_model::Regs;
 use m36_step::{BackAnswer, Replay, Stepper, Turn};
@@ -69,8 +69,8 @@ impl<M: Replay + Drop> Past<M> {
 
 // The count of steps after a turn: one more if the turn is a step.
 fn count(taken: u64, turn: &Turn) -> u64
-    requires { taken < most_taken }
-    ensures { result ≡ counted taken turn.now }
+    requires { taken < step_count_limit }
+    ensures { result ≡ step_count_after taken turn.now }
 {
     match turn {
         Turn::Stepped(_) => taken + 1,
@@ -119,7 +119,7 @@ impl<M: Replay + Drop> Stepper for Past<M> {
             return BackAnswer::Before(self.taken);
         }
         let target = self.taken - n;
-        match nearest(self.alloc, &self.first, &self.kept, target) {
+        match copy_nearest(self.alloc, &self.first, &self.kept, target) {
             Err(_) => BackAnswer::NoMemory,
             Ok(Kept { at, state }) => {
                 let mut machine = state;

@@ -85,7 +85,7 @@ pub enum Loop {
 }
 
 /// The word number in segment 1 at which a loop begins.
-fn begin(chosen: Loop) -> u32
+fn start_word(chosen: Loop) -> u32
     ensures { result < 2 ^ 18 }
 {
     match chosen {
@@ -95,7 +95,7 @@ fn begin(chosen: Loop) -> u32
 }
 
 /// The core address of the word that a loop increments once in each pass.
-fn counted_place(chosen: Loop) -> u32 {
+fn counter_address(chosen: Loop) -> u32 {
     match chosen {
         Loop::Simple => 0o2103,
         Loop::Mixed => 0o2331,
@@ -103,7 +103,7 @@ fn counted_place(chosen: Loop) -> u32 {
 }
 
 /// Stores words into core, each at its place; a place out of core is skipped.
-fn put(core: &mut Core, words: &[(u32, u64)]) {
+fn put_words(core: &mut Core, words: &[(u32, u64)]) {
     for (place, word) in words {
         if *place < core.len() {
             core.poke(*place, Word::low(*word));
@@ -114,9 +114,9 @@ fn put(core: &mut Core, words: &[(u32, u64)]) {
 /// Core with the descriptor, the page table and both loops. Fails only with `NoMemory`.
 fn core(alloc: Global, paged: bool) -> Result<Core, NoMemory> {
     let mut core = Core::new(alloc, 2)?;
-    put(&mut core, if paged { &PAGED } else { &UNPAGED });
-    put(&mut core, &SIMPLE);
-    put(&mut core, &MIXED);
+    put_words(&mut core, if paged { &PAGED } else { &UNPAGED });
+    put_words(&mut core, &SIMPLE);
+    put_words(&mut core, &MIXED);
     Ok(core)
 }
 
@@ -152,13 +152,13 @@ fn regs(dbr: Dbr, ic: u32) -> Regs
 /// The machine before the first step of a loop, in a paged or an unpaged segment. Fails only with
 /// `NoMemory`.
 pub fn machine(alloc: Global, paged: bool, chosen: Loop) -> Result<Machine, NoMemory> {
-    Ok(Machine::start(core(alloc, paged)?, regs(DBR, begin(chosen))))
+    Ok(Machine::start(core(alloc, paged)?, regs(DBR, start_word(chosen))))
 }
 
 /// The number of times that the loop has run.
-pub fn counted(machine: &Machine, chosen: Loop) -> u64 {
+pub fn loop_count(machine: &Machine, chosen: Loop) -> u64 {
     let core = machine.walk().core();
-    let place = counted_place(chosen);
+    let place = counter_address(chosen);
     if place < core.len() {
         core.peek(place).value()
     } else {

@@ -20,9 +20,9 @@ mod image;
 mod lines;
 mod running;
 
-use image::{Loop, counted, machine};
+use image::{Loop, loop_count, machine};
 use m36_step::Machine;
-use running::{StepCount, quick_steps, with_lines, without_lines};
+use running::{StepCount, take_quiet_steps, take_steps_with_lines, take_recorded_steps};
 use std::io::Print;
 use std::rt::{Clock, Env};
 use std::time::Instant;
@@ -101,18 +101,18 @@ struct RunResult {
 fn take_steps(machine: &mut Machine, run: Run) -> StepCount {
     let steps = run.asked.unwrap_or(1000);
     match run.made {
-        Output::Record => without_lines(machine, steps),
-        Output::Line => with_lines(machine, steps),
-        Output::Nothing => quick_steps(machine, steps),
+        Output::Record => take_recorded_steps(machine, steps),
+        Output::Line => take_steps_with_lines(machine, steps),
+        Output::Nothing => take_quiet_steps(machine, steps),
     }
 }
 
 /// Takes the steps of a run, and measures the time.
-fn measured(rt: &impl Clock, machine: &mut Machine, run: Run) -> io::Result<RunResult> {
+fn measure_steps(rt: &impl Clock, machine: &mut Machine, run: Run) -> io::Result<RunResult> {
     let start = Instant::now(rt)?;
     let taken = take_steps(machine, run);
     let nanoseconds = start.elapsed(rt)?.as_nanos();
-    let turns = counted(machine, run.chosen);
+    let turns = loop_count(machine, run.chosen);
     Ok(RunResult {
         taken,
         turns,
@@ -171,10 +171,10 @@ fn print_run(rt: &(impl Print + AllocGlobal), run: Run, went: RunResult) -> io::
 }
 
 /// Takes the steps of a run, and prints its line.
-fn report<R: Print + Clock + AllocGlobal>(rt: &R, run: Run) -> io::Result<()> {
+fn run_and_print<R: Print + Clock + AllocGlobal>(rt: &R, run: Run) -> io::Result<()> {
     match machine(rt.alloc(), run.paged, run.chosen) {
         Ok(mut machine) => {
-            let went = measured(rt, &mut machine, run);
+            let went = measure_steps(rt, &mut machine, run);
             // Dropped by a call, so the drop is proved once for its type.
             drop(machine);
             print_run(rt, run, went?)
@@ -185,7 +185,7 @@ fn report<R: Print + Clock + AllocGlobal>(rt: &R, run: Run) -> io::Result<()> {
 
 /// Takes steps of a loop in both kinds of segments, with and without trace lines, and prints a line
 /// for each run.
-fn recorded_reports<R: Print + Clock + AllocGlobal>(
+fn run_with_records<R: Print + Clock + AllocGlobal>(
     rt: &R,
     asked: Option<u64>,
     chosen: Loop,
@@ -202,13 +202,13 @@ fn recorded_reports<R: Print + Clock + AllocGlobal>(
             paged,
             made,
         };
-        report(rt, run)?;
+        run_and_print(rt, run)?;
     }
     Ok(())
 }
 
 /// Takes quiet steps of a loop in both kinds of segments, and prints a line for each run.
-fn quiet_reports<R: Print + Clock + AllocGlobal>(
+fn run_quietly_and_print<R: Print + Clock + AllocGlobal>(
     rt: &R,
     asked: Option<u64>,
     chosen: Loop,
@@ -220,18 +220,18 @@ fn quiet_reports<R: Print + Clock + AllocGlobal>(
             paged,
             made: Output::Nothing,
         };
-        report(rt, run)?;
+        run_and_print(rt, run)?;
     }
     Ok(())
 }
 
 /// Takes the steps of a loop in each way that is asked for, and prints a line for each run.
-fn reports<R: Print + Clock + AllocGlobal>(rt: &R, asked: Asked, chosen: Loop) -> io::Result<()> {
+fn run_loop<R: Print + Clock + AllocGlobal>(rt: &R, asked: Asked, chosen: Loop) -> io::Result<()> {
     if !asked.quiet {
-        recorded_reports(rt, asked.steps, chosen)?;
+        run_with_records(rt, asked.steps, chosen)?;
     }
     if asked.quiet || asked.steps.is_none() {
-        quiet_reports(rt, asked.steps, chosen)?;
+        run_quietly_and_print(rt, asked.steps, chosen)?;
     }
     Ok(())
 }
@@ -240,10 +240,10 @@ fn reports<R: Print + Clock + AllocGlobal>(rt: &R, asked: Asked, chosen: Loop) -
 fn main(rt: HostRuntime) -> io::Result<()> {
     let asked = read_words(&rt)?;
     if !asked.mixed {
-        reports(&rt, asked, Loop::Simple)?;
+        run_loop(&rt, asked, Loop::Simple)?;
     }
     if asked.mixed || asked.steps.is_none() {
-        reports(&rt, asked, Loop::Mixed)?;
+        run_loop(&rt, asked, Loop::Mixed)?;
     }
     Ok(())
 }

@@ -27,7 +27,7 @@ fn another_follows(outcome: Outcome) -> bool {
 }
 
 /// Takes `steps` steps, or fewer if one ends the run, with a record of each and no lines.
-pub fn without_lines(machine: &mut Machine, steps: u64) -> StepCount {
+pub fn take_recorded_steps(machine: &mut Machine, steps: u64) -> StepCount {
     let mut told = machine.untold();
     for n in 0..steps {
         if !step_and_continue(machine, &mut told) {
@@ -38,7 +38,7 @@ pub fn without_lines(machine: &mut Machine, steps: u64) -> StepCount {
 }
 
 /// Takes `steps` steps, or fewer if one ends the run, and records none of the quick ones.
-pub fn quick_steps(machine: &mut Machine, steps: u64) -> StepCount {
+pub fn take_quiet_steps(machine: &mut Machine, steps: u64) -> StepCount {
     let mut told = machine.untold();
     let mut left = steps;
     while left > 0 {
@@ -58,7 +58,7 @@ pub fn quick_steps(machine: &mut Machine, steps: u64) -> StepCount {
 }
 
 /// Takes `steps` steps, or fewer if one ends the run, and makes the line of each.
-pub fn with_lines(machine: &mut Machine, steps: u64) -> StepCount {
+pub fn take_steps_with_lines(machine: &mut Machine, steps: u64) -> StepCount {
     let mut shown = machine.empty_shown();
     let mut lines = TraceLines::new();
     for n in 0..steps {

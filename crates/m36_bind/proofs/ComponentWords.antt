@@ -9,8 +9,8 @@ use Rattle.m36_relocate.specs.Fields.{ShapeFields, BasesFields}
 use Rattle.obj36_parts.specs.ObjectSegment.{evened, padded_to_even}
 use Rattle.m36_relocate.specs.Layout.{shape_of, next_bases}
 use Rattle.m36_relocate.specs.Words.{words_in}
-use Rattle.m36_bind.specs.Components.{PlacedFields, moving}
-use Rattle.m36_bind.specs.Bound.{component_words, laid_from, statics_end, links_end}
+use Rattle.m36_bind.specs.Components.{PlacedComponentFields, relocation_of}
+use Rattle.m36_bind.specs.Bound.{component_words, with_component_words, statics_end, links_end}
 use Rattle.m36_bind.specs.Meaning.{AreInOrder, IsOutside, start_in, words_end}
 use Rattle.m36_bind.proofs.MovedWords.{words_long}
 
@@ -27,11 +27,11 @@ start_behind true b c = refl
 start_behind false b c = refl
 
 module _ (frame : ShapeFields) (statics : Bool) where
-  words_of_length : (p : PlacedFields) → length (component_words frame statics p) ≡ length (words_in statics p.parts)
-  words_of_length p = words_long (moving frame p) statics p.parts.relocations (words_in statics p.parts)
+  words_of_length : (p : PlacedComponentFields) → length (component_words frame statics p) ≡ length (words_in statics p.parts)
+  words_of_length p = words_long (relocation_of frame p) statics p.parts.relocations (words_in statics p.parts)
 
-  laid_prefix : (words : List ℕ) (all : List PlacedFields) (j : ℕ) → j < length words → slice_index (laid_from frame statics words all) j ≡ slice_index words j
-  unfolding laid_from
+  laid_prefix : (words : List ℕ) (all : List PlacedComponentFields) (j : ℕ) → j < length words → slice_index (with_component_words frame statics words all) j ≡ slice_index words j
+  unfolding with_component_words
   laid_prefix words [] j lt = refl
   laid_prefix words (p ∷ all) j lt =
       let even : length (padded_to_even words) ≡ evened (length words) = even_long words in
@@ -46,8 +46,8 @@ module _ (frame : ShapeFields) (statics : Bool) where
       by true = refl
       by false = get_or_append_left words (0 ∷ []) 0 j lt
 
-  laid_longer : (words : List ℕ) (all : List PlacedFields) → length words ≤ length (laid_from frame statics words all)
-  unfolding laid_from
+  laid_longer : (words : List ℕ) (all : List PlacedComponentFields) → length words ≤ length (with_component_words frame statics words all)
+  unfolding with_component_words
   laid_longer words [] = omega arith
   laid_longer words (p ∷ all) =
       let even : length (padded_to_even words) ≡ evened (length words) = even_long words in
@@ -57,7 +57,7 @@ module _ (frame : ShapeFields) (statics : Bool) where
       omega (arith, even, long, laid_longer (padded_to_even words ++ component_words frame statics p) all)
 
   -- the words after those of a component begin where the next component does
-  next_start : (words : List ℕ) (b : BasesFields) (p : PlacedFields) → evened (length words) ≡ start_in statics b
+  next_start : (words : List ℕ) (b : BasesFields) (p : PlacedComponentFields) → evened (length words) ≡ start_in statics b
       → evened (length (padded_to_even words ++ component_words frame statics p)) ≡ start_in statics (next_bases b p.parts)
   next_start words b p starts =
       ap evened
@@ -65,38 +65,38 @@ module _ (frame : ShapeFields) (statics : Bool) where
       ∙ (λ i. (even_long words ∙ starts) i + words_of_length p i))
       ∙ sym (start_behind statics b p.parts)
 
-  pub laid_at : (words : List ℕ) (b : BasesFields) (all : List PlacedFields) (p : PlacedFields) (i : ℕ) → AreInOrder b all → evened (length words) ≡ start_in statics b → Contains all p
+  pub laid_at : (words : List ℕ) (b : BasesFields) (all : List PlacedComponentFields) (p : PlacedComponentFields) (i : ℕ) → AreInOrder b all → evened (length words) ≡ start_in statics b → Contains all p
       → i < length (words_in statics p.parts)
-      → slice_index (laid_from frame statics words all) (start_in statics p.bases + i) ≡ slice_index (component_words frame statics p) i
-  unfolding laid_from AreInOrder
+      → slice_index (with_component_words frame statics words all) (start_in statics p.bases + i) ≡ slice_index (component_words frame statics p) i
+  unfolding with_component_words AreInOrder
   laid_at words b [] p i order starts among lt = absurd (omega (arith, among.1))
   laid_at words b (q ∷ all) p i order starts (zero, le, same) lt =
       let even : length (padded_to_even words) ≡ start_in statics p.bases =
-      even_long words ∙ starts ∙ ap (start_in statics) (sym order.0) ∙ ap (λ (x : PlacedFields). start_in statics x.bases) same
+      even_long words ∙ starts ∙ ap (start_in statics) (sym order.0) ∙ ap (λ (x : PlacedComponentFields). start_in statics x.bases) same
       in
       let long : length (padded_to_even words ++ component_words frame statics p) ≡ length (padded_to_even words) + length (component_words frame statics p) =
       length-append (padded_to_even words) (component_words frame statics p)
       in
-      ap (λ (x : PlacedFields). slice_index (laid_from frame statics (padded_to_even words ++ component_words frame statics x) all) (start_in statics p.bases + i)) same
+      ap (λ (x : PlacedComponentFields). slice_index (with_component_words frame statics (padded_to_even words ++ component_words frame statics x) all) (start_in statics p.bases + i)) same
       ∙ laid_prefix (padded_to_even words ++ component_words frame statics p) all (start_in statics p.bases + i) (omega (arith, even, long, words_of_length p, lt))
       ∙ ap (λ n. slice_index (padded_to_even words ++ component_words frame statics p) (n + i)) (sym even)
       ∙ get_or-append-add (padded_to_even words) (component_words frame statics p) i 0
   laid_at words b (q ∷ all) p i order starts (suc k, le, same) lt =
       laid_at (padded_to_even words ++ component_words frame statics q) (next_bases b q.parts) all p i order.2 (next_start words b q starts) (k, omega (arith, le), same) lt
 
-  pub laid_within : (words : List ℕ) (b : BasesFields) (all : List PlacedFields) (p : PlacedFields) → AreInOrder b all → evened (length words) ≡ start_in statics b → Contains all p
-      → start_in statics p.bases + length (words_in statics p.parts) ≤ length (laid_from frame statics words all)
-  unfolding laid_from AreInOrder
+  pub laid_within : (words : List ℕ) (b : BasesFields) (all : List PlacedComponentFields) (p : PlacedComponentFields) → AreInOrder b all → evened (length words) ≡ start_in statics b → Contains all p
+      → start_in statics p.bases + length (words_in statics p.parts) ≤ length (with_component_words frame statics words all)
+  unfolding with_component_words AreInOrder
   laid_within words b [] p order starts among = absurd (omega (arith, among.1))
   laid_within words b (q ∷ all) p order starts (zero, le, same) =
       let even : length (padded_to_even words) ≡ start_in statics q.bases = even_long words ∙ starts ∙ ap (start_in statics) (sym order.0) in
       let long : length (padded_to_even words ++ component_words frame statics q) ≡ length (padded_to_even words) + length (component_words frame statics q) =
       length-append (padded_to_even words) (component_words frame statics q)
       in
-      let more : length (padded_to_even words ++ component_words frame statics q) ≤ length (laid_from frame statics (padded_to_even words ++ component_words frame statics q) all) =
+      let more : length (padded_to_even words ++ component_words frame statics q) ≤ length (with_component_words frame statics (padded_to_even words ++ component_words frame statics q) all) =
       laid_longer (padded_to_even words ++ component_words frame statics q) all
       in
-      subst (λ (x : PlacedFields). start_in statics x.bases + length (words_in statics x.parts) ≤ length (laid_from frame statics (padded_to_even words ++ component_words frame statics q) all)) same
+      subst (λ (x : PlacedComponentFields). start_in statics x.bases + length (words_in statics x.parts) ≤ length (with_component_words frame statics (padded_to_even words ++ component_words frame statics q) all)) same
       (omega (arith, even, long, more, words_of_length q))
   laid_within words b (q ∷ all) p order starts (suc k, le, same) =
       laid_within (padded_to_even words ++ component_words frame statics q) (next_bases b q.parts) all p order.2 (next_start words b q starts) (k, omega (arith, le), same)
@@ -114,10 +114,10 @@ even_zero words j le lt = by (eqb (length words % 2) 0) lt
     by true small = absurd (omega (arith, small, le))
     by false small = get_or-append_right words (0 ∷ []) (length words) j 0 refl le ∙ zero_any (j - length words)
 
-pub laid_gap : (frame : ShapeFields) (statics : Bool) (words : List ℕ) (b : BasesFields) (all : List PlacedFields) (j : ℕ) → AreInOrder b all
-    → evened (length words) ≡ start_in statics b → length words ≤ j → ((p : PlacedFields) → Contains all p → IsOutside statics p j)
-    → slice_index (laid_from frame statics words all) j ≡ 0
-unfolding laid_from AreInOrder
+pub laid_gap : (frame : ShapeFields) (statics : Bool) (words : List ℕ) (b : BasesFields) (all : List PlacedComponentFields) (j : ℕ) → AreInOrder b all
+    → evened (length words) ≡ start_in statics b → length words ≤ j → ((p : PlacedComponentFields) → Contains all p → IsOutside statics p j)
+    → slice_index (with_component_words frame statics words all) j ≡ 0
+unfolding with_component_words AreInOrder
 laid_gap frame statics words b [] j order starts le outside = get_or_past words j 0 le
 laid_gap frame statics words b (p ∷ all) j order starts le outside =
     by (ltb j (length (padded_to_even words ++ component_words frame statics p))) refl (outside p (zero, omega arith, refl))
@@ -132,8 +132,8 @@ laid_gap frame statics words b (p ∷ all) j order starts le outside =
     long = length-append (padded_to_even words) (component_words frame statics p)
 
     by : (c : Bool) → ltb j (length (padded_to_even words ++ component_words frame statics p)) ≡ c → IsOutside statics p j
-        → (length (padded_to_even words ++ component_words frame statics p) ≤ j → slice_index (laid_from frame statics (padded_to_even words ++ component_words frame statics p) all) j ≡ 0)
-        → slice_index (laid_from frame statics (padded_to_even words ++ component_words frame statics p) all) j ≡ 0
+        → (length (padded_to_even words ++ component_words frame statics p) ≤ j → slice_index (with_component_words frame statics (padded_to_even words ++ component_words frame statics p) all) j ≡ 0)
+        → slice_index (with_component_words frame statics (padded_to_even words ++ component_words frame statics p) all) j ≡ 0
     by true is (inl before) go =
         let small : j < length (padded_to_even words) = (let e : length (padded_to_even words) ≡ start_in statics p.bases = even in omega (arith, e, before)) in
         laid_prefix frame statics (padded_to_even words ++ component_words frame statics p) all j (ltb-true j _ is)
@@ -147,9 +147,9 @@ laid_gap frame statics words b (p ∷ all) j order starts le outside =
 
 -- ---- the numbers of static words and of links
 
-pub statics_long : (frame : ShapeFields) (words : List ℕ) (b : BasesFields) (all : List PlacedFields) → AreInOrder b all → evened (length words) ≡ b.statics
-    → length (laid_from frame true words all) ≡ statics_end (length words) all
-unfolding laid_from statics_end AreInOrder
+pub statics_long : (frame : ShapeFields) (words : List ℕ) (b : BasesFields) (all : List PlacedComponentFields) → AreInOrder b all → evened (length words) ≡ b.statics
+    → length (with_component_words frame true words all) ≡ statics_end (length words) all
+unfolding with_component_words statics_end AreInOrder
 statics_long frame words b [] order starts = refl
 statics_long frame words b (p ∷ all) order starts =
     let long : length (padded_to_even words ++ component_words frame true p) ≡ p.bases.statics + p.shape.statics =
@@ -159,7 +159,7 @@ statics_long frame words b (p ∷ all) order starts =
     statics_long frame (padded_to_even words ++ component_words frame true p) (next_bases b p.parts) all order.2 (next_start frame true words b p starts)
     ∙ ap (λ n. statics_end n all) long
 
-pub links_grow : (b : BasesFields) (all : List PlacedFields) → AreInOrder b all → b.links ≤ links_end b.links all
+pub links_grow : (b : BasesFields) (all : List PlacedComponentFields) → AreInOrder b all → b.links ≤ links_end b.links all
 unfolding links_end AreInOrder
 links_grow b [] order = omega arith
 links_grow b (p ∷ all) order =
@@ -167,22 +167,22 @@ links_grow b (p ∷ all) order =
     let more : b.links + length p.parts.links ≤ links_end (b.links + length p.parts.links) all = links_grow (next_bases b p.parts) all order.2 in
     subst (λ n. b.links ≤ links_end n all) (sym next) (omega (arith, more))
 
-pub links_within : (b : BasesFields) (all : List PlacedFields) (p : PlacedFields) → AreInOrder b all → Contains all p → p.bases.links + p.shape.links ≤ links_end b.links all
+pub links_within : (b : BasesFields) (all : List PlacedComponentFields) (p : PlacedComponentFields) → AreInOrder b all → Contains all p → p.bases.links + p.shape.links ≤ links_end b.links all
 unfolding links_end AreInOrder
 links_within b [] p order among = absurd (omega (arith, among.1))
 links_within b (q ∷ all) p order (zero, le, same) =
     let next : q.bases.links + q.shape.links ≡ b.links + length q.parts.links = (λ i. (order.0 i).links + (order.1 i).links) in
     let more : b.links + length q.parts.links ≤ links_end (b.links + length q.parts.links) all = links_grow (next_bases b q.parts) all order.2 in
-    subst (λ (x : PlacedFields). x.bases.links + x.shape.links ≤ links_end (q.bases.links + q.shape.links) all) same
+    subst (λ (x : PlacedComponentFields). x.bases.links + x.shape.links ≤ links_end (q.bases.links + q.shape.links) all) same
     (subst (λ n. n ≤ links_end n all) (sym next) more)
 links_within b (q ∷ all) p order (suc k, le, same) =
     let next : q.bases.links + q.shape.links ≡ b.links + length q.parts.links = (λ i. (order.0 i).links + (order.1 i).links) in
     subst (λ n. p.bases.links + p.shape.links ≤ links_end n all) (sym next)
     (links_within (next_bases b q.parts) all p order.2 (k, omega (arith, le), same))
 
-pub words_count : (frame : ShapeFields) (statics : Bool) (words : List ℕ) (b : BasesFields) (all : List PlacedFields) → AreInOrder b all → evened (length words) ≡ start_in statics b
-    → length (laid_from frame statics words all) ≡ words_end statics (length words) all
-unfolding laid_from words_end AreInOrder
+pub words_count : (frame : ShapeFields) (statics : Bool) (words : List ℕ) (b : BasesFields) (all : List PlacedComponentFields) → AreInOrder b all → evened (length words) ≡ start_in statics b
+    → length (with_component_words frame statics words all) ≡ words_end statics (length words) all
+unfolding with_component_words words_end AreInOrder
 words_count frame statics words b [] order starts = refl
 words_count frame statics words b (p ∷ all) order starts =
     let long : length (padded_to_even words ++ component_words frame statics p) ≡ start_in statics p.bases + length (words_in statics p.parts) =

@@ -11,7 +11,7 @@ use Rattle.obj36_parts.specs.PartsFields.{PartsFields}
 use Rattle.obj36_parts.specs.Names.{same}
 use Rattle.obj36_parts.proofs.SizeLaws.{same_is}
 use Rattle.obj36_parts.proofs.IndexLaws.{or_else, or_nothing, lookup_last, goes_last}
-use Rattle.m36_bind.specs.Given.{GivenFields, object_named, with_place, ArePlaces}
+use Rattle.m36_bind.specs.Given.{NamedObjectsFields, object_named, with_index, IndexesAreFirst}
 
 -- lookup in a table, or among the names that follow
 abbrev pub found_in : List ℕ → List (List ℕ × ℕ) → ℕ → List (List ℕ) → Option ℕ
@@ -47,9 +47,9 @@ found_more name other places place others false none =
     ∙ joined_else (lookup (same name) places) (same name other) place (position_from (same name) (place + 1) others)
 
 pub place_noted : (places new : List (List ℕ × ℕ)) (place : ℕ) (name : List ℕ) (others rest names : List (List ℕ)) → rest ≡ name ∷ others
-    → new ≡ with_place places name place
+    → new ≡ with_index places name place
     → ((n : List ℕ) → found_in n places place rest ≡ position (same n) names) → (n : List ℕ) → found_in n new (place + 1) others ≡ position (same n) names
-unfolding with_place
+unfolding with_index
 place_noted places new place name others rest names first put all n =
     ap (λ (ps : List (List ℕ × ℕ)). found_in n ps (place + 1) others) put
     ∙ found_more n name places place others (is_some (lookup (same name) places)) refl
@@ -61,7 +61,7 @@ none_noted places names none n =
     ap (λ (ps : List (List ℕ × ℕ)). found_in n ps 0 names) none ∙ sym (position_from-zero (same n) names)
 
 pub all_noted : (places : List (List ℕ × ℕ)) (place : ℕ) (rest names : List (List ℕ)) → rest ≡ [] → ((n : List ℕ) → found_in n places place rest ≡ position (same n) names)
-    → ArePlaces names places
+    → IndexesAreFirst names places
 all_noted places place rest names none all = record {
   each = λ n.
       sym (or_nothing (lookup (same n) places)) ∙ ap (λ (r : List (List ℕ)). found_in n places place r) (sym none) ∙ all n;
@@ -77,11 +77,11 @@ no_name_left names i le = at_drop_all (λ (ns : List (List ℕ)). ns) names i le
 
 -- lookup of a name
 
-pub found_at : (given : GivenFields) (names : List (List ℕ)) (objects : List PartsFields) (places : List (List ℕ × ℕ)) (name : List ℕ) (place : Option ℕ) (found : Option PartsFields)
-    → record { names = names; objects = objects } ≡ given → ArePlaces names places → place ≡ lookup (same name) places → found ≡ option_and_then (slice_get objects) place
+pub found_at : (given : NamedObjectsFields) (names : List (List ℕ)) (objects : List PartsFields) (places : List (List ℕ × ℕ)) (name : List ℕ) (place : Option ℕ) (found : Option PartsFields)
+    → record { names = names; objects = objects } ≡ given → IndexesAreFirst names places → place ≡ lookup (same name) places → found ≡ option_and_then (slice_get objects) place
     → found ≡ object_named given name
 unfolding object_named
 found_at given names objects places name place found view h is at =
-    let all : GivenFields = record { names = names; objects = objects } in
-    let P : GivenFields → Type 0 = λ g. found ≡ option_and_then (slice_get g.objects) (position (same name) g.names) in
+    let all : NamedObjectsFields = record { names = names; objects = objects } in
+    let P : NamedObjectsFields → Type 0 = λ g. found ≡ option_and_then (slice_get g.objects) (position (same name) g.names) in
     subst P view (at ∙ ap (λ (o : Option ℕ). option_and_then (slice_get objects) o) (is ∙ h.each name))

@@ -5,16 +5,16 @@ use Rattle.obj36_parts.specs.PartsFields.{PartsFields}
 use Rattle.obj36_parts.specs.declared.section.Section.{Section}
 use Rattle.obj36_parts.specs.declared.section.Section.TheVariants.{Text, Linkage, Symbol, Static}
 use Rattle.m36_relocate.specs.Fields.{ShapeFields, BasesFields}
-use Rattle.m36_relocate.specs.Layout.{shape_of, denoted, meant_older, meant_newer, first_link, first_static, spot, image_spot, static_spot, relocated_place, image_number, relocated_number}
+use Rattle.m36_relocate.specs.Layout.{shape_of, denoted, denoted_in_version_1, denoted_in_version_2, first_link, first_static, section_place, bound_place_of, static_word_place, relocated_place, bound_number_of, relocated_number}
 use Rattle.m36_relocate.specs.declared.layout.Denoted.{Denoted}
 use Rattle.m36_relocate.specs.declared.layout.Denoted.TheVariants.{TextWord, StaticWord, LinkWord, HeadWord}
 use Rattle.m36_relocate.specs.declared.layout.BoundPlace.{BoundPlace}
-use Rattle.m36_bind.specs.Components.{PlacedFields, moving}
-use Rattle.m36_bind.specs.Meaning.{image, is_there, NamesImage}
+use Rattle.m36_bind.specs.Components.{PlacedComponentFields, relocation_of}
+use Rattle.m36_bind.specs.Meaning.{image, has_word, RefersToSameWord}
 use Rattle.m36_relocate.proofs.LinkPlaces.{in_linkage, past_head, link_named}
 
 -- The words of a component are among those of the bound object, whose numbers have 18 bits.
-pub record IsWithin (bound : PartsFields) (p : PlacedFields) : Type 0 where
+pub record IsWithin (bound : PartsFields) (p : PlacedComponentFields) : Type 0 where
   pub text : p.bases.text + length p.parts.text ≤ length bound.text
   pub statics : p.bases.statics + p.shape.statics ≤ length bound.statics
   pub links : p.bases.links + p.shape.links ≤ length bound.links
@@ -25,7 +25,7 @@ pub record IsWithin (bound : PartsFields) (p : PlacedFields) : Type 0 where
 
 head_named : (newer : Bool) (statics links v : ℕ) → v < 8 → in_linkage newer statics links v ≡ HeadWord v
 unfolding in_linkage
-head_named newer statics links v lt = cond-true (ltb v 8) (HeadWord v) (cond newer (meant_newer links v) (meant_older statics v)) (lt-ltb v 8 lt)
+head_named newer statics links v lt = cond-true (ltb v 8) (HeadWord v) (cond newer (denoted_in_version_2 links v) (denoted_in_version_1 statics v)) (lt-ltb v 8 lt)
 
 static_named : (newer : Bool) (statics links x : ℕ) → x < statics → in_linkage newer statics links (cond newer (8 + 2 * links) 8 + x) ≡ StaticWord x
 static_named true statics links x lt =
@@ -50,7 +50,7 @@ first_link_near : (newer : Bool) (statics : ℕ) → cond newer 8 (8 + statics) 
 first_link_near true statics = omega arith
 first_link_near false statics = omega arith
 
-module _ (bound : PartsFields) (p : PlacedFields) (within : IsWithin bound p) where
+module _ (bound : PartsFields) (p : PlacedComponentFields) (within : IsWithin bound p) where
   abbrev pub frame : ShapeFields
   frame = shape_of bound
 
@@ -102,15 +102,15 @@ module _ (bound : PartsFields) (p : PlacedFields) (within : IsWithin bound p) wh
   is_in_linkage false false c true v w k x y = tt
   is_in_linkage false false c false v w k x y = tt
 
-  linkage_number : (x : Denoted) → InLinkage x → is_there p x ≡ true
-      → in_linkage frame.newer frame.statics frame.links (image_number frame p.bases Linkage x % 2 ^ 18) ≡ image p.bases x
+  linkage_number : (x : Denoted) → InLinkage x → has_word p x ≡ true
+      → in_linkage frame.newer frame.statics frame.links (bound_number_of frame p.bases Linkage x % 2 ^ 18) ≡ image p.bases x
   unfolding InLinkage
   linkage_number (TextWord v) is there = absurd is
   linkage_number (StaticWord w) is there = static_there w there
   linkage_number (LinkWord k) is there = link_there k there
   linkage_number (HeadWord v) is there = head_there v there
 
-  pub number_names : (target : Section) (old : ℕ) → NamesImage bound p target old target (relocated_number (moving frame p) target old % 2 ^ 18)
+  pub number_names : (target : Section) (old : ℕ) → RefersToSameWord bound p target old target (relocated_number (relocation_of frame p) target old % 2 ^ 18)
   unfolding relocated_number denoted in_linkage
   number_names Text old there = text_there old there
   number_names Static old there = own_static old there
@@ -123,17 +123,17 @@ module _ (bound : PartsFields) (p : PlacedFields) (within : IsWithin bound p) wh
   -- ---- places
 
   static_place : (newer : Bool) (w : ℕ) → frame.newer ≡ newer → ltb w p.shape.statics ≡ true
-      → denoted frame (static_spot frame (p.bases.statics + w)).section (static_spot frame (p.bases.statics + w)).offset ≡ StaticWord (p.bases.statics + w)
+      → denoted frame (static_word_place frame (p.bases.statics + w)).section (static_word_place frame (p.bases.statics + w)).offset ≡ StaticWord (p.bases.statics + w)
   unfolding denoted in_linkage
   static_place true w is there =
-      ap (λ b. denoted frame (cond b (spot Static (p.bases.statics + w)) (spot Linkage (8 + (p.bases.statics + w)))).section (cond b (spot Static (p.bases.statics + w)) (spot Linkage (8 + (p.bases.statics + w)))).offset) is
+      ap (λ b. denoted frame (cond b (section_place Static (p.bases.statics + w)) (section_place Linkage (8 + (p.bases.statics + w)))).section (cond b (section_place Static (p.bases.statics + w)) (section_place Linkage (8 + (p.bases.statics + w)))).offset) is
       ∙ own_static w there
   static_place false w is there =
-      ap (λ b. denoted frame (cond b (spot Static (p.bases.statics + w)) (spot Linkage (8 + (p.bases.statics + w)))).section (cond b (spot Static (p.bases.statics + w)) (spot Linkage (8 + (p.bases.statics + w)))).offset) is
+      ap (λ b. denoted frame (cond b (section_place Static (p.bases.statics + w)) (section_place Linkage (8 + (p.bases.statics + w)))).section (cond b (section_place Static (p.bases.statics + w)) (section_place Linkage (8 + (p.bases.statics + w)))).offset) is
       ∙ ap (λ b. in_linkage frame.newer frame.statics frame.links ((cond b (8 + 2 * frame.links) 8 + (p.bases.statics + w)) % 2 ^ 18)) (sym is)
       ∙ static_there w there
 
-  place_names : (x : Denoted) → is_there p x ≡ true → denoted frame (image_spot frame p.bases x).section (image_spot frame p.bases x).offset ≡ image p.bases x
+  place_names : (x : Denoted) → has_word p x ≡ true → denoted frame (bound_place_of frame p.bases x).section (bound_place_of frame p.bases x).offset ≡ image p.bases x
   unfolding denoted in_linkage
   place_names (TextWord v) there = text_there v there
   place_names (StaticWord w) there = static_place frame.newer w refl there
@@ -141,6 +141,6 @@ module _ (bound : PartsFields) (p : PlacedFields) (within : IsWithin bound p) wh
   place_names (HeadWord v) there = head_there v there
 
   pub spot_names : (section : Section) (old : ℕ)
-      → NamesImage bound p section old (relocated_place (moving frame p) section old).section (relocated_place (moving frame p) section old).offset
+      → RefersToSameWord bound p section old (relocated_place (relocation_of frame p) section old).section (relocated_place (relocation_of frame p) section old).offset
   unfolding relocated_place
   spot_names section old there = place_names (denoted p.shape section old) there

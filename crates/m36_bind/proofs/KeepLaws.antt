@@ -6,10 +6,10 @@ use Rattle.obj36_parts.specs.declared.definition.Named.{Named}
 use Rattle.m36_bindfile.specs.declared.fault.BindFault.{BindFault}
 use Rattle.m36_bindfile.specs.declared.fault.BindFault.TheVariants as fault
 use Rattle.m36_bindfile.specs.declared.line.BindLine.{BindLine}
-use Rattle.m36_bindfile.specs.BindFile.{Refuses}
+use Rattle.m36_bindfile.specs.BindFile.{IsBindRefusal}
 use Rattle.m36_relocate.specs.declared.exports.Export.{Export}
 use Rattle.m36_text.specs.Results.{and_then}
-use Rattle.m36_bind.specs.Kept.{with_retained, kept_line, kept_from}
+use Rattle.m36_bind.specs.Kept.{with_retained, with_retain_line, with_retain_lines}
 use Rattle.m36_bind.proofs.ComponentLaws.{refused_whole}
 
 pub keep_done :
@@ -23,27 +23,27 @@ keep_done before after n name copy e new is grown =
 
 first_kept :
     (exports : List (List ℕ × Export)) (kept : List Named) (n : ℕ) (line : BindLine) (others rest : List BindLine) → rest ≡ line ∷ others
-    → kept_from exports kept n rest ≡ and_then (kept_line exports kept n line) (λ more. kept_from exports more (n + 1) others)
-unfolding kept_from
-first_kept exports kept n line others rest is = ap (kept_from exports kept n) is
+    → with_retain_lines exports kept n rest ≡ and_then (with_retain_line exports kept n line) (λ more. with_retain_lines exports more (n + 1) others)
+unfolding with_retain_lines
+first_kept exports kept n line others rest is = ap (with_retain_lines exports kept n) is
 
 pub keep_goes :
     (exports : List (List ℕ × Export)) (kept more : List Named) (n : ℕ) (line : BindLine) (others rest : List BindLine) (whole : Result (List Named) BindFault)
-    → rest ≡ line ∷ others → kept_line exports kept n line ≡ Ok more → kept_from exports kept n rest ≡ whole
-    → kept_from exports more (n + 1) others ≡ whole
+    → rest ≡ line ∷ others → with_retain_line exports kept n line ≡ Ok more → with_retain_lines exports kept n rest ≡ whole
+    → with_retain_lines exports more (n + 1) others ≡ whole
 keep_goes exports kept more n line others rest whole is goes so_far =
-    sym (ap (λ (d : Result (List Named) BindFault). and_then d (λ m. kept_from exports m (n + 1) others)) goes)
+    sym (ap (λ (d : Result (List Named) BindFault). and_then d (λ m. with_retain_lines exports m (n + 1) others)) goes)
     ∙ sym (first_kept exports kept n line others rest is) ∙ so_far
 
 pub keep_stops :
     (exports : List (List ℕ × Export)) (kept : List Named) (n : ℕ) (line : BindLine) (others rest : List BindLine) (told : BindFault) (whole : Result (List Named) BindFault)
-    → rest ≡ line ∷ others → Refuses told (kept_line exports kept n line) → kept_from exports kept n rest ≡ whole → Refuses told whole
+    → rest ≡ line ∷ others → IsBindRefusal told (with_retain_line exports kept n line) → with_retain_lines exports kept n rest ≡ whole → IsBindRefusal told whole
 keep_stops exports kept n line others rest told whole is refused so_far =
-    refused_whole told (kept_line exports kept n line) (λ more. kept_from exports more (n + 1) others) whole refused
+    refused_whole told (with_retain_line exports kept n line) (λ more. with_retain_lines exports more (n + 1) others) whole refused
     (sym (first_kept exports kept n line others rest is) ∙ so_far)
 
 pub keep_ends :
     (exports : List (List ℕ × Export)) (kept : List Named) (n : ℕ) (rest : List BindLine) (whole : Result (List Named) BindFault)
-    → rest ≡ [] → kept_from exports kept n rest ≡ whole → whole ≡ Ok kept
-unfolding kept_from
-keep_ends exports kept n rest whole none so_far = sym so_far ∙ ap (kept_from exports kept n) none
+    → rest ≡ [] → with_retain_lines exports kept n rest ≡ whole → whole ≡ Ok kept
+unfolding with_retain_lines
+keep_ends exports kept n rest whole none so_far = sym so_far ∙ ap (with_retain_lines exports kept n) none

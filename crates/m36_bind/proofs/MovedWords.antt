@@ -6,9 +6,9 @@ use Rattle.std.proofs.lemmas.List.{length-set, get_or-set_same, get_or-set_other
 use Rattle.std.proofs.lemmas.Bool.{and_parts, eqb-true, eq-eqb, ne_eqb, lt-ltb, leb-true}
 use Rattle.obj36_parts.specs.Fields.{RelocFields}
 use Rattle.obj36_parts.specs.Halves.{left}
-use Rattle.obj36_parts.specs.Sections.{place_number}
+use Rattle.obj36_parts.specs.Sections.{section_number}
 use Rattle.obj36_parts.specs.ObjectSegment.{part_of, order_of, are_rising}
-use Rattle.m36_relocate.specs.Words.{is_in, place_in, moved_at, one_moved, relocated_words, relocated_word}
+use Rattle.m36_relocate.specs.Words.{is_relocation_in, word_index_of, with_word_relocated, with_relocation_applied, relocated_words, relocated_word}
 use Rattle.m36_relocate.specs.declared.layout.Relocation.{Relocation}
 use Rattle.m36_bind.proofs.WordParts.{overlap, cut_to, number_put, put_below, put_got, put_kept, put_first, word_puts}
 
@@ -17,7 +17,7 @@ use Rattle.m36_bind.proofs.WordParts.{overlap, cut_to, number_put, put_below, pu
 module _ (m : Relocation) (statics : Bool) (i : ℕ) where
   -- whether a relocation is of a part of the word
   unfoldable pub at : RelocFields → Bool
-  at r = is_in statics r && eqb (place_in m.shape statics r) i
+  at r = is_relocation_in statics r && eqb (word_index_of m.shape statics r) i
 
   pub one_by : RelocFields → ℕ → ℕ
   one_by r w = cond (at r) (relocated_word m r w) w
@@ -27,10 +27,10 @@ module _ (m : Relocation) (statics : Bool) (i : ℕ) where
   word_by (r ∷ rs) w = word_by rs (one_by r w)
 
   placed_one : (r : RelocFields) (j : ℕ) (words : List ℕ) (b e : Bool) → i < length words → eqb j i ≡ e
-      → slice_index (cond b (moved_at m r j words) words) i ≡ cond (b && e) (relocated_word m r (slice_index words i)) (slice_index words i)
+      → slice_index (cond b (with_word_relocated m r j words) words) i ≡ cond (b && e) (relocated_word m r (slice_index words i)) (slice_index words i)
   placed_one r j words false e lt is = refl
   placed_one r j words true true lt is =
-      ap (λ k. slice_index (moved_at m r k words) i) (eqb-true j i is)
+      ap (λ k. slice_index (with_word_relocated m r k words) i) (eqb-true j i is)
       ∙ ap (λ c. slice_index (cond c (slice_set words i (relocated_word m r (slice_index words i))) words) i) (lt-ltb i (length words) lt)
       ∙ get_or-set_same words i (relocated_word m r (slice_index words i)) 0 lt
   placed_one r j words true false lt is = by (ltb j (length words))
@@ -39,31 +39,31 @@ module _ (m : Relocation) (statics : Bool) (i : ℕ) where
       by true = get_or-set_other words j i (relocated_word m r (slice_index words j)) 0 (λ same. true≢false (sym (eq-eqb j i (sym same)) ∙ is))
       by false = refl
 
-  one_at : (r : RelocFields) (words : List ℕ) → i < length words → slice_index (one_moved m statics r words) i ≡ one_by r (slice_index words i)
-  unfolding one_moved one_by at
-  one_at r words lt = placed_one r (place_in m.shape statics r) words (is_in statics r) (eqb (place_in m.shape statics r) i) lt refl
+  one_at : (r : RelocFields) (words : List ℕ) → i < length words → slice_index (with_relocation_applied m statics r words) i ≡ one_by r (slice_index words i)
+  unfolding with_relocation_applied one_by at
+  one_at r words lt = placed_one r (word_index_of m.shape statics r) words (is_relocation_in statics r) (eqb (word_index_of m.shape statics r) i) lt refl
 
-pub one_long : (m : Relocation) (statics : Bool) (r : RelocFields) (words : List ℕ) → length (one_moved m statics r words) ≡ length words
-unfolding one_moved
-one_long m statics r words = by (is_in statics r) (ltb (place_in m.shape statics r) (length words))
+pub one_long : (m : Relocation) (statics : Bool) (r : RelocFields) (words : List ℕ) → length (with_relocation_applied m statics r words) ≡ length words
+unfolding with_relocation_applied
+one_long m statics r words = by (is_relocation_in statics r) (ltb (word_index_of m.shape statics r) (length words))
   where
     by : (b c : Bool)
-        → length (cond b (cond c (slice_set words (place_in m.shape statics r) (relocated_word m r (slice_index words (place_in m.shape statics r)))) words) words) ≡ length words
-    by true true = length-set words (place_in m.shape statics r) (relocated_word m r (slice_index words (place_in m.shape statics r)))
+        → length (cond b (cond c (slice_set words (word_index_of m.shape statics r) (relocated_word m r (slice_index words (word_index_of m.shape statics r)))) words) words) ≡ length words
+    by true true = length-set words (word_index_of m.shape statics r) (relocated_word m r (slice_index words (word_index_of m.shape statics r)))
     by true false = refl
     by false c = refl
 
 pub words_long : (m : Relocation) (statics : Bool) (rs : List RelocFields) (words : List ℕ) → length (relocated_words m statics rs words) ≡ length words
 unfolding relocated_words
 words_long m statics [] words = refl
-words_long m statics (r ∷ rs) words = words_long m statics rs (one_moved m statics r words) ∙ one_long m statics r words
+words_long m statics (r ∷ rs) words = words_long m statics rs (with_relocation_applied m statics r words) ∙ one_long m statics r words
 
 pub word_at : (m : Relocation) (statics : Bool) (i : ℕ) (rs : List RelocFields) (words : List ℕ) → i < length words
     → slice_index (relocated_words m statics rs words) i ≡ word_by m statics i rs (slice_index words i)
 unfolding relocated_words word_by
 word_at m statics i [] words lt = refl
 word_at m statics i (r ∷ rs) words lt =
-    word_at m statics i rs (one_moved m statics r words) (let long : length (one_moved m statics r words) ≡ length words = one_long m statics r words in omega (arith, long, lt))
+    word_at m statics i rs (with_relocation_applied m statics r words) (let long : length (with_relocation_applied m statics r words) ≡ length words = one_long m statics r words in omega (arith, long, lt))
     ∙ ap (λ w. word_by m statics i rs w) (one_at m statics i r words lt)
 
 -- ---- relocations of one word
@@ -164,7 +164,7 @@ rising_least least barred (r ∷ rs) s e (suc k, lt, same) =
     in
     omega (arith, later, h.0)
 
-order_whole : (r : RelocFields) → r.part ≡ 0 → order_of r ≡ 4 * (place_number r.section * 2 ^ 18 + r.offset)
+order_whole : (r : RelocFields) → r.part ≡ 0 → order_of r ≡ 4 * (section_number r.section * 2 ^ 18 + r.offset)
 unfolding order_of
 order_whole r none = omega (arith, none)
 
@@ -182,7 +182,7 @@ rising_bar least a (r ∷ rs) s e near (suc k, lt, same) is =
 
     by : (b : Bool) → eqb r.part 0 ≡ b → (are_rising (order_of r + 1) (4 * a + 2) rs ≡ true → ⊥) → ⊥
     by true first go =
-        let whole : order_of r ≡ 4 * (place_number r.section * 2 ^ 18 + r.offset) = order_whole r (eqb-true r.part 0 first) in
+        let whole : order_of r ≡ 4 * (section_number r.section * 2 ^ 18 + r.offset) = order_whole r (eqb-true r.part 0 first) in
         let more : order_of r + 1 ≤ order_of s =
         rising_least (order_of r + 1) (cond (eqb r.part 0) (order_of r + 2) (4 * a + 2)) rs s h.2 (k, omega (arith, lt), same)
         in

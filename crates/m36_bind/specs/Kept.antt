@@ -11,17 +11,17 @@ use Rattle.m36_bindfile.specs.declared.fault.BindFault.TheVariants as fault
 use Rattle.m36_bindfile.specs.declared.line.BindLine.{BindLine}
 use Rattle.m36_bindfile.specs.declared.line.BindLine.TheVariants as line
 use Rattle.m36_relocate.specs.Fields.{ShapeFields}
-use Rattle.m36_relocate.specs.Exports.{export_named, moved_from}
+use Rattle.m36_relocate.specs.Exports.{export_named, with_relocated_definitions}
 use Rattle.m36_text.specs.Results.{and_then}
-use Rattle.m36_bind.specs.Components.{PlacedFields, moving}
+use Rattle.m36_bind.specs.Components.{PlacedComponentFields, relocation_of}
 use Rattle.m36_relocate.specs.declared.exports.Export.{Export}
 
 -- the definitions of all components, at their places in the bound object
-unfoldable pub exports_from : ShapeFields → List (List ℕ × Export) → List PlacedFields
+unfoldable pub exports_from : ShapeFields → List (List ℕ × Export) → List PlacedComponentFields
     → List (List ℕ × Export)
 exports_from frame table [] = table
 exports_from frame table (p ∷ all) =
-    exports_from frame (moved_from (moving frame p) table p.parts.definitions) all
+    exports_from frame (with_relocated_definitions (relocation_of frame p) table p.parts.definitions) all
 
 -- the definitions so far with that of the name that line n retains, or the refusal of the line
 abbrev pub with_retained : List Named → ℕ → List ℕ → Option Export → Result (List Named) BindFault
@@ -32,16 +32,16 @@ with_retained kept n name (Some e) =
 
 -- the definitions so far, with that of the name that line n retains if it is a `retain` line, or
 -- the refusal of the line
-abbrev pub kept_line : List (List ℕ × Export) → List Named → ℕ → BindLine
+abbrev pub with_retain_line : List (List ℕ × Export) → List Named → ℕ → BindLine
     → Result (List Named) BindFault
-kept_line exports kept n line.Version = Ok kept
-kept_line exports kept n (line.Object name) = Ok kept
-kept_line exports kept n (line.Retain name) = with_retained kept n name (export_named name exports)
+with_retain_line exports kept n line.Version = Ok kept
+with_retain_line exports kept n (line.Object name) = Ok kept
+with_retain_line exports kept n (line.Retain name) = with_retained kept n name (export_named name exports)
 
 -- the definitions so far, with those that lines from line n on retain, or the first refusal of a
 -- line
-unfoldable pub kept_from : List (List ℕ × Export) → List Named → ℕ → List BindLine
+unfoldable pub with_retain_lines : List (List ℕ × Export) → List Named → ℕ → List BindLine
     → Result (List Named) BindFault
-kept_from exports kept n [] = Ok kept
-kept_from exports kept n (next ∷ lines) =
-    and_then (kept_line exports kept n next) (λ more. kept_from exports more (n + 1) lines)
+with_retain_lines exports kept n [] = Ok kept
+with_retain_lines exports kept n (next ∷ lines) =
+    and_then (with_retain_line exports kept n next) (λ more. with_retain_lines exports more (n + 1) lines)

@@ -2,12 +2,12 @@
 
 ghost use Rattle.std.specs.Prelude.{◌≡◌, ◌^◌, ◌<◌, true, [], length, IfOk};
 ghost use Rattle.obj36_parts.specs.ObjectSegment.{is_well_formed};
-ghost use Rattle.m36_bindfile.specs.BindFile.{asks_newer, is_version, BindResult};
-ghost use Rattle.m36_bind.specs.Kept.{exports_from, kept_from};
-ghost use Rattle.m36_bind.specs.Bound.{bound_parts, fitting, made, made_of, bound_of_components, bound_of_lines, bound_of};
+ghost use Rattle.m36_bindfile.specs.BindFile.{has_version_line, is_version, BindResult};
+ghost use Rattle.m36_bind.specs.Kept.{exports_from, with_retain_lines};
+ghost use Rattle.m36_bind.specs.Bound.{bound_parts, fitting, checked_parts, checked_bound_parts, bound_object_of_components, bound_object_of_lines, bound_object_of};
 ghost use Rattle.m36_bind.specs.Meaning.{AreObjects, BoundMeaning};
 
-use crate::bound::{bound_parts, frame_of};
+use crate::bound::{bound_parts, bound_shape_of};
 use crate::fitting::{components_fit, sections_fit};
 use crate::given::Given;
 use crate::kept::{exports, kept};
@@ -27,9 +27,9 @@ fn is_version(line: &BindLine) -> bool
 }
 
 // Whether one of the lines is `version 2`.
-#[tactic(auto, unfolding(m36_bindfile::specs::BindFile::asks_newer))]
-fn asks_newer(lines: &[BindLine]) -> bool
-    ensures { result ≡ asks_newer lines.now }
+#[tactic(auto, unfolding(m36_bindfile::specs::BindFile::has_version_line))]
+fn has_version_line(lines: &[BindLine]) -> bool
+    ensures { result ≡ has_version_line lines.now }
 {
     lines.iter().any(|line| is_version(line))
 }
@@ -49,7 +49,7 @@ fn fitting(object: Object) -> Result<Object, BindFault>
 
 // The object with these well-formed parts if each of its sections is within the limit, otherwise
 // B4.
-fn object_fitting(alloc: Global, parts: Parts) -> Result<Object, BindFault>
+fn object_if_sections_fit(alloc: Global, parts: Parts) -> Result<Object, BindFault>
     requires { is_well_formed parts ≡ true }
     ensures { BindResult result (fitting parts) }
 {
@@ -59,11 +59,11 @@ fn object_fitting(alloc: Global, parts: Parts) -> Result<Object, BindFault>
 
 // The object with these parts if they are well formed and each section is within the limit,
 // otherwise B4.
-fn made(alloc: Global, parts: Parts) -> Result<Object, BindFault>
-    ensures { BindResult result (made parts) }
+fn checked_parts(alloc: Global, parts: Parts) -> Result<Object, BindFault>
+    ensures { BindResult result (checked_parts parts) }
 {
     if parts.is_object() {
-        object_fitting(alloc, parts)
+        object_if_sections_fit(alloc, parts)
     } else {
         drop(parts);
         Err(BindFault::B4(0))
@@ -71,30 +71,30 @@ fn made(alloc: Global, parts: Parts) -> Result<Object, BindFault>
 }
 
 // The bound object, or B4.
-fn made_of(
+fn checked_bound_parts(
     alloc: Global,
     frame: &Shape,
     all: &Components<'_>,
     kept: Defs,
 ) -> Result<Object, BindFault>
-    ensures { BindResult result (made_of frame.now all.now kept) }
+    ensures { BindResult result (checked_bound_parts frame.now all.now kept) }
 {
     if !components_fit(frame, all.items()) {
         drop(kept);
         return Err(BindFault::B4(0));
     }
-    made(alloc, bound_parts(alloc, frame, all, kept)?)
+    checked_parts(alloc, bound_parts(alloc, frame, all, kept)?)
 }
 
 // The definitions of the retained names, or the first of B3 and B5.
-fn retained_of(
+fn retained_definitions(
     alloc: Global,
     frame: &Shape,
     all: &Components<'_>,
     lines: &[BindLine],
 ) -> Result<Defs, BindFault>
     requires { length lines.now < 2 ^ 32 }
-    ensures { BindResult result (kept_from (exports_from frame.now [] all.now) [] 1 lines.now) }
+    ensures { BindResult result (with_retain_lines (exports_from frame.now [] all.now) [] 1 lines.now) }
 {
     let exports = exports(alloc, frame, all.items())?;
     kept(alloc, &exports, lines)
@@ -102,33 +102,33 @@ fn retained_of(
 
 // The bound object of these components, or the first of B3, B5 and B4.
 #[tactic(auto, using(crate::proofs::BindingLaws::of_components))]
-fn bound_of_components(
+fn bound_object_of_components(
     alloc: Global,
     frame: &Shape,
     all: &Components<'_>,
     lines: &[BindLine],
 ) -> Result<Object, BindFault>
     requires { length lines.now < 2 ^ 32 }
-    ensures { BindResult result (bound_of_components frame.now all.now lines.now) }
+    ensures { BindResult result (bound_object_of_components frame.now all.now lines.now) }
 {
-    let kept = retained_of(alloc, frame, all, lines)?;
-    made_of(alloc, frame, all, kept)
+    let kept = retained_definitions(alloc, frame, all, lines)?;
+    checked_bound_parts(alloc, frame, all, kept)
 }
 
 // The bound object of a bind file, or its first refusal.
 #[tactic(auto, using(crate::proofs::BindingLaws::of_lines))]
-fn bound_of_lines(alloc: Global, lines: &[BindLine], given: &Given<'_>) -> Result<Object, BindFault>
+fn bound_object_of_lines(alloc: Global, lines: &[BindLine], given: &Given<'_>) -> Result<Object, BindFault>
     requires { length lines.now < 2 ^ 32 }
-    ensures { BindResult result (bound_of_lines given.now lines.now) }
+    ensures { BindResult result (bound_object_of_lines given.now lines.now) }
 {
     let all = components_of(alloc, given, lines)?;
-    let frame = frame_of(asks_newer(lines), all.items());
-    bound_of_components(alloc, &frame, &all, lines)
+    let frame = bound_shape_of(has_version_line(lines), all.items());
+    bound_object_of_components(alloc, &frame, &all, lines)
 }
 
 // The parts of each object are well formed. A law: the call does nothing at run time but pass over
 // the objects.
-fn are_objects(objects: &[Object])
+fn law_well_formed(objects: &[Object])
     ensures { AreObjects objects.now }
 {
     for object in objects {
@@ -148,11 +148,11 @@ pub fn bind(
     objects: &[Object],
 ) -> Result<Object, BindFault>
     requires { length bindfile.now < 2 ^ 32 }
-    ensures says { BindResult result (bound_of bindfile.now names.now objects.now) }
+    ensures says { BindResult result (bound_object_of bindfile.now names.now objects.now) }
     ensures means { IfOk result (λ object. BoundMeaning bindfile.now names.now objects.now object) }
 {
-    are_objects(objects);
+    law_well_formed(objects);
     let lines = read_lines(alloc, bindfile)?;
     let given = Given::new(alloc, HashSeed::of(bindfile), names, objects)?;
-    bound_of_lines(alloc, lines.items(), &given)
+    bound_object_of_lines(alloc, lines.items(), &given)
 }

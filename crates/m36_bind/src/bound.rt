@@ -2,37 +2,37 @@
 
 ghost use Rattle.std.specs.Prelude.{ℕ, ◌≡◌, ◌+◌, ◌++◌, ◌^◌, ◌<◌, ◌≤◌, [], true, false, if◌then◌else◌, IfOk, OnOk};
 ghost use Rattle.std.specs.List.{list_any};
-ghost use Rattle.m36_bind.specs.Components.{moving};
+ghost use Rattle.m36_bind.specs.Components.{relocation_of};
 ghost use Rattle.m36_bind.specs.Links.{links_from};
 ghost use Rattle.m36_relocate.specs.Words.{words_in, relocated_words};
 ghost use Rattle.obj36_parts.specs.ObjectSegment.{padded_to_even};
-ghost use Rattle.m36_bind.specs.Bound.{is_newer_component, is_newer_bound, statics_end, links_end, frame_of, component_words, laid_from, relocation_moved, with_relocation, relocations_onto, relocations_from, first_bound, bound_parts};
+ghost use Rattle.m36_bind.specs.Bound.{is_newer_component, is_newer_bound_object, statics_end, links_end, bound_shape_of, component_words, with_component_words, bound_relocation, with_relocation, relocations_onto, relocations_from, first_entry_bound, bound_parts};
 
 use crate::links::links;
-use crate::placed::{Components, Placed, moving};
+use crate::placed::{Components, PlacedComponent, relocation_of};
 use m36_relocate::layout::{Relocation, Shape, relocated_place};
-use m36_relocate::words::{is_in, move_words};
+use m36_relocate::words::{is_relocation_in, relocate_words};
 use m36_word::{NoMemory, Word, Words};
-use obj36_parts::sections::{push_all, push_evening, version_of};
+use obj36_parts::sections::{push_all, pad_to_even, version_of};
 use obj36_parts::{Defs, Links, Parts, Reloc, Relocs};
 use std::alloc::Global;
 
 // Whether a component has version 2.
-fn is_newer_component(p: &Placed<'_>) -> bool
+fn is_newer_component(p: &PlacedComponent<'_>) -> bool
     ensures { result ≡ is_newer_component p.now }
 {
     p.shape.newer
 }
 
 // Whether any component has version 2.
-fn is_some_newer(all: &[Placed<'_>]) -> bool
+fn has_newer_component(all: &[PlacedComponent<'_>]) -> bool
     ensures { result ≡ list_any is_newer_component all.now }
 {
     all.iter().any(|p| is_newer_component(p))
 }
 
 // The index after the last static word of a component, among those of the bound object.
-fn end_of_statics(p: &Placed<'_>) -> u64
+fn end_of_statics(p: &PlacedComponent<'_>) -> u64
     ensures value { result ≡ p.now.bases.statics + p.now.shape.statics }
     ensures bound { result < 2 ^ 61 }
 {
@@ -40,7 +40,7 @@ fn end_of_statics(p: &Placed<'_>) -> u64
 }
 
 // The index after the last link of a component, among those of the bound object.
-fn end_of_links(p: &Placed<'_>) -> u64
+fn end_of_links(p: &PlacedComponent<'_>) -> u64
     ensures value { result ≡ p.now.bases.links + p.now.shape.links }
     ensures bound { result < 2 ^ 61 }
 {
@@ -49,7 +49,7 @@ fn end_of_links(p: &Placed<'_>) -> u64
 
 // The number of static words of the bound object: the end of those of the last component.
 #[tactic(auto, unfolding(crate::specs::Bound::statics_end))]
-fn statics_end(all: &[Placed<'_>]) -> u64
+fn statics_end(all: &[PlacedComponent<'_>]) -> u64
     ensures value { result ≡ statics_end 0 all.now }
     ensures bound { result < 2 ^ 61 }
 {
@@ -64,7 +64,7 @@ fn statics_end(all: &[Placed<'_>]) -> u64
 
 // The number of links of the bound object: the end of those of the last component.
 #[tactic(auto, unfolding(crate::specs::Bound::links_end))]
-fn links_end(all: &[Placed<'_>]) -> u64
+fn links_end(all: &[PlacedComponent<'_>]) -> u64
     ensures value { result ≡ links_end 0 all.now }
     ensures bound { result < 2 ^ 61 }
 {
@@ -78,23 +78,23 @@ fn links_end(all: &[Placed<'_>]) -> u64
 }
 
 // The shape of the bound object.
-#[tactic(auto, unfolding(crate::specs::Bound::frame_of))]
-pub(crate) fn frame_of(asked: bool, all: &[Placed<'_>]) -> Shape
-    ensures { result ≡ frame_of asked all.now }
+#[tactic(auto, unfolding(crate::specs::Bound::bound_shape_of))]
+pub(crate) fn bound_shape_of(asked: bool, all: &[PlacedComponent<'_>]) -> Shape
+    ensures { result ≡ bound_shape_of asked all.now }
 {
     Shape {
         statics: statics_end(all),
         links: links_end(all),
-        newer: is_newer_frame(asked, all),
+        newer: has_newer_version(asked, all),
     }
 }
 
 // Whether the bound object has version 2: if the bind file asks for it (`asked`) or a component has
 // it.
-fn is_newer_frame(asked: bool, all: &[Placed<'_>]) -> bool
-    ensures { result ≡ is_newer_bound asked all.now }
+fn has_newer_version(asked: bool, all: &[PlacedComponent<'_>]) -> bool
+    ensures { result ≡ is_newer_bound_object asked all.now }
 {
-    asked || is_some_newer(all)
+    asked || has_newer_component(all)
 }
 
 // ---- words
@@ -111,7 +111,7 @@ fn words_in<'a>(statics: bool, parts: &'a Parts) -> &'a [Word]
 }
 
 // The words of a component, relocated.
-fn moved_words(
+fn relocated_copy(
     alloc: Global,
     m: &Relocation,
     statics: bool,
@@ -122,7 +122,7 @@ fn moved_words(
         (λ moved. moved.items ≡ relocated_words m.now statics relocations.now words.now) }
 {
     let mut moved = words.to_vec(alloc)?;
-    move_words(moved.as_mut_slice(), m, statics, relocations);
+    relocate_words(moved.as_mut_slice(), m, statics, relocations);
     Ok(moved)
 }
 
@@ -131,13 +131,13 @@ fn component_words(
     alloc: Global,
     frame: &Shape,
     statics: bool,
-    p: &Placed<'_>,
+    p: &PlacedComponent<'_>,
 ) -> Result<Vec<Word>, NoMemory>
     ensures { IfOk result (λ moved. moved.items ≡ component_words frame.now statics p.now) }
 {
-    let m = moving(frame, p);
+    let m = relocation_of(frame, p);
     let parts = p.parts;
-    moved_words(
+    relocated_copy(
         alloc,
         &m,
         statics,
@@ -152,20 +152,20 @@ fn add_words(
     out: &mut Words,
     frame: &Shape,
     statics: bool,
-    p: &Placed<'_>,
+    p: &PlacedComponent<'_>,
 ) -> Result<(), NoMemory>
     ensures { OnOk result
         (out.new ≡ padded_to_even out.old ++ component_words frame.now statics p.now) }
 {
-    push_evening(out)?;
+    pad_to_even(out)?;
     let words = component_words(alloc, frame, statics, p)?;
     push_all(out, words.as_slice())
 }
 
 // The texts of the components, or their static words, relocated, each from an even word on.
-#[tactic(auto, unfolding(crate::specs::Bound::laid_from))]
-fn laid(alloc: Global, frame: &Shape, statics: bool, all: &[Placed<'_>]) -> Result<Words, NoMemory>
-    ensures { IfOk result (λ words. words ≡ laid_from frame.now statics [] all.now) }
+#[tactic(auto, unfolding(crate::specs::Bound::with_component_words))]
+fn all_component_words(alloc: Global, frame: &Shape, statics: bool, all: &[PlacedComponent<'_>]) -> Result<Words, NoMemory>
+    ensures { IfOk result (λ words. words ≡ with_component_words frame.now statics [] all.now) }
 {
     let mut out = Words::new(alloc);
     let mut rest = all;
@@ -179,8 +179,8 @@ fn laid(alloc: Global, frame: &Shape, statics: bool, all: &[Placed<'_>]) -> Resu
 // ---- relocations
 
 // The relocation of the same word in the bound object, with the same part and target.
-fn relocation_moved(m: &Relocation, r: &Reloc) -> Reloc
-    ensures { result ≡ relocation_moved m.now r.now }
+fn bound_relocation(m: &Relocation, r: &Reloc) -> Reloc
+    ensures { result ≡ bound_relocation m.now r.now }
 {
     let s = relocated_place(m, r.section, r.offset as u64);
     Reloc {
@@ -201,10 +201,10 @@ fn add_relocation(
 ) -> Result<(), NoMemory>
     ensures { OnOk result (out.new ≡ with_relocation m.now statics out.old r.now) }
 {
-    if !is_in(statics, r) {
+    if !is_relocation_in(statics, r) {
         return Ok(());
     }
-    out.push(relocation_moved(m, r))
+    out.push(bound_relocation(m, r))
 }
 
 // Adds those of these relocations of a component that are of static words, or of the text.
@@ -230,13 +230,13 @@ fn add_relocations_of(
     out: &mut Relocs,
     frame: &Shape,
     statics: bool,
-    p: &Placed<'_>,
+    p: &PlacedComponent<'_>,
 ) -> Result<(), NoMemory>
     ensures { OnOk result
         (out.new ≡ relocations_onto
-        (moving frame.now p.now) statics out.old p.now.parts.relocations) }
+        (relocation_of frame.now p.now) statics out.old p.now.parts.relocations) }
 {
-    let m = moving(frame, p);
+    let m = relocation_of(frame, p);
     let parts = p.parts;
     add_relocations(out, &m, statics, parts.relocations.items())
 }
@@ -247,7 +247,7 @@ fn add_all_relocations(
     out: &mut Relocs,
     frame: &Shape,
     statics: bool,
-    all: &[Placed<'_>],
+    all: &[PlacedComponent<'_>],
 ) -> Result<(), NoMemory>
     ensures { OnOk result (out.new ≡ relocations_from frame.now statics out.old all.now) }
 {
@@ -260,7 +260,7 @@ fn add_all_relocations(
 }
 
 // The relocations of the bound object: those of the text, and then those of the static words.
-fn relocations(alloc: Global, frame: &Shape, all: &[Placed<'_>]) -> Result<Relocs, NoMemory>
+fn relocations(alloc: Global, frame: &Shape, all: &[PlacedComponent<'_>]) -> Result<Relocs, NoMemory>
     ensures { IfOk result
         (λ rs. rs ≡ relocations_from frame.now true
         (relocations_from frame.now false [] all.now) all.now) }
@@ -274,7 +274,7 @@ fn relocations(alloc: Global, frame: &Shape, all: &[Placed<'_>]) -> Result<Reloc
 // ---- the parts
 
 // The entry bound of a component: how many words of its text are entries.
-fn entry_bound_of(p: &Placed<'_>) -> u32
+fn entry_bound_of(p: &PlacedComponent<'_>) -> u32
     ensures value { result ≡ p.now.parts.entry_bound }
     ensures bound { result < 2 ^ 18 }
 {
@@ -283,8 +283,8 @@ fn entry_bound_of(p: &Placed<'_>) -> u32
 }
 
 // The entry bound of the bound object, which is that of the first component.
-fn first_bound(all: &[Placed<'_>]) -> u32
-    ensures value { result ≡ first_bound all.now }
+fn first_entry_bound(all: &[PlacedComponent<'_>]) -> u32
+    ensures value { result ≡ first_entry_bound all.now }
     ensures bound { result < 2 ^ 18 }
 {
     match all {
@@ -301,12 +301,12 @@ struct ComponentWords {
 }
 
 // The text and the static words of the bound object.
-fn all_laid(alloc: Global, frame: &Shape, all: &[Placed<'_>]) -> Result<ComponentWords, NoMemory>
-    ensures text { IfOk result (λ laid. laid.text ≡ laid_from frame.now false [] all.now) }
-    ensures statics { IfOk result (λ laid. laid.statics ≡ laid_from frame.now true [] all.now) }
+fn text_and_statics(alloc: Global, frame: &Shape, all: &[PlacedComponent<'_>]) -> Result<ComponentWords, NoMemory>
+    ensures text { IfOk result (λ all_component_words. all_component_words.text ≡ with_component_words frame.now false [] all.now) }
+    ensures statics { IfOk result (λ all_component_words. all_component_words.statics ≡ with_component_words frame.now true [] all.now) }
 {
-    let text = laid(alloc, frame, false, all)?;
-    let statics = laid(alloc, frame, true, all)?;
+    let text = all_component_words(alloc, frame, false, all)?;
+    let statics = all_component_words(alloc, frame, true, all)?;
     Ok(ComponentWords { text, statics })
 }
 
@@ -339,15 +339,15 @@ pub(crate) fn bound_parts(
 ) -> Result<Parts, NoMemory>
     ensures { IfOk result (λ parts. parts ≡ bound_parts frame.now all.now kept) }
 {
-    let laid = all_laid(alloc, frame, all.items())?;
+    let all_component_words = text_and_statics(alloc, frame, all.items())?;
     let references = references_of(alloc, frame, all)?;
     Ok(Parts {
-        text: laid.text,
-        statics: laid.statics,
+        text: all_component_words.text,
+        statics: all_component_words.statics,
         definitions: kept,
         links: references.links,
         relocations: references.relocations,
-        entry_bound: first_bound(all.items()),
+        entry_bound: first_entry_bound(all.items()),
         version: version_of(frame.newer),
     })
 }

@@ -4,7 +4,7 @@ ghost use Rattle.std.specs.Prelude.{◌≡◌, ◌&&◌};
 ghost use Rattle.obj36_parts.specs.ObjectSegment.{definition_section, section_fits, sections_fit};
 ghost use Rattle.m36_bind.specs.Bound.{component_fits, components_fit};
 
-use crate::placed::{Placed, moving};
+use crate::placed::{PlacedComponent, relocation_of};
 use m36_relocate::layout::Shape;
 use m36_relocate::words::all_fit;
 use m36_word::Word;
@@ -13,10 +13,10 @@ use obj36_parts::Section;
 use obj36_parts::sections::SECTION_LIMIT;
 
 // Whether the relocated parts of the text and the static words of a component fit.
-fn component_fits(frame: &Shape, p: &Placed<'_>) -> bool
+fn component_fits(frame: &Shape, p: &PlacedComponent<'_>) -> bool
     ensures { result ≡ component_fits frame.now p.now }
 {
-    let m = moving(frame, p);
+    let m = relocation_of(frame, p);
     let parts = p.parts;
     let relocations = parts.relocations.items();
     all_fit(&m, false, parts.text.slice(), relocations)
@@ -25,7 +25,7 @@ fn component_fits(frame: &Shape, p: &Placed<'_>) -> bool
 
 // Whether the relocated parts of all components fit.
 #[tactic(auto, unfolding(crate::specs::Bound::components_fit))]
-pub(crate) fn components_fit(frame: &Shape, all: &[Placed<'_>]) -> bool
+pub(crate) fn components_fit(frame: &Shape, all: &[PlacedComponent<'_>]) -> bool
     ensures { result ≡ components_fit frame.now all.now }
 {
     let mut rest = all;
@@ -46,7 +46,7 @@ fn section_fits(words: &[Word]) -> bool
 }
 
 // Whether the definition section is within the limit.
-fn definition_fits(object: &Object) -> bool
+fn definition_section_fits(object: &Object) -> bool
     ensures { result ≡ section_fits (definition_section object.now) }
 {
     object.definition_length() as u64 <= SECTION_LIMIT
@@ -58,7 +58,7 @@ pub(crate) fn sections_fit(object: &Object) -> bool
     ensures { result ≡ sections_fit object.now }
 {
     section_fits(object.section(Section::Text))
-        && definition_fits(object)
+        && definition_section_fits(object)
         && section_fits(object.section(Section::Linkage))
         && section_fits(object.section(Section::Static))
         && section_fits(object.section(Section::Symbol))

@@ -3,7 +3,7 @@
 ghost use Rattle.std.specs.Prelude.{ℕ, ◌≡◌, IfOk, OnOk, slice_get, option_map, option_and_then};
 ghost use Rattle.std.specs.Map.{lookup};
 ghost use Rattle.obj36_parts.specs.Names.{same};
-ghost use Rattle.m36_bind.specs.Given.{object_named, with_place, ArePlaces};
+ghost use Rattle.m36_bind.specs.Given.{object_named, with_index, IndexesAreFirst};
 
 use indexmap::IndexMap;
 use m36_text::{HashSeed, Name};
@@ -22,32 +22,32 @@ pub(crate) struct Given<'a> {
 }
 
 impl<'a> Model for Given<'a> {
-    ghost use Rattle.m36_bind.specs.Given.{GivenFields, ArePlaces};
+    ghost use Rattle.m36_bind.specs.Given.{NamedObjectsFields, IndexesAreFirst};
 
-    ghost Value = { GivenFields };
+    ghost Value = { NamedObjectsFields };
 
     ghost view = { λ g. record { names = g.names.now; objects = g.objects.now } };
 
-    ghost invariant = { λ g. ArePlaces g.names.now g.places.entries };
+    ghost invariant = { λ g. IndexesAreFirst g.names.now g.places.entries };
 }
 
 // The index of the first object that was given under this name.
-fn place_in(places: &IndexMap<Name, u64, HashSeed>, name: &Name) -> Option<u64>
+fn index_of_name(places: &IndexMap<Name, u64, HashSeed>, name: &Name) -> Option<u64>
     ensures { result ≡ lookup (same name.now) places.now.entries }
 {
     places.get(name).copied()
 }
 
 // Records the index of a name, unless it has one already.
-#[tactic(auto, unfolding(crate::specs::Given::with_place))]
-fn note_place(
+#[tactic(auto, unfolding(crate::specs::Given::with_index))]
+fn record_index(
     places: &mut IndexMap<Name, u64, HashSeed>,
     name: &Name,
     place: u64,
 ) -> Result<(), NoMemory>
-    ensures { OnOk result (places.new.entries ≡ with_place places.old.entries name.now place) }
+    ensures { OnOk result (places.new.entries ≡ with_index places.old.entries name.now place) }
 {
-    if place_in(places, name).is_some() {
+    if index_of_name(places, name).is_some() {
         return Ok(());
     }
     places.insert(name.copied(), place)?;
@@ -55,17 +55,17 @@ fn note_place(
 }
 
 // The index of the first object of each name. The names are hashed with this seed.
-fn places_of(
+fn first_indexes_of(
     alloc: Global,
     seed: HashSeed,
     names: &[Name],
 ) -> Result<IndexMap<Name, u64, HashSeed>, NoMemory>
-    ensures { IfOk result (λ places. ArePlaces names.now places.entries) }
+    ensures { IfOk result (λ places. IndexesAreFirst names.now places.entries) }
 {
     let mut places = IndexMap::with_hasher(alloc, seed);
     let mut place: u64 = 0;
     for name in names {
-        note_place(&mut places, name, place)?;
+        record_index(&mut places, name, place)?;
         place += 1;
     }
     Ok(places)
@@ -90,7 +90,7 @@ impl<'a> Given<'a> {
         ensures { IfOk result
             (λ given. given ≡ record { names = names.now; objects = objects.now }) }
     {
-        let places = places_of(alloc, seed, names)?;
+        let places = first_indexes_of(alloc, seed, names)?;
         Ok(Given {
             names,
             objects,
@@ -107,7 +107,7 @@ impl<'a> Given<'a> {
     pub(crate) fn find(&self, name: &Name) -> Option<&'a Object>
         ensures { option_map (λ o. o.now) result ≡ object_named self.now name.now }
     {
-        let place = place_in(&self.places, name);
+        let place = index_of_name(&self.places, name);
         object_at(self.objects, place)
     }
 }

@@ -1,13 +1,13 @@
 //! The links of the bound object.
 
 ghost use Rattle.std.specs.Prelude.{ℕ, ◌≡◌, ◌+◌, ◌%◌, ◌^◌, ◌<◌, [], OnOk, IfOk, option_map};
-ghost use Rattle.m36_bind.specs.Components.{moving};
+ghost use Rattle.m36_bind.specs.Components.{relocation_of};
 ghost use Rattle.m36_relocate.specs.Layout.{relocated_place};
-ghost use Rattle.m36_bind.specs.Links.{own_link, offset_by, segment_link, entry_link, outer_link, inner_link, link_moved, links_onto, links_from};
+ghost use Rattle.m36_bind.specs.Links.{own_link, offset_by, segment_link, entry_link, outer_link, inner_link, bound_link, links_onto, links_from};
 
-use crate::placed::{Components, Placed, moving, seed_of};
+use crate::placed::{Components, PlacedComponent, relocation_of, seed_of};
 use m36_relocate::exports::Export;
-use m36_relocate::layout::{BoundPlace, Shape, relocated_place, spot_at};
+use m36_relocate::layout::{BoundPlace, Shape, relocated_place, section_place_at};
 use m36_text::Name;
 use m36_word::NoMemory;
 use obj36_parts::sections::later_section;
@@ -54,24 +54,24 @@ fn offset_by(s: BoundPlace, n: u32) -> BoundPlace
 
 // A link of type 3, to a segment. If `p` is that segment, the link goes to word 0 of its text, plus
 // the number of the link. It is unchanged if the segment is no component.
-fn segment_link(l: &Link, p: Option<&Placed<'_>>) -> Link
+fn segment_link(l: &Link, p: Option<&PlacedComponent<'_>>) -> Link
     ensures { result ≡ segment_link l.now (option_map (λ p. p.now) p.entry) }
 {
     match p {
         None => l.copied(),
-        Some(p) => own_link(l, spot_at(Section::Text, p.bases.text + l.expr as u64)),
+        Some(p) => own_link(l, section_place_at(Section::Text, p.bases.text + l.expr as u64)),
     }
 }
 
 // A link of type 4 to an entry of component `p`: to the new place of the definition, plus the
 // number of the link. It is unchanged if the component has no such definition.
-fn entry_link(frame: &Shape, l: &Link, p: &Placed<'_>, export: Option<Export>) -> Link
+fn entry_link(frame: &Shape, l: &Link, p: &PlacedComponent<'_>, export: Option<Export>) -> Link
     ensures { result ≡ entry_link frame.now l.now p.now export }
 {
     match export {
         None => l.copied(),
         Some(e) => {
-            let m = moving(frame, p);
+            let m = relocation_of(frame, p);
             let s = relocated_place(&m, e.def.section, e.def.value as u64);
             own_link(l, offset_by(s, l.expr))
         }
@@ -79,7 +79,7 @@ fn entry_link(frame: &Shape, l: &Link, p: &Placed<'_>, export: Option<Export>) -
 }
 
 // A link of type 4, to an entry of a segment. It is unchanged if the segment is no component.
-fn outer_link(frame: &Shape, l: &Link, p: Option<&Placed<'_>>) -> Link
+fn outer_link(frame: &Shape, l: &Link, p: Option<&PlacedComponent<'_>>) -> Link
     ensures { result ≡ outer_link frame.now l.now (option_map (λ p. p.now) p.entry) }
 {
     match p {
@@ -90,13 +90,13 @@ fn outer_link(frame: &Shape, l: &Link, p: Option<&Placed<'_>>) -> Link
 
 // A link of type 5, to an entry of the component's own object. The value of the definition is an
 // offset in the later of its section and the section of the link.
-fn inner_link(frame: &Shape, p: &Placed<'_>, l: &Link, export: Option<Export>) -> Link
+fn inner_link(frame: &Shape, p: &PlacedComponent<'_>, l: &Link, export: Option<Export>) -> Link
     ensures { result ≡ inner_link frame.now p.now l.now export }
 {
     match export {
         None => l.copied(),
         Some(e) => {
-            let m = moving(frame, p);
+            let m = relocation_of(frame, p);
             let section = later_section(l.section, e.def.section);
             own_link(
                 l,
@@ -107,21 +107,21 @@ fn inner_link(frame: &Shape, p: &Placed<'_>, l: &Link, export: Option<Export>) -
 }
 
 // A link of type 1, relocated.
-fn moved_own(frame: &Shape, p: &Placed<'_>, l: &Link) -> Link
+fn bound_own_link(frame: &Shape, p: &PlacedComponent<'_>, l: &Link) -> Link
     ensures { result ≡ own_link l.now
-        (relocated_place (moving frame.now p.now) l.now.section l.now.expr) }
+        (relocated_place (relocation_of frame.now p.now) l.now.section l.now.expr) }
 {
-    let m = moving(frame, p);
+    let m = relocation_of(frame, p);
     own_link(l, relocated_place(&m, l.section, l.expr as u64))
 }
 
 // The link of the bound object that replaces a link of a component.
-#[tactic(auto, unfolding(crate::specs::Links::link_moved))]
-fn link_moved(frame: &Shape, all: &Components<'_>, p: &Placed<'_>, l: &Link) -> Link
-    ensures { result ≡ link_moved frame.now all.now p.now l.now }
+#[tactic(auto, unfolding(crate::specs::Links::bound_link))]
+fn bound_link(frame: &Shape, all: &Components<'_>, p: &PlacedComponent<'_>, l: &Link) -> Link
+    ensures { result ≡ bound_link frame.now all.now p.now l.now }
 {
     if l.kind == TO_SECTION {
-        return moved_own(frame, p, l);
+        return bound_own_link(frame, p, l);
     }
     if l.kind == TO_SEGMENT {
         return segment_link(l, all.find(&l.name));
@@ -141,14 +141,14 @@ fn add_links(
     out: &mut Links,
     frame: &Shape,
     all: &Components<'_>,
-    p: &Placed<'_>,
+    p: &PlacedComponent<'_>,
     links: &[Link],
 ) -> Result<(), NoMemory>
     ensures { OnOk result (out.new ≡ links_onto frame.now all.now p.now out.old links.now) }
 {
     let mut rest = links;
     while let [l, others @ ..] = rest {
-        out.push(link_moved(frame, all, p, l))?;
+        out.push(bound_link(frame, all, p, l))?;
         rest = others;
     }
     Ok(())
@@ -159,7 +159,7 @@ fn add_links_of(
     out: &mut Links,
     frame: &Shape,
     all: &Components<'_>,
-    p: &Placed<'_>,
+    p: &PlacedComponent<'_>,
 ) -> Result<(), NoMemory>
     ensures { OnOk result (out.new ≡ links_onto frame.now all.now p.now out.old p.now.parts.links) }
 {

@@ -4,10 +4,10 @@ ghost use Rattle.std.specs.Prelude.{ℕ, ◌≡◌, ◌+◌, ◌*◌, ◌^◌, �
 ghost use Rattle.std.specs.List.{list_any};
 ghost use Rattle.obj36_parts.specs.Names.{same};
 ghost use Rattle.obj36_parts.specs.ObjectSegment.{is_newer, segment_limit};
-ghost use Rattle.m36_relocate.specs.Exports.{own_from};
+ghost use Rattle.m36_relocate.specs.Exports.{with_own_definitions};
 ghost use Rattle.m36_bindfile.specs.BindFile.{BindResult};
 ghost use Rattle.m36_relocate.specs.Layout.{shape_of, first_bases, next_bases};
-ghost use Rattle.m36_bind.specs.Components.{component, moving, names_of, component_named, picked_one, picked_line, picked_of, AddsComponent, AreBounded, HasShortParts};
+ghost use Rattle.m36_bind.specs.Components.{component, relocation_of, names_of, component_named, with_found_object, with_component_of_line, components_of_lines, AddsComponent, BasesAreBounded, HasShortParts};
 
 use crate::given::Given;
 use indexmap::IndexSet;
@@ -18,13 +18,13 @@ use m36_text::{HashSeed, Name};
 use m36_word::NoMemory;
 use obj36::Object;
 use obj36_parts::Parts;
-use obj36_parts::definition::put;
+use obj36_parts::definition::push_within_capacity;
 use std::alloc::Global;
 use std::marker::Model;
 
 // A component.
 #[derive(Drop)]
-pub(crate) struct Placed<'a> {
+pub(crate) struct PlacedComponent<'a> {
     // The name by which other components refer to it.
     pub(crate) name: &'a Name,
     pub(crate) parts: &'a Parts,
@@ -34,12 +34,12 @@ pub(crate) struct Placed<'a> {
     pub(crate) bases: Bases,
 }
 
-impl<'a> Model for Placed<'a> {
+impl<'a> Model for PlacedComponent<'a> {
     ghost use Rattle.std.specs.Prelude.{◌≤◌};
     ghost use Rattle.obj36_parts.specs.ObjectSegment.{segment_limit};
-    ghost use Rattle.m36_bind.specs.Components.{PlacedFields};
+    ghost use Rattle.m36_bind.specs.Components.{PlacedComponentFields};
 
-    ghost Value = { PlacedFields };
+    ghost Value = { PlacedComponentFields };
 
     ghost view = { λ p. record { name = p.name.now; parts = p.parts.now; shape = p.shape; bases = p.bases; entries = p.entries } };
 
@@ -49,15 +49,15 @@ impl<'a> Model for Placed<'a> {
 // Components in their order. The model is the list of them.
 #[derive(Drop)]
 pub(crate) struct Components<'a> {
-    items: Vec<Placed<'a>>,
+    items: Vec<PlacedComponent<'a>>,
     names: IndexSet<Name, HashSeed>,
 }
 
 impl<'a> Model for Components<'a> {
     ghost use Rattle.std.specs.Prelude.{◌≡◌, List};
-    ghost use Rattle.m36_bind.specs.Components.{PlacedFields, names_of};
+    ghost use Rattle.m36_bind.specs.Components.{PlacedComponentFields, names_of};
 
-    ghost Value = { List PlacedFields };
+    ghost Value = { List PlacedComponentFields };
 
     ghost view = { λ c. c.items.items };
 
@@ -65,8 +65,8 @@ impl<'a> Model for Components<'a> {
 }
 
 // How the places of a component are relocated to those of a bound object with this shape.
-pub(crate) fn moving(frame: &Shape, p: &Placed<'_>) -> Relocation
-    ensures { result ≡ moving frame.now p.now }
+pub(crate) fn relocation_of(frame: &Shape, p: &PlacedComponent<'_>) -> Relocation
+    ensures { result ≡ relocation_of frame.now p.now }
 {
     Relocation {
         frame: *frame,
@@ -105,7 +105,7 @@ fn is_newer(parts: &Parts) -> bool
 
 // The definitions of an object by their names.
 fn entries_of(alloc: Global, parts: &Parts) -> Result<Exports, NoMemory>
-    ensures { IfOk result (λ table. table ≡ own_from [] parts.now.definitions) }
+    ensures { IfOk result (λ table. table ≡ with_own_definitions [] parts.now.definitions) }
 {
     own_entries(alloc, parts.definitions.seed(), parts.definitions.items())
 }
@@ -113,10 +113,10 @@ fn entries_of(alloc: Global, parts: &Parts) -> Result<Exports, NoMemory>
 // Where the words of the next component begin.
 fn next_bases(b: &Bases, parts: &Parts, n: u64) -> Bases
     requires small { n < 2 ^ 32 }
-    requires near { AreBounded b.now n }
+    requires near { BasesAreBounded b.now n }
     requires few { HasShortParts parts.now }
     ensures value { result ≡ next_bases b.now parts.now }
-    ensures near { AreBounded result (n + 1) }
+    ensures near { BasesAreBounded result (n + 1) }
 {
     Bases {
         text: evened(b.text + text_length(parts)),
@@ -149,7 +149,7 @@ fn parts_of(object: &Object) -> &Parts
 }
 
 // The seed for a hash table with the names of all these components, made of their own seeds.
-pub(crate) fn seed_of(all: &[Placed<'_>]) -> HashSeed {
+pub(crate) fn seed_of(all: &[PlacedComponent<'_>]) -> HashSeed {
     let mut seed = HashSeed::of(b"");
     for p in all {
         let parts = p.parts;
@@ -170,7 +170,7 @@ impl<'a> Components<'a> {
     }
 
     // The components in their order.
-    pub(crate) fn items(&self) -> &[Placed<'a>]
+    pub(crate) fn items(&self) -> &[PlacedComponent<'a>]
         ensures { result.now ≡ self.now }
     {
         self.items.as_slice()
@@ -185,7 +185,7 @@ impl<'a> Components<'a> {
 
     // The component with this name. None if there is none.
     #[tactic(auto, unfolding(crate::specs::Components::component_named))]
-    pub(crate) fn find(&self, name: &Name) -> Option<&Placed<'a>>
+    pub(crate) fn find(&self, name: &Name) -> Option<&PlacedComponent<'a>>
         ensures { option_map (λ p. p.now) result ≡ component_named name.now self.now }
     {
         let i = self.names.get_index_of(name)?;
@@ -208,9 +208,9 @@ impl<'a> Components<'a> {
         let shape = shape_of(parts);
         self.items.reserve(1)?;
         self.names.insert(name.copied())?;
-        put(
+        push_within_capacity(
             &mut self.items,
-            Placed {
+            PlacedComponent {
                 name,
                 parts,
                 entries,
@@ -225,7 +225,7 @@ impl<'a> Components<'a> {
 // Adds an object that was found for a line. Returns where the next component begins, or B3 if a
 // component has the name.
 #[tactic(auto, using(crate::proofs::PickLaws::picking))]
-fn pick<'a>(
+fn add_found_object<'a>(
     alloc: Global,
     all: &mut Components<'a>,
     next: Bases,
@@ -234,10 +234,10 @@ fn pick<'a>(
     object: &'a Object,
 ) -> Result<Bases, BindFault>
     requires small { n < 2 ^ 32 }
-    requires near { AreBounded next n }
+    requires near { BasesAreBounded next n }
     ensures answer { AddsComponent all.new result
-        (picked_one (record { placed = all.old; next = next }) n name.now (Some object.now)) }
-    ensures near { IfOk result (λ next. AreBounded next (n + 1)) }
+        (with_found_object (record { placed = all.old; next = next }) n name.now (Some object.now)) }
+    ensures near { IfOk result (λ next. BasesAreBounded next (n + 1)) }
 {
     if all.has(name) {
         return Err(BindFault::B3(n as u32));
@@ -261,14 +261,14 @@ fn add_component_of_line<'a>(
     line: &'a BindLine,
 ) -> Result<Bases, BindFault>
     requires small { n < 2 ^ 32 }
-    requires near { AreBounded next n }
+    requires near { BasesAreBounded next n }
     ensures answer { AddsComponent all.new result
-        (picked_line given.now (record { placed = all.old; next = next }) n line.now) }
-    ensures near { IfOk result (λ next. AreBounded next (n + 1)) }
+        (with_component_of_line given.now (record { placed = all.old; next = next }) n line.now) }
+    ensures near { IfOk result (λ next. BasesAreBounded next (n + 1)) }
 {
     match line {
         BindLine::Object(name) => match given.find(name) {
-            Some(object) => pick(alloc, all, next, n, name, object),
+            Some(object) => add_found_object(alloc, all, next, n, name, object),
             None => Err(BindFault::B2(n as u32)),
         },
         _ => Ok(next),
@@ -278,7 +278,7 @@ fn add_component_of_line<'a>(
 // Where the words of the first component begin: at 0 everywhere.
 fn first_bases() -> Bases
     ensures value { result ≡ first_bases }
-    ensures near { AreBounded result 1 }
+    ensures near { BasesAreBounded result 1 }
 {
     Bases {
         text: 0,
@@ -294,7 +294,7 @@ pub(crate) fn components_of<'a>(
     lines: &'a [BindLine],
 ) -> Result<Components<'a>, BindFault>
     requires { length lines.now < 2 ^ 32 }
-    ensures { BindResult result (picked_of given.now lines.now) }
+    ensures { BindResult result (components_of_lines given.now lines.now) }
 {
     let mut all = Components::new(alloc, given.seed());
     let mut next = first_bases();

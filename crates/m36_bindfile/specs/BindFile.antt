@@ -14,8 +14,8 @@ use Rattle.std.specs.Prelude.{◌∷◌, ◌++◌, length, map, codes, Option, S
 use Rattle.std.specs.Prelude.{Ok, Err}
 use Rattle.std.specs.List.{list_any}
 use Rattle.m36_text.specs.Texts.{are_same, is_text, is_file_name}
-use Rattle.m36_text.specs.Once.{with_once}
-use Rattle.m36_text.specs.Lines.{lines_of, open_lines_of, by_words, last_of}
+use Rattle.m36_text.specs.Once.{appended_if_new}
+use Rattle.m36_text.specs.Lines.{lines_of, open_lines_of, line_meaning, last_of}
 use Rattle.m36_text.specs.Results.{and_then}
 use Rattle.m36_bindfile.specs.declared.line.BindLine.{BindLine}
 use Rattle.m36_bindfile.specs.declared.line.BindLine.TheVariants as line
@@ -37,8 +37,8 @@ abbrev pub version_line : List ℕ → Option BindLine
 version_line number = if is_text (codes "2") number then Some line.Version else None
 
 -- the line with these two words; None if it has no form
-abbrev pub two_words : List ℕ → List ℕ → Option BindLine
-two_words word given =
+abbrev pub line_of_two_words : List ℕ → List ℕ → Option BindLine
+line_of_two_words word given =
     if is_text (codes "object") word then object_line given
     else if is_text (codes "retain") word then retain_line given
     else if is_text (codes "version") word then version_line given
@@ -46,16 +46,16 @@ two_words word given =
 
 -- the line with these words; None if it has no form
 abbrev pub line_of_words : List (List ℕ) → Option BindLine
-line_of_words (word ∷ given ∷ []) = two_words word given
+line_of_words (word ∷ given ∷ []) = line_of_two_words word given
 line_of_words _ = None
 
 -- a line parsed by itself; None if it has no form or lacks its line feed
-unfoldable pub line_given : Option (List ℕ) → Option BindLine
-line_given line = by_words line_of_words None line
+unfoldable pub parsed_bind_line : Option (List ℕ) → Option BindLine
+parsed_bind_line line = line_meaning line_of_words None line
 
 -- each line parsed by itself
-unfoldable pub lines_given : List ℕ → List (Option BindLine)
-lines_given text = map line_given (lines_of text)
+unfoldable pub parsed_bind_lines : List ℕ → List (Option BindLine)
+parsed_bind_lines text = map parsed_bind_line (lines_of text)
 
 -- ---- order
 
@@ -94,26 +94,26 @@ is_in_order_after None next = may_begin next
 is_in_order_after (Some above) next = may_follow above next
 
 -- the parsed line, if it has a form and may follow the line above it
-abbrev pub in_order : Option BindLine → Option BindLine → Option BindLine
-in_order above None = None
-in_order above (Some next) = if is_in_order_after above next then Some next else None
+abbrev pub line_in_order : Option BindLine → Option BindLine → Option BindLine
+line_in_order above None = None
+line_in_order above (Some next) = if is_in_order_after above next then Some next else None
 
 -- ---- B1
 
 -- continues with a parsed line; the result is `otherwise` if the line has no form or is out of
 -- order
-abbrev pub read_on : Result (List BindLine) BindFault → (BindLine
+abbrev pub continue_with_line : Result (List BindLine) BindFault → (BindLine
     → Result (List BindLine) BindFault) → Option BindLine → Result (List BindLine) BindFault
-read_on otherwise next None = otherwise
-read_on otherwise next (Some line) = next line
+continue_with_line otherwise next None = otherwise
+continue_with_line otherwise next (Some line) = next line
 
 -- the lines after those above, or B1 at the first that has no form or is out of order
 unfoldable pub lines_from : List BindLine → List (Option BindLine)
     → Result (List BindLine) BindFault
 lines_from above [] = Ok above
 lines_from above (given ∷ more) =
-    read_on (Err (fault.B1 (length above + 1))) (λ next. lines_from (above ++ next ∷ []) more)
-    (in_order (last_of above) given)
+    continue_with_line (Err (fault.B1 (length above + 1))) (λ next. lines_from (above ++ next ∷ []) more)
+    (line_in_order (last_of above) given)
 
 -- whether the text after the last line feed is not empty
 abbrev pub lacks_line_feed : List ℕ → Bool
@@ -127,11 +127,11 @@ is_object_line (Some next) = is_object next
 
 -- whether a line is an `object` line, including a last line that lacks its line feed
 unfoldable pub has_object : List ℕ → Bool
-has_object text = list_any (λ line. is_object_line (line_given (Some line))) (open_lines_of text)
+has_object text = list_any (λ line. is_object_line (parsed_bind_line (Some line))) (open_lines_of text)
 
 -- the lines of a bind file, or B1 with a line number
 unfoldable pub bind_lines : List ℕ → Result (List BindLine) BindFault
-bind_lines text = if has_object text then lines_from [] (lines_given text) else Err (fault.B1 1)
+bind_lines text = if has_object text then lines_from [] (parsed_bind_lines text) else Err (fault.B1 1)
 
 -- ---- the meaning of the lines
 
@@ -144,7 +144,7 @@ retained_in (line.Retain name) = name ∷ []
 -- names, with that of one more component, unless they have it
 abbrev pub with_component : List (List ℕ) → BindLine → List (List ℕ)
 with_component names line.Version = names
-with_component names (line.Object name) = with_once (are_same name) names name
+with_component names (line.Object name) = appended_if_new (are_same name) names name
 with_component names (line.Retain name) = names
 
 -- names, with those of the components of lines, each once
@@ -162,22 +162,22 @@ retained_names [] = []
 retained_names (next ∷ lines) = retained_in next ++ retained_names lines
 
 -- whether one of the lines is `version 2`, which asks for an object of that version
-unfoldable pub asks_newer : List BindLine → Bool
-asks_newer lines = list_any is_version lines
+unfoldable pub has_version_line : List BindLine → Bool
+has_version_line lines = list_any is_version lines
 
 -- ---- results
 
 -- The fault of a call is that of the definition, or it is NoMemory, which is allowed for every
 -- text.
-abbrev pub Refuses : {A : Type 0} → BindFault → Result A BindFault → Type 0
-Refuses fault.NoMemory definition = Unit {0}
-Refuses told definition = definition ≡ Err told
+abbrev pub IsBindRefusal : {A : Type 0} → BindFault → Result A BindFault → Type 0
+IsBindRefusal fault.NoMemory definition = Unit {0}
+IsBindRefusal told definition = definition ≡ Err told
 
 -- The result of a call is that of the definition, or `NoMemory`.
 abbrev pub BindResult : {A : Type 0} → Result A BindFault → Result A BindFault → Type 0
 BindResult (Ok value) definition = definition ≡ Ok value
-BindResult (Err told) definition = Refuses told definition
+BindResult (Err told) definition = IsBindRefusal told definition
 
 -- the names of the components, from the result of parsing the lines of a bind file
-abbrev pub names_by : Result (List BindLine) BindFault → Result (List (List ℕ)) BindFault
-names_by read = and_then read (λ lines. Ok (component_names lines))
+abbrev pub names_or_fault : Result (List BindLine) BindFault → Result (List (List ℕ)) BindFault
+names_or_fault read = and_then read (λ lines. Ok (component_names lines))

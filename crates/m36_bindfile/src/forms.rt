@@ -3,7 +3,7 @@
 
 ghost use Rattle.std.specs.Prelude.{◌≡◌, Some};
 ghost use Rattle.m36_text.specs.Lines.{words_of, last_of};
-ghost use Rattle.m36_bindfile.specs.BindFile.{object_line, retain_line, version_line, two_words, line_given, is_object, may_begin, may_follow, is_in_order_after, in_order, is_object_line};
+ghost use Rattle.m36_bindfile.specs.BindFile.{object_line, retain_line, version_line, line_of_two_words, parsed_bind_line, is_object, may_begin, may_follow, is_in_order_after, line_in_order, is_object_line};
 
 use crate::line::{BindLine, BindLines};
 use m36_text::{Name, first_word, is_file_name, only_word};
@@ -42,8 +42,8 @@ fn version_line(number: &[u8]) -> Option<BindLine>
 }
 
 // The line with this first word and this second word.
-fn two_words(word: &[u8], given: &[u8]) -> Option<BindLine>
-    ensures { result ≡ two_words word.now given.now }
+fn line_of_two_words(word: &[u8], given: &[u8]) -> Option<BindLine>
+    ensures { result ≡ line_of_two_words word.now given.now }
 {
     if word == b"object".as_slice() {
         return object_line(given);
@@ -58,12 +58,12 @@ fn two_words(word: &[u8], given: &[u8]) -> Option<BindLine>
 }
 
 // Parses a line of a bind file.
-#[tactic(auto, unfolding(crate::specs::BindFile::line_given))]
+#[tactic(auto, unfolding(crate::specs::BindFile::parsed_bind_line))]
 fn read_line(text: &[u8]) -> Option<BindLine>
-    ensures { result ≡ line_given (Some text.now) }
+    ensures { result ≡ parsed_bind_line (Some text.now) }
 {
     let (word, rest) = first_word(text);
-    two_words(word, only_word(rest?)?)
+    line_of_two_words(word, only_word(rest?)?)
 }
 
 // Whether a parsed line is an `object` line.
@@ -75,7 +75,7 @@ fn is_object(line: &BindLine) -> bool
 
 /// Whether a line is an `object` line.
 pub(crate) fn is_object_line(text: &[u8]) -> bool
-    ensures { result ≡ is_object_line (line_given (Some text.now)) }
+    ensures { result ≡ is_object_line (parsed_bind_line (Some text.now)) }
 {
     match read_line(text) {
         Some(line) => is_object(&line),
@@ -116,7 +116,7 @@ fn is_in_order(above: &[BindLine], next: &BindLine) -> bool
 
 /// The parsed line, if it has a form and may follow the lines above.
 pub(crate) fn line_after(above: &BindLines, text: &[u8]) -> Option<BindLine>
-    ensures { result ≡ in_order (last_of above.now) (line_given (Some text.now)) }
+    ensures { result ≡ line_in_order (last_of above.now) (parsed_bind_line (Some text.now)) }
 {
     let next = read_line(text)?;
     if is_in_order(above.items(), &next) {

@@ -1,8 +1,8 @@
 //! Parses the lines of a bind file in order, up to the first that has no form or is out of order.
 
 ghost use Rattle.std.specs.Prelude.{◌≡◌, ◌+◌, ◌++◌, ◌<◌, ◌≤◌, ◌^◌, [], length, IfOk, OnOk};
-ghost use Rattle.m36_bindfile.specs.BindFile.{lines_given, lines_from, lacks_line_feed, has_object, bind_lines, with_component, component_names, names_by, BindResult};
-ghost use Rattle.m36_text.specs.Once.{with_once};
+ghost use Rattle.m36_bindfile.specs.BindFile.{parsed_bind_lines, lines_from, lacks_line_feed, has_object, bind_lines, with_component, component_names, names_or_fault, BindResult};
+ghost use Rattle.m36_text.specs.Once.{appended_if_new};
 ghost use Rattle.m36_text.specs.Texts.{are_same};
 
 use crate::fault::BindFault;
@@ -47,7 +47,7 @@ fn lacks_line_feed(rest: &[u8]) -> bool
 // its line feed.
 fn lines_in(alloc: Global, text: &[u8]) -> Result<BindLines, BindFault>
     requires { length text.now < 2 ^ 32 }
-    ensures says { BindResult result (lines_from [] (lines_given text.now)) }
+    ensures says { BindResult result (lines_from [] (parsed_bind_lines text.now)) }
     ensures few { IfOk result (λ lines. length lines ≤ length text.now) }
 {
     let mut above = BindLines::new(alloc);
@@ -88,7 +88,7 @@ fn add_name(
     name: &Name,
 ) -> Result<(), NoMemory>
     requires { seen.old.keys ≡ names.old }
-    ensures names { OnOk result (names.new ≡ with_once (are_same name.now) names.old name.now) }
+    ensures names { OnOk result (names.new ≡ appended_if_new (are_same name.now) names.old name.now) }
     ensures seen { OnOk result (seen.new.keys ≡ names.new) }
 {
     if seen.insert(name.copied())? {
@@ -132,7 +132,7 @@ fn names_in(alloc: Global, seed: HashSeed, lines: &[BindLine]) -> Result<Names, 
 /// or B1 with a line number. The text has fewer than 2^32 bytes.
 pub fn components(alloc: Global, text: &[u8]) -> Result<Names, BindFault>
     requires { length text.now < 2 ^ 32 }
-    ensures says { BindResult result (names_by (bind_lines text.now)) }
+    ensures says { BindResult result (names_or_fault (bind_lines text.now)) }
 {
     let lines = read_lines(alloc, text)?;
     Ok(names_in(alloc, HashSeed::of(text), lines.items())?)

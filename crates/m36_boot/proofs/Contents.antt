@@ -14,10 +14,10 @@ use Rattle.m36_dir.specs.Catalog.{CatalogFields}
 use Rattle.m36_page.specs.declared.table.PageTable.{PageTable}
 use Rattle.m36_page.specs.Fields.{TableFields, PagerFields}
 use Rattle.m36_page.specs.Changes.{AreAbsent}
-use Rattle.m36_page.specs.Given.{table_given, pager_given}
+use Rattle.m36_page.specs.Given.{filled_table, initial_pager}
 use Rattle.std.specs.Bool.{then_some}
-use Rattle.m36_page.specs.Residence.{is_of, table_of, has_page_in, spot_in, kept_in, has_page, spot_of, kept_word, frame_in, frame_of, word_in, page_word, content_of, HasFrames}
-use Rattle.m36_link.specs.Fields.{LayFields, SnapFields}
+use Rattle.m36_page.specs.Residence.{is_table_of, table_of, has_page_in, spot_in, kept_in, has_page, spot_of, kept_word, frame_in, frame_of, word_in, page_word, content_of, HasFrames}
+use Rattle.m36_link.specs.Fields.{NewSectionFields, SnapFields}
 use Rattle.m36_boot.specs.Segments.{booted_sdw, booted_words}
 use Rattle.m36_boot.specs.Start.{start_regs}
 use Rattle.m36_model.specs.Place.{page_count}
@@ -40,13 +40,13 @@ first_by false n m e = absurd (cc)
 equal_of : (t u : TableFields) → Some u ≡ Some t → u ≡ t
 equal_of t u e = cc
 
-in_list : (tables : List TableFields) (seg j : ℕ) (t : TableFields) → slice_get tables j ≡ Some t → is_of seg t ≡ true
-    → position_or_len (is_of seg) tables < length tables
+in_list : (tables : List TableFields) (seg j : ℕ) (t : TableFields) → slice_get tables j ≡ Some t → is_table_of seg t ≡ true
+    → position_or_len (is_table_of seg) tables < length tables
 in_list [] seg j t at is = absurd (cc)
 in_list (u ∷ tables) seg zero t at is =
-    first_by (is_of seg u) (position_or_len (is_of seg) tables) (length tables) (ap (is_of seg) (equal_of t u at) ∙ is)
+    first_by (is_table_of seg u) (position_or_len (is_table_of seg) tables) (length tables) (ap (is_table_of seg) (equal_of t u at) ∙ is)
 in_list (u ∷ tables) seg (suc j) t at is =
-    place_by (is_of seg u) (position_or_len (is_of seg) tables) (length tables) (in_list tables seg j t at is)
+    place_by (is_table_of seg u) (position_or_len (is_table_of seg) tables) (length tables) (in_list tables seg j t at is)
 
 eq_self : (n : ℕ) → nat_eq n n ≡ true
 eq_self n = eq-eqb n n refl
@@ -55,53 +55,53 @@ no_table : TableFields
 no_table = record { seg = 0; at = 0; pages = 0; words = [] }
 
 -- the table that is found has the segment's number
-found_seg : (catalog : CatalogFields) (files : List (List ℕ)) (lay : Option LayFields) (seg i : ℕ)
-    → position (is_of seg) (map table_given (booted_tables catalog files lay)) ≡ Some i
+found_seg : (catalog : CatalogFields) (files : List (List ℕ)) (lay : Option NewSectionFields) (seg i : ℕ)
+    → position (is_table_of seg) (map filled_table (booted_tables catalog files lay)) ≡ Some i
     → (d : SdwFields) × (booted_sdw catalog files seg ≡ Some d)
-    × (slice_get (map table_given (booted_tables catalog files lay)) i ≡ Some (table_given (page_table catalog files lay seg d)))
+    × (slice_get (map filled_table (booted_tables catalog files lay)) i ≡ Some (filled_table (page_table catalog files lay seg d)))
 found_seg catalog files lay seg i e =
-    let tables = map table_given (booted_tables catalog files lay) in
-    let is = position-Some (is_of seg) tables i no_table e in
+    let tables = map filled_table (booted_tables catalog files lay) in
+    let is = position-Some (is_table_of seg) tables i no_table e in
     let at : slice_get tables i ≡ Some (get_or tables i no_table) = slice_get-get_or tables i no_table is.0 in
-    let u = given_from (slice_get (booted_tables catalog files lay) i) (get_or tables i no_table) (sym (slice_get-map table_given (booted_tables catalog files lay) i) ∙ at) in
+    let u = given_from (slice_get (booted_tables catalog files lay) i) (get_or tables i no_table) (sym (slice_get-map filled_table (booted_tables catalog files lay) i) ∙ at) in
     let of = table_is catalog files lay i u.0 u.1 in
     let number : of.seg ≡ seg =
     sym (ap (λ (t : PageTable). t.seg) of.is) ∙ ap (λ (t : TableFields). t.seg) u.2 ∙ eqb-true (get_or tables i no_table).seg seg is.1 in
-    let P : ℕ → Type 0 = λ k. (booted_sdw catalog files k ≡ Some of.sdw) × (slice_get tables i ≡ Some (table_given (page_table catalog files lay k of.sdw))) in
-    let all = subst P number (of.has, at ∙ ap (λ t. Some t) (sym u.2 ∙ ap (λ (t : PageTable). table_given t) of.is)) in
+    let P : ℕ → Type 0 = λ k. (booted_sdw catalog files k ≡ Some of.sdw) × (slice_get tables i ≡ Some (filled_table (page_table catalog files lay k of.sdw))) in
+    let all = subst P number (of.has, at ∙ ap (λ t. Some t) (sym u.2 ∙ ap (λ (t : PageTable). filled_table t) of.is)) in
     (of.sdw, all.0, all.1)
 
 -- given the index of the table
-table_by : (catalog : CatalogFields) (files : List (List ℕ)) (lay : Option LayFields) (seg : ℕ) (d : SdwFields) (o : Option ℕ)
-    → position (is_of seg) (map table_given (booted_tables catalog files lay)) ≡ o → (o ≡ None → ⊥) → booted_sdw catalog files seg ≡ Some d
-    → option_and_then (slice_get (map table_given (booted_tables catalog files lay))) o ≡ Some (table_given (page_table catalog files lay seg d))
+table_by : (catalog : CatalogFields) (files : List (List ℕ)) (lay : Option NewSectionFields) (seg : ℕ) (d : SdwFields) (o : Option ℕ)
+    → position (is_table_of seg) (map filled_table (booted_tables catalog files lay)) ≡ o → (o ≡ None → ⊥) → booted_sdw catalog files seg ≡ Some d
+    → option_and_then (slice_get (map filled_table (booted_tables catalog files lay))) o ≡ Some (filled_table (page_table catalog files lay seg d))
 table_by catalog files lay seg d None e some has = absurd (some refl)
 table_by catalog files lay seg d (Some i) e some has =
     let is = found_seg catalog files lay seg i e in
     let same : is.0 ≡ d = some_same is.0 d (booted_sdw catalog files seg) is.1 has in
-    is.2 ∙ ap (λ (s : SdwFields). Some (table_given (page_table catalog files lay seg s))) same
+    is.2 ∙ ap (λ (s : SdwFields). Some (filled_table (page_table catalog files lay seg s))) same
 
 some_place : (b : Bool) (i : ℕ) → b ≡ true → cond b (Some i) None ≡ None → ⊥
 some_place true i e f = absurd (cc)
 some_place false i e f = absurd (cc)
 
-pub table_live : (catalog : CatalogFields) (files : List (List ℕ)) (lay : Option LayFields) (seg : ℕ) (d : SdwFields) → AreFiles catalog files
+pub table_live : (catalog : CatalogFields) (files : List (List ℕ)) (lay : Option NewSectionFields) (seg : ℕ) (d : SdwFields) → AreFiles catalog files
     → booted_sdw catalog files seg ≡ Some d
-    → table_of (map table_given (booted_tables catalog files lay)) seg ≡ Some (table_given (page_table catalog files lay seg d))
+    → table_of (map filled_table (booted_tables catalog files lay)) seg ≡ Some (filled_table (page_table catalog files lay seg d))
 unfolding table_of
 table_live catalog files lay seg d are has =
-    let tables = map table_given (booted_tables catalog files lay) in
+    let tables = map filled_table (booted_tables catalog files lay) in
     let there = has_table catalog files lay seg d are has in
-    let at : slice_get tables there.0 ≡ Some (table_given (page_table catalog files lay seg d)) =
-    slice_get-map table_given (booted_tables catalog files lay) there.0 ∙ ap (λ o. option_map table_given o) there.1 in
-    let inside = in_list tables seg there.0 (table_given (page_table catalog files lay seg d)) at (eq_self seg) in
-    table_by catalog files lay seg d (position (is_of seg) tables) refl
-    (some_place (nat_lt (position_or_len (is_of seg) tables) (length tables)) (position_or_len (is_of seg) tables)
-    (lt-ltb (position_or_len (is_of seg) tables) (length tables) inside)) has
+    let at : slice_get tables there.0 ≡ Some (filled_table (page_table catalog files lay seg d)) =
+    slice_get-map filled_table (booted_tables catalog files lay) there.0 ∙ ap (λ o. option_map filled_table o) there.1 in
+    let inside = in_list tables seg there.0 (filled_table (page_table catalog files lay seg d)) at (eq_self seg) in
+    table_by catalog files lay seg d (position (is_table_of seg) tables) refl
+    (some_place (nat_lt (position_or_len (is_table_of seg) tables) (length tables)) (position_or_len (is_table_of seg) tables)
+    (lt-ltb (position_or_len (is_table_of seg) tables) (length tables) inside)) has
 
-dead_by : (catalog : CatalogFields) (files : List (List ℕ)) (lay : Option LayFields) (seg : ℕ) (o : Option ℕ)
-    → position (is_of seg) (map table_given (booted_tables catalog files lay)) ≡ o → booted_sdw catalog files seg ≡ None
-    → option_and_then (slice_get (map table_given (booted_tables catalog files lay))) o ≡ None
+dead_by : (catalog : CatalogFields) (files : List (List ℕ)) (lay : Option NewSectionFields) (seg : ℕ) (o : Option ℕ)
+    → position (is_table_of seg) (map filled_table (booted_tables catalog files lay)) ≡ o → booted_sdw catalog files seg ≡ None
+    → option_and_then (slice_get (map filled_table (booted_tables catalog files lay))) o ≡ None
 dead_by catalog files lay seg None e none = refl
 dead_by catalog files lay seg (Some i) e none =
     let is = found_seg catalog files lay seg i e in
@@ -110,11 +110,11 @@ dead_by catalog files lay seg (Some i) e none =
     never_both : {P : Type 0} (d : SdwFields) (o : Option SdwFields) → o ≡ None → o ≡ Some d → P
     never_both d o f g = absurd (cc)
 
-pub table_dead : (catalog : CatalogFields) (files : List (List ℕ)) (lay : Option LayFields) (seg : ℕ) → booted_sdw catalog files seg ≡ None
-    → table_of (map table_given (booted_tables catalog files lay)) seg ≡ None
+pub table_dead : (catalog : CatalogFields) (files : List (List ℕ)) (lay : Option NewSectionFields) (seg : ℕ) → booted_sdw catalog files seg ≡ None
+    → table_of (map filled_table (booted_tables catalog files lay)) seg ≡ None
 unfolding table_of
 table_dead catalog files lay seg none =
-    dead_by catalog files lay seg (position (is_of seg) (map table_given (booted_tables catalog files lay))) refl none
+    dead_by catalog files lay seg (position (is_table_of seg) (map filled_table (booted_tables catalog files lay))) refl none
 
 -- ---- content
 
@@ -150,21 +150,21 @@ content_none : (p : PagerFields) (core : List ℕ) (seg w : ℕ) → table_of p.
 unfolding content_of has_page
 content_none p core seg w at = ap (λ o. then_some (has_page_in o (w / 1024)) (page_word p core seg w)) at
 
-content_from : (catalog : CatalogFields) (files : List (List ℕ)) (lay : Option LayFields) (n seg w : ℕ) (core : List ℕ) (o : Option SdwFields) → AreFiles catalog files
+content_from : (catalog : CatalogFields) (files : List (List ℕ)) (lay : Option NewSectionFields) (n seg w : ℕ) (core : List ℕ) (o : Option SdwFields) → AreFiles catalog files
     → IsMade catalog files lay n core → booted_sdw catalog files seg ≡ o
-    → content_of (pager_given wired_frames catalog.frames (booted_tables catalog files lay)) core seg w
+    → content_of (initial_pager wired_frames catalog.frames (booted_tables catalog files lay)) core seg w
     ≡ booted_by o (booted_words files lay seg) w
 content_from catalog files lay n seg w core None are made e =
-    content_none (pager_given wired_frames catalog.frames (booted_tables catalog files lay)) core seg w (table_dead catalog files lay seg e)
+    content_none (initial_pager wired_frames catalog.frames (booted_tables catalog files lay)) core seg w (table_dead catalog files lay seg e)
 content_from catalog files lay n seg w core (Some d) are made e =
-    content_in (pager_given wired_frames catalog.frames (booted_tables catalog files lay)) core seg w (table_given (page_table catalog files lay seg d))
+    content_in (initial_pager wired_frames catalog.frames (booted_tables catalog files lay)) core seg w (filled_table (page_table catalog files lay seg d))
     (table_live catalog files lay seg d are e) (λ inside. absent_at catalog files lay n seg (w / 1024) core d are made e inside)
     ∙ ap (λ v. cond (nat_lt (w / 1024) (page_count d)) (Some v) None)
     (filled_at (booted_words files lay seg) (1024 * page_count d - length (booted_words files lay seg)) w 0)
 
-content_at : (catalog : CatalogFields) (files : List (List ℕ)) (lay : Option LayFields) (n seg w : ℕ) (core : List ℕ) → AreFiles catalog files
+content_at : (catalog : CatalogFields) (files : List (List ℕ)) (lay : Option NewSectionFields) (n seg w : ℕ) (core : List ℕ) → AreFiles catalog files
     → IsMade catalog files lay n core
-    → content_of (pager_given wired_frames catalog.frames (booted_tables catalog files lay)) core seg w ≡ booted_content catalog files lay seg w
+    → content_of (initial_pager wired_frames catalog.frames (booted_tables catalog files lay)) core seg w ≡ booted_content catalog files lay seg w
 unfolding booted_content
 content_at catalog files lay n seg w core are made = content_from catalog files lay n seg w core (booted_sdw catalog files seg) are made refl
 
@@ -172,7 +172,7 @@ content_at catalog files lay n seg w core are made = content_from catalog files 
 
 pub image_made : (catalog : CatalogFields) (files : List (List ℕ)) (s : SnapFields) (core : List ℕ) (pager : PagerFields) (regs : RegsFields) (snap : SnapFields)
     → AreFiles catalog files → length catalog.segments ≤ 512 → IsMade catalog files s.lay (1024 * (wired_frames + catalog.frames)) core
-    → pager ≡ pager_given wired_frames catalog.frames (booted_tables catalog files s.lay)
+    → pager ≡ initial_pager wired_frames catalog.frames (booted_tables catalog files s.lay)
     → flat_of (record { core = core; kept = kept_word pager }) ≡ booted_flat catalog files s → regs ≡ start_regs catalog.start.ring s
     → IsImage catalog files s (record { core = core; pager = pager; regs = regs; snap = snap })
 image_made catalog files s core pager regs snap are few made given flat at = record {
@@ -188,13 +188,13 @@ image_made catalog files s core pager regs snap are few made given flat at = rec
 
 -- the pager and the core, from the contracts of the calls that make them
 pub given_from_calls : (catalog : CatalogFields) (files : List (List ℕ)) (s : SnapFields) (tables : List PageTable) (frames : ℕ) (pager : PagerFields)
-    → tables ≡ booted_tables catalog files s.lay → frames ≡ catalog.frames → pager ≡ pager_given wired_frames frames tables
-    → pager ≡ pager_given wired_frames catalog.frames (booted_tables catalog files s.lay)
+    → tables ≡ booted_tables catalog files s.lay → frames ≡ catalog.frames → pager ≡ initial_pager wired_frames frames tables
+    → pager ≡ initial_pager wired_frames catalog.frames (booted_tables catalog files s.lay)
 given_from_calls catalog files s tables frames pager made count given =
-    given ∙ ap (λ n. pager_given wired_frames n tables) count ∙ ap (λ (ts : List PageTable). pager_given wired_frames catalog.frames ts) made
+    given ∙ ap (λ n. initial_pager wired_frames n tables) count ∙ ap (λ (ts : List PageTable). initial_pager wired_frames catalog.frames ts) made
 
 pub made_from : (catalog : CatalogFields) (files : List (List ℕ)) (s : SnapFields) (frames : ℕ) (pager : PagerFields) (fresh mid core : List ℕ)
-    → frames ≡ catalog.frames → pager ≡ pager_given wired_frames catalog.frames (booted_tables catalog files s.lay)
+    → frames ≡ catalog.frames → pager ≡ initial_pager wired_frames catalog.frames (booted_tables catalog files s.lay)
     → fresh ≡ replicate (1024 * (wired_frames + frames)) 0 → AreDescribed catalog files (64 + length catalog.segments) fresh mid
     → AreAbsent pager.tables (length pager.tables) mid core → IsMade catalog files s.lay (1024 * (wired_frames + catalog.frames)) core
 made_from catalog files s frames pager fresh mid core count given zeros described absent =

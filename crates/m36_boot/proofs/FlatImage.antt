@@ -4,17 +4,17 @@ use Rattle.std.specs.Prelude.{nat_lt, unwrap_or}
 use Rattle.std.proofs.lemmas.Bool.{lt-ltb, leb-true, leb-false, cases_lt}
 use Rattle.std.proofs.lemmas.List.{get_or_past}
 use Rattle.m36_desc.specs.Fields.{SdwFields}
-use Rattle.m36_desc.specs.Access.{in_order}
-use Rattle.m36_model.specs.Store.{Spot, within, place_within, when_ordered, place_by, place}
+use Rattle.m36_desc.specs.Access.{has_ordered_brackets}
+use Rattle.m36_model.specs.Store.{Spot, is_within_bound, place_within, when_ordered, place_by, place}
 use Rattle.m36_model.specs.Place.{core_sdw, core_spot, page_count}
 use Rattle.m36_model.specs.BootedCore.{booted_dbr, descriptor_words, wired_frames, IsLaid}
 use Rattle.m36_model.specs.Residence.{Paged, word_at, paged_content, flat_of}
 use Rattle.m36_model.specs.declared.outcome.Refusal.{Refusal}
 use Rattle.m36_isol.proofs.Laid.{page_of_word, absent_spot}
 use Rattle.m36_dir.specs.Catalog.{CatalogFields}
-use Rattle.m36_link.specs.Fields.{LayFields, SnapFields}
+use Rattle.m36_link.specs.Fields.{NewSectionFields, SnapFields}
 use Rattle.m36_page.specs.Fields.{PagerFields}
-use Rattle.m36_page.specs.Given.{pager_given}
+use Rattle.m36_page.specs.Given.{initial_pager}
 use Rattle.m36_page.specs.Residence.{table_of, kept_in, kept_word}
 use Rattle.m36_boot.specs.Segments.{booted_sdw, booted_words}
 use Rattle.m36_boot.specs.Image.{booted_word, booted_tables, words_from, booted_flat, booted_content, content_by}
@@ -44,15 +44,15 @@ take_is catalog files (suc n) a (x ∷ xs) le h =
 
 -- ---- a word
 
-place_open : (d : SdwFields) (spot : Result Spot Refusal) (w : ℕ) → in_order d ≡ true
-    → when_ordered (in_order d) (place_within (within d w) spot) ≡ place_within (within d w) spot
-place_open d spot w e = ap (λ (b : Bool). when_ordered b (place_within (within d w) spot)) e
+place_open : (d : SdwFields) (spot : Result Spot Refusal) (w : ℕ) → has_ordered_brackets d ≡ true
+    → when_ordered (has_ordered_brackets d) (place_within (is_within_bound d w) spot) ≡ place_within (is_within_bound d w) spot
+place_open d spot w e = ap (λ (b : Bool). when_ordered b (place_within (is_within_bound d w) spot)) e
 
 past_pages : (b : Bool) (v : ℕ) → v ≡ 0 → 0 ≡ unwrap_or (cond b (Some v) None) 0
 past_pages true v e = sym e
 past_pages false v e = refl
 
-module _ (catalog : CatalogFields) (files : List (List ℕ)) (lay : Option LayFields) (core : List ℕ) (p : PagerFields) (are : AreFiles catalog files) (few : length catalog.segments ≤ 512) (first : IsFirst lay) (most : catalog.frames ≤ 8192) (made : IsMade catalog files lay (1024 * (wired_frames + catalog.frames)) core) (given : p ≡ pager_given wired_frames catalog.frames (booted_tables catalog files lay)) where
+module _ (catalog : CatalogFields) (files : List (List ℕ)) (lay : Option NewSectionFields) (core : List ℕ) (p : PagerFields) (are : AreFiles catalog files) (few : length catalog.segments ≤ 512) (first : IsFirst lay) (most : catalog.frames ≤ 8192) (made : IsMade catalog files lay (1024 * (wired_frames + catalog.frames)) core) (given : p ≡ initial_pager wired_frames catalog.frames (booted_tables catalog files lay)) where
   abbrev memory : Paged
   memory = record { core = core; kept = kept_word p }
 
@@ -70,8 +70,8 @@ module _ (catalog : CatalogFields) (files : List (List ℕ)) (lay : Option LayFi
       ∙ filled_at (booted_words files lay seg) (1024 * page_count d - length (booted_words files lay seg)) w 0
 
   -- within the bound the page is in no frame; past it words are zero
-  word_by : (seg w : ℕ) (d : SdwFields) (inside : Bool) → booted_sdw catalog files seg ≡ Some d → within d w ≡ inside
-      → word_at memory seg w (place_within (within d w) (core_spot core booted_dbr d seg w)) ≡ unwrap_or (content_by (Some d) (booted_words files lay seg) w) 0
+  word_by : (seg w : ℕ) (d : SdwFields) (inside : Bool) → booted_sdw catalog files seg ≡ Some d → is_within_bound d w ≡ inside
+      → word_at memory seg w (place_within (is_within_bound d w) (core_spot core booted_dbr d seg w)) ≡ unwrap_or (content_by (Some d) (booted_words files lay seg) w) 0
   word_by seg w d true has e =
       let live = live_sdw catalog files lay (1024 * (wired_frames + catalog.frames)) core are few made room seg d has in
       let page = page_of_word core catalog.frames laid seg w d live e in
@@ -103,7 +103,7 @@ module _ (catalog : CatalogFields) (files : List (List ℕ)) (lay : Option LayFi
       let ordered = (laid.segments seg d live).ordered in
       ap (λ (r : Result SdwFields Refusal). word_at memory seg w (place_by r (λ x. core_spot core booted_dbr x seg w) w)) live
       ∙ ap (λ (r : Result Spot Refusal). word_at memory seg w r) (place_open d (core_spot core booted_dbr d seg w) w ordered)
-      ∙ word_by seg w d (within d w) e refl
+      ∙ word_by seg w d (is_within_bound d w) e refl
 
   content_is : (seg w : ℕ) → paged_content memory seg w ≡ unwrap_or (booted_content catalog files lay seg w) 0
   unfolding paged_content place booted_content
@@ -119,7 +119,7 @@ module _ (catalog : CatalogFields) (files : List (List ℕ)) (lay : Option LayFi
 
 pub flat_image : (catalog : CatalogFields) (files : List (List ℕ)) (s : SnapFields) (core : List ℕ) (p : PagerFields) → AreFiles catalog files
     → length catalog.segments ≤ 512 → IsFirst s.lay → catalog.frames ≤ 8192 → IsMade catalog files s.lay (1024 * (wired_frames + catalog.frames)) core
-    → p ≡ pager_given wired_frames catalog.frames (booted_tables catalog files s.lay)
+    → p ≡ initial_pager wired_frames catalog.frames (booted_tables catalog files s.lay)
     → flat_of (record { core = core; kept = kept_word p }) ≡ booted_flat catalog files s
 unfolding flat_of booted_flat
 flat_image catalog files s core p are few first most made given =

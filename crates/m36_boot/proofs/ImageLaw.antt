@@ -2,14 +2,14 @@
 use Rattle.std.proofs.Common.{ℕ, ◌≡◌, ◌+◌, ◌*◌, ◌<◌, Bool, true, false, cond, [], ◌∷◌, Some, None, refl, sym, ap, inl, inr, ◌∙◌, arith}
 use Rattle.std.specs.Prelude.{not, ◌&&◌, ◌==◌, nat_le, nat_lt, is_some}
 use Rattle.std.proofs.lemmas.Bool.{eq-eqb, cases_lt, lt-ltb, le-ltb, le-leb, leb-true}
-use Rattle.m36_desc.specs.Access.{first_of}
+use Rattle.m36_desc.specs.Access.{first_violation}
 use Rattle.m36_desc.specs.Violations.{illegal_ring_order, out_of_execute_bracket, no_execute_right}
 use Rattle.m36_model.specs.Modification.{ptr}
 use Rattle.m36_model.specs.Pointers.{pointer}
 use Rattle.obj36_parts.specs.ObjectSegment.{linkage_register}
 use Rattle.m36_link.specs.Fields.{SnapFields}
 use Rattle.m36_link.specs.Known.{linkage_segment}
-use Rattle.m36_boot.specs.Segments.{limited_segment}
+use Rattle.m36_boot.specs.Segments.{catalog_descriptor}
 use Rattle.m36_boot.specs.Start.{section_base, start_regs}
 use Rattle.m36_boot.specs.ImageLaw.{ImageNumbersLaw, MayStartLaw}
 use Rattle.m36_boot.proofs.Orders.{in_order_by}
@@ -69,11 +69,11 @@ rows_by false false false x y z = refl
 
 pub may_start_law : MayStartLaw
 may_start_law s ring seg words limit low high =
-    let ordered = in_order_by (limited_segment seg s words limit) low high in
+    let ordered = in_order_by (catalog_descriptor seg s words limit) low high in
     ap (λ (b : Bool). s.mode.executable && b && nat_le ring s.r2) (le_not_lt s.r1 ring)
     ∙ ap (λ (b : Bool). s.mode.executable && not (nat_lt ring s.r1) && b) (le_not_lt ring s.r2)
     ∙ rows_by s.mode.executable (nat_lt ring s.r1) (nat_lt s.r2 ring) out_of_execute_bracket out_of_execute_bracket no_execute_right
-    ∙ sym (ap (λ (b : Bool). not (is_some (first_of (
+    ∙ sym (ap (λ (b : Bool). not (is_some (first_violation (
     (not b, illegal_ring_order)
     ∷ (nat_lt ring s.r1, out_of_execute_bracket)
     ∷ (nat_lt s.r2 ring, out_of_execute_bracket)

@@ -5,15 +5,15 @@ use Rattle.std.proofs.lemmas.Bool.{lt-ltb, le-ltb, ltb-true, ltb-false, cases_lt
 use Rattle.std.proofs.lemmas.List.{length-replicate, get_or-replicate, get_or_past, get_or-set_same, get_or-set_other, length-set}
 use Rattle.std.proofs.lemmas.Option.{slice_get-map, slice_get_within}
 use Rattle.m36_desc.specs.Fields.{SdwFields}
-use Rattle.m36_desc.specs.Access.{in_order}
+use Rattle.m36_desc.specs.Access.{has_ordered_brackets}
 use Rattle.m36_desc.specs.Descriptors.{sdw_of, sdw_even, sdw_odd}
 use Rattle.m36_model.specs.BootedCore.{table_at, wired_frames, descriptor_words, absent_ptw}
 use Rattle.m36_dir.specs.Catalog.{CatalogFields}
 use Rattle.m36_page.specs.declared.table.PageTable.{PageTable}
 use Rattle.m36_page.specs.Fields.{TableFields}
 use Rattle.m36_page.specs.Changes.{IsTableWord, AreAbsent}
-use Rattle.m36_page.specs.Given.{table_given}
-use Rattle.m36_link.specs.Fields.{LayFields}
+use Rattle.m36_page.specs.Given.{filled_table}
+use Rattle.m36_link.specs.Fields.{NewSectionFields}
 use Rattle.m36_boot.specs.Segments.{booted_sdw}
 use Rattle.m36_model.specs.Place.{page_count}
 use Rattle.m36_boot.specs.Image.{descriptor_word, page_table_word, booted_word, booted_tables, IsWellFormed, AreDescribed}
@@ -53,7 +53,7 @@ odd_of catalog files s =
     let seg : (2 * s + 1) / 2 ≡ s = omega arith in
     ap (λ h. descriptor_word h (booted_sdw catalog files ((2 * s + 1) / 2))) half ∙ ap (λ k. descriptor_word 1 (booted_sdw catalog files k)) seg
 
-whole_by : (o : Option SdwFields) (d : SdwFields) → o ≡ Some d → IfSome o (λ x. in_order x ≡ true) → IfSome o (λ x. sdw_of (sdw_even x) (sdw_odd x) ≡ x)
+whole_by : (o : Option SdwFields) (d : SdwFields) → o ≡ Some d → IfSome o (λ x. has_ordered_brackets x ≡ true) → IfSome o (λ x. sdw_of (sdw_even x) (sdw_odd x) ≡ x)
     → IsWellFormed d
 whole_by None d e ordered back = absurd (cc)
 whole_by (Some c) d e ordered back =
@@ -62,7 +62,7 @@ whole_by (Some c) d e ordered back =
 
 pub described_more : (catalog : CatalogFields) (files : List (List ℕ)) (s e o : ℕ) (old mid new : List ℕ) (d : Option SdwFields) → 2 * s + 1 < length mid
     → AreDescribed catalog files s old mid → d ≡ booted_sdw catalog files s → e ≡ descriptor_word 0 d → o ≡ descriptor_word 1 d
-    → IfSome d (λ x. in_order x ≡ true) → IfSome d (λ x. sdw_of (sdw_even x) (sdw_odd x) ≡ x)
+    → IfSome d (λ x. has_ordered_brackets x ≡ true) → IfSome d (λ x. sdw_of (sdw_even x) (sdw_odd x) ≡ x)
     → new ≡ set (set mid (2 * s) e) (2 * s + 1) o → AreDescribed catalog files (s + 1) old new
 described_more catalog files s e o old mid new d inside so_far is even odd ordered back put =
     let P : List ℕ → Type 0 = λ x. AreDescribed catalog files (s + 1) old x in
@@ -112,14 +112,14 @@ record IsWordOf (catalog : CatalogFields) (files : List (List ℕ)) (a : ℕ) : 
   low : table_at seg ≤ a
   high : a < table_at seg + page_count sdw
 
-pub given_from : (o : Option PageTable) (t : TableFields) → option_map table_given o ≡ Some t → (u : PageTable) × (o ≡ Some u) × (table_given u ≡ t)
+pub given_from : (o : Option PageTable) (t : TableFields) → option_map filled_table o ≡ Some t → (u : PageTable) × (o ≡ Some u) × (filled_table u ≡ t)
 given_from None t e = absurd (cc)
 given_from (Some u) t e = (u, refl, cc)
 
-word_of : (catalog : CatalogFields) (files : List (List ℕ)) (lay : Option LayFields) (a : ℕ) → IsTableWord (map table_given (booted_tables catalog files lay)) a
+word_of : (catalog : CatalogFields) (files : List (List ℕ)) (lay : Option NewSectionFields) (a : ℕ) → IsTableWord (map filled_table (booted_tables catalog files lay)) a
     → IsWordOf catalog files a
 word_of catalog files lay a w =
-    let u = given_from (slice_get (booted_tables catalog files lay) w.0) w.1 (sym (slice_get-map table_given (booted_tables catalog files lay) w.0) ∙ w.2) in
+    let u = given_from (slice_get (booted_tables catalog files lay) w.0) w.1 (sym (slice_get-map filled_table (booted_tables catalog files lay) w.0) ∙ w.2) in
     let is = table_is catalog files lay w.0 u.0 u.1 in
     let at : w.1.at ≡ table_at is.seg = sym (ap (λ (t : TableFields). t.at) u.2) ∙ ap (λ (t : PageTable). t.at) is.is in
     let pages : w.1.pages ≡ page_count is.sdw = sym (ap (λ (t : TableFields). t.pages) u.2) ∙ ap (λ (t : PageTable). t.pages) is.is in
@@ -128,22 +128,22 @@ word_of catalog files lay a w =
     record { seg = is.seg; sdw = is.sdw; has = is.has; low = omega (arith, at, low); high = omega (arith, at, pages, high) }
 
 -- The contents of core: zeros, the descriptors, and absent pages.
-pub record IsMade (catalog : CatalogFields) (files : List (List ℕ)) (lay : Option LayFields) (n : ℕ) (core : List ℕ) : Type 0 where
+pub record IsMade (catalog : CatalogFields) (files : List (List ℕ)) (lay : Option NewSectionFields) (n : ℕ) (core : List ℕ) : Type 0 where
   pub mid : List ℕ
   pub described : AreDescribed catalog files (64 + length catalog.segments) (replicate n 0) mid
-  pub absent : AreAbsent (map table_given (booted_tables catalog files lay)) (length (map table_given (booted_tables catalog files lay))) mid core
+  pub absent : AreAbsent (map filled_table (booted_tables catalog files lay)) (length (map filled_table (booted_tables catalog files lay))) mid core
 
-pub absent_at : (catalog : CatalogFields) (files : List (List ℕ)) (lay : Option LayFields) (n k q : ℕ) (core : List ℕ) (d : SdwFields) → AreFiles catalog files
+pub absent_at : (catalog : CatalogFields) (files : List (List ℕ)) (lay : Option NewSectionFields) (n k q : ℕ) (core : List ℕ) (d : SdwFields) → AreFiles catalog files
     → IsMade catalog files lay n core → booted_sdw catalog files k ≡ Some d → q < page_count d → get_or core (table_at k + q) 0 ≡ absent_ptw
 absent_at catalog files lay n k q core d are made e lt =
     let has = has_table catalog files lay k d are e in
     let t = page_table catalog files lay k d in
-    let at : slice_get (map table_given (booted_tables catalog files lay)) has.0 ≡ Some (table_given t) =
-    slice_get-map table_given (booted_tables catalog files lay) has.0 ∙ ap (λ o. option_map table_given o) has.1 in
-    made.absent.absent has.0 (table_given t) q (slice_get_within (map table_given (booted_tables catalog files lay)) has.0 (table_given t) at) at lt
+    let at : slice_get (map filled_table (booted_tables catalog files lay)) has.0 ≡ Some (filled_table t) =
+    slice_get-map filled_table (booted_tables catalog files lay) has.0 ∙ ap (λ o. option_map filled_table o) has.1 in
+    made.absent.absent has.0 (filled_table t) q (slice_get_within (map filled_table (booted_tables catalog files lay)) has.0 (filled_table t) at) at lt
 
 -- a word after the descriptors that is in no page table
-zero_at : (catalog : CatalogFields) (files : List (List ℕ)) (lay : Option LayFields) (n a : ℕ) (core : List ℕ) → IsMade catalog files lay n core
+zero_at : (catalog : CatalogFields) (files : List (List ℕ)) (lay : Option NewSectionFields) (n a : ℕ) (core : List ℕ) → IsMade catalog files lay n core
     → 2 * (64 + length catalog.segments) ≤ a → (IsWordOf catalog files a → ⊥) → get_or core a 0 ≡ 0
 zero_at catalog files lay n a core made past out =
     made.absent.others a (λ w. out (word_of catalog files lay a w)) ∙ made.described.others a past ∙ zeros_at n a 0
@@ -153,7 +153,7 @@ dead_by : (catalog : CatalogFields) (files : List (List ℕ)) (o : Option SdwFie
 dead_by catalog files None half seg are e past = refl
 dead_by catalog files (Some d) half seg are e past = let last = (live catalog files seg d are e).last in absurd (omega (arith, last, past))
 
-pub descriptor_here : (catalog : CatalogFields) (files : List (List ℕ)) (lay : Option LayFields) (n a : ℕ) (core : List ℕ) → AreFiles catalog files
+pub descriptor_here : (catalog : CatalogFields) (files : List (List ℕ)) (lay : Option NewSectionFields) (n a : ℕ) (core : List ℕ) → AreFiles catalog files
     → IsMade catalog files lay n core → a < 2048 → get_or core a 0 ≡ descriptor_word (a % 2) (booted_sdw catalog files (a / 2))
 descriptor_here catalog files lay n a core are made low =
     let out : IsWordOf catalog files a → ⊥ = λ w. let from = w.low in absurd (omega (arith, from, low)) in
@@ -170,7 +170,7 @@ some_same d e o f g = cc
 some_none : (d : SdwFields) (o : Option SdwFields) → o ≡ None → o ≡ Some d → ⊥
 some_none d o f g = absurd (cc)
 
-page_by : (catalog : CatalogFields) (files : List (List ℕ)) (lay : Option LayFields) (n k q : ℕ) (core : List ℕ) (o : Option SdwFields) → AreFiles catalog files
+page_by : (catalog : CatalogFields) (files : List (List ℕ)) (lay : Option NewSectionFields) (n k q : ℕ) (core : List ℕ) (o : Option SdwFields) → AreFiles catalog files
     → IsMade catalog files lay n core → length catalog.segments ≤ 512 → q < 256 → booted_sdw catalog files k ≡ o
     → get_or core (table_at k + q) 0 ≡ page_table_word q o
 page_by catalog files lay n k q core None are made few lt e =
@@ -197,7 +197,7 @@ page_by catalog files lay n k q core (Some d) are made few lt e =
           ∙ ap (λ b. cond b absent_ptw 0) (sym (le-ltb q (page_count d) past))
     ]
 
-page_here : (catalog : CatalogFields) (files : List (List ℕ)) (lay : Option LayFields) (n a : ℕ) (core : List ℕ) → AreFiles catalog files
+page_here : (catalog : CatalogFields) (files : List (List ℕ)) (lay : Option NewSectionFields) (n a : ℕ) (core : List ℕ) → AreFiles catalog files
     → IsMade catalog files lay n core → length catalog.segments ≤ 512 → 2048 ≤ a
     → get_or core a 0 ≡ page_table_word ((a - 2048) % 256) (booted_sdw catalog files ((a - 2048) / 256))
 page_here catalog files lay n a core are made few low =
@@ -205,7 +205,7 @@ page_here catalog files lay n a core are made few low =
     ap (λ m. get_or core m 0) (sym there)
     ∙ page_by catalog files lay n ((a - 2048) / 256) ((a - 2048) % 256) core (booted_sdw catalog files ((a - 2048) / 256)) are made few (omega arith) refl
 
-frame_here : (catalog : CatalogFields) (files : List (List ℕ)) (lay : Option LayFields) (n a : ℕ) (core : List ℕ) → AreFiles catalog files
+frame_here : (catalog : CatalogFields) (files : List (List ℕ)) (lay : Option NewSectionFields) (n a : ℕ) (core : List ℕ) → AreFiles catalog files
     → IsMade catalog files lay n core → length catalog.segments ≤ 512 → 149504 ≤ a → get_or core a 0 ≡ 0
 frame_here catalog files lay n a core are made few low =
     zero_at catalog files lay n a core made (omega (arith, few, low)) (λ w.
@@ -221,7 +221,7 @@ chosen true c x y z v first second third = first refl
 chosen false true x y z v first second third = second refl refl
 chosen false false x y z v first second third = third refl refl
 
-pub word_here : (catalog : CatalogFields) (files : List (List ℕ)) (lay : Option LayFields) (n a : ℕ) (core : List ℕ) → AreFiles catalog files
+pub word_here : (catalog : CatalogFields) (files : List (List ℕ)) (lay : Option NewSectionFields) (n a : ℕ) (core : List ℕ) → AreFiles catalog files
     → IsMade catalog files lay n core → length catalog.segments ≤ 512 → get_or core a 0 ≡ booted_word catalog files a
 unfolding booted_word
 word_here catalog files lay n a core are made few =
@@ -230,5 +230,5 @@ word_here catalog files lay n a core are made few =
     (λ b c. page_here catalog files lay n a core are made few (ltb-false a descriptor_words b))
     (λ b c. frame_here catalog files lay n a core are made few (ltb-false a (1024 * wired_frames) c))
 
-pub size_of : (catalog : CatalogFields) (files : List (List ℕ)) (lay : Option LayFields) (n : ℕ) (core : List ℕ) → IsMade catalog files lay n core → length core ≡ n
+pub size_of : (catalog : CatalogFields) (files : List (List ℕ)) (lay : Option NewSectionFields) (n : ℕ) (core : List ℕ) → IsMade catalog files lay n core → length core ≡ n
 size_of catalog files lay n core made = let nought : ℕ = 0 in made.absent.size ∙ made.described.size ∙ length-replicate n nought

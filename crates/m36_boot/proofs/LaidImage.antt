@@ -9,12 +9,12 @@ use Rattle.m36_desc.specs.Descriptors.{sdw_even, sdw_odd}
 use Rattle.m36_desc.specs.Violations.{out_of_segment_bounds}
 use Rattle.m36_model.specs.Store.{violation}
 use Rattle.m36_model.specs.Core.{unmarked}
-use Rattle.m36_model.specs.Place.{wrapped, directed, in_bounds, directory_at, ptw_at, sdw_place_by, sdw_words, sdw_at, live_by, core_sdw}
+use Rattle.m36_model.specs.Place.{wrapped_address, directed_refusal, has_descriptor_in_bounds, directory_at, ptw_at, sdw_place_by, sdw_words, sdw_at, live_by, core_sdw}
 use Rattle.m36_model.specs.BootedCore.{booted_dbr, wired_frames, absent_ptw, resident_ptw, page_word, IsLaidSegment, IsPage, IsLaid}
 use Rattle.m36_model.specs.declared.outcome.Refusal.{Refusal}
 use Rattle.m36_dir.specs.Catalog.{CatalogFields}
 use Rattle.m36_page.proofs.Frames.{absent_unmarked}
-use Rattle.m36_link.specs.Fields.{LayFields}
+use Rattle.m36_link.specs.Fields.{NewSectionFields}
 use Rattle.m36_boot.specs.Segments.{booted_sdw}
 use Rattle.m36_boot.specs.Image.{descriptor_word, IsWellFormed}
 use Rattle.m36_boot.proofs.Sizes.{AreFiles, live}
@@ -23,7 +23,7 @@ use Rattle.m36_boot.proofs.LaidCore.{IsMade, absent_at, descriptor_here, even_of
 -- ---- a descriptor, from its words
 
 abbrev pub sdw_by : Option SdwFields → Result SdwFields Refusal
-sdw_by None = Err (directed 0)
+sdw_by None = Err (directed_refusal 0)
 sdw_by (Some d) = Ok d
 
 abbrev Sound : Option SdwFields → Type 0
@@ -37,12 +37,12 @@ pair_by (Some d) e w even odd sound =
     ap (λ n. live_by (is_on n 33) n w) even ∙ ap (λ n. live_by (is_on (sdw_even d) 33) (sdw_even d) n) odd
     ∙ ap (λ (b : Bool). live_by b (sdw_even d) (sdw_odd d)) on ∙ ap (λ (s : SdwFields). Ok s) sound.0.back
 
-in_place : (seg : ℕ) → seg < 1024 → in_bounds booted_dbr seg ≡ true
+in_place : (seg : ℕ) → seg < 1024 → has_descriptor_in_bounds booted_dbr seg ≡ true
 in_place seg lt =
     ap (λ (b : Bool). b && nat_lt seg (2 ^ 15)) (lt-ltb (2 * seg) (16 * (127 + 1)) (omega (arith, lt)))
     ∙ lt-ltb seg (2 ^ 15) (omega (arith, lt))
 
-out_of_place : (seg : ℕ) → 1024 ≤ seg → in_bounds booted_dbr seg ≡ false
+out_of_place : (seg : ℕ) → 1024 ≤ seg → has_descriptor_in_bounds booted_dbr seg ≡ false
 out_of_place seg le = ap (λ (b : Bool). b && nat_lt seg (2 ^ 15)) (le-ltb (2 * seg) (16 * (127 + 1)) (omega (arith, le)))
 
 some_by : (o : Option SdwFields) (d : SdwFields) → sdw_by o ≡ Ok d → o ≡ Some d
@@ -50,7 +50,7 @@ some_by None d e = absurd (cc)
 some_by (Some c) d e = cc
 
 dead_by : (o : Option SdwFields) (why : Refusal) → sdw_by o ≡ Err why → why.number ≢ 17
-dead_by None why e = let number = ap (λ (r : Refusal). r.number) (let same : directed 0 ≡ why = cc in same) in omega (arith, number)
+dead_by None why e = let number = ap (λ (r : Refusal). r.number) (let same : directed_refusal 0 ≡ why = cc in same) in omega (arith, number)
 dead_by (Some c) why e = absurd (cc)
 
 abbrev err_of : Refusal → Result SdwFields Refusal
@@ -62,7 +62,7 @@ out_by why e = let number = ap (λ (r : Refusal). r.number) (let same : violatio
 never : {P : Type 0} (why : Refusal) (d : SdwFields) → err_of why ≡ Ok d → P
 never why d e = absurd (cc)
 
-module _ (catalog : CatalogFields) (files : List (List ℕ)) (lay : Option LayFields) (n : ℕ) (core : List ℕ) (are : AreFiles catalog files) (few : length catalog.segments ≤ 512) (made : IsMade catalog files lay n core) (room : 2048 ≤ n) where
+module _ (catalog : CatalogFields) (files : List (List ℕ)) (lay : Option NewSectionFields) (n : ℕ) (core : List ℕ) (are : AreFiles catalog files) (few : length catalog.segments ≤ 512) (made : IsMade catalog files lay n core) (room : 2048 ≤ n) where
   sound_of : (seg : ℕ) (o : Option SdwFields) → booted_sdw catalog files seg ≡ o → Sound o
   sound_of seg None e = tt
   sound_of seg (Some d) e =
@@ -74,10 +74,10 @@ module _ (catalog : CatalogFields) (files : List (List ℕ)) (lay : Option LayFi
   unfolding core_sdw
   pair_at seg lt =
       let size = size_of catalog files lay n core made in
-      let a : wrapped (0 + 2 * seg) ≡ 2 * seg = omega (arith, lt) in
-      let b : wrapped (2 * seg + 1) ≡ 2 * seg + 1 = omega (arith, lt) in
+      let a : wrapped_address (0 + 2 * seg) ≡ 2 * seg = omega (arith, lt) in
+      let b : wrapped_address (2 * seg + 1) ≡ 2 * seg + 1 = omega (arith, lt) in
       ap (λ (x : Bool). sdw_at core (sdw_place_by x true booted_dbr seg (ptw_at core (directory_at booted_dbr seg)))) (in_place seg lt)
-      ∙ ap (λ x. sdw_words (slice_get core x) (slice_get core (wrapped (x + 1)))) a
+      ∙ ap (λ x. sdw_words (slice_get core x) (slice_get core (wrapped_address (x + 1)))) a
       ∙ ap (λ x. sdw_words (slice_get core (2 * seg)) (slice_get core x)) b
       ∙ ap (λ x. sdw_words x (slice_get core (2 * seg + 1))) (slice_get-get_or core (2 * seg) 0 (omega (arith, size, room, lt)))
       ∙ ap (λ x. sdw_words (Some (get_or core (2 * seg) 0)) x) (slice_get-get_or core (2 * seg + 1) 0 (omega (arith, size, room, lt)))

@@ -9,14 +9,14 @@ use Rattle.m36_desc.specs.Fields.{SdwFields}
 use Rattle.m36_model.specs.BootedCore.{booted_dbr, wired_frames, table_at}
 use Rattle.m36_model.specs.Registers.{RegsFields}
 use Rattle.m36_dir.specs.Catalog.{CatalogFields}
-use Rattle.m36_link.specs.Fields.{LayFields, SnapFields}
+use Rattle.m36_link.specs.Fields.{NewSectionFields, SnapFields}
 use Rattle.m36_link.specs.Known.{linkage_segment}
 use Rattle.m36_page.specs.declared.table.PageTable.{PageTable}
 use Rattle.m36_page.specs.Fields.{TableFields, PagerFields}
 use Rattle.m36_page.specs.Changes.{AllEmpty}
-use Rattle.m36_page.specs.Given.{table_given, pager_given, fits_below, is_apart, are_placed}
+use Rattle.m36_page.specs.Given.{filled_table, initial_pager, fits_below, is_apart, are_placed}
 use Rattle.m36_page.specs.Residence.{table_of, has_page_in, has_page, spot_in, spot_of, IsPager}
-use Rattle.m36_boot.specs.Segments.{ring_segment, linkage_pages, booted_sdw}
+use Rattle.m36_boot.specs.Segments.{ring_descriptor, linkage_pages, booted_sdw}
 use Rattle.m36_boot.specs.Start.{start_regs}
 use Rattle.m36_model.specs.Place.{page_count}
 use Rattle.m36_boot.specs.Image.{booted_tables, IsRunnable}
@@ -29,7 +29,7 @@ use Rattle.m36_boot.proofs.Contents.{table_live, table_dead}
 
 -- ---- tables have the words of all their pages
 
-filled : (t : PageTable) (first : ℕ) → fits_below first t ≡ true → length (table_given t).words ≡ 1024 * (table_given t).pages
+filled : (t : PageTable) (first : ℕ) → fits_below first t ≡ true → length (filled_table t).words ≡ 1024 * (filled_table t).pages
 filled t first e =
     let parts = and_parts (nat_le (t.at + t.pages) (1024 * first)) (nat_le (length t.words) (1024 * t.pages)) e in
     let room = leb-true (length t.words) (1024 * t.pages) parts.1 in
@@ -41,13 +41,13 @@ filled t first e =
 abbrev IsFilled : TableFields → Type 0
 IsFilled t = length t.words ≡ 1024 * t.pages
 
-all_filled : (first : ℕ) (tables : List PageTable) → are_placed first tables ≡ true → All IsFilled (map table_given tables)
+all_filled : (first : ℕ) (tables : List PageTable) → are_placed first tables ≡ true → All IsFilled (map filled_table tables)
 unfolding are_placed
 all_filled first [] e = All-nil IsFilled
 all_filled first (t ∷ tables) e =
     let parts = and_parts (fits_below first t && list_all (is_apart t) tables) (are_placed first tables) e in
     let here = and_parts (fits_below first t) (list_all (is_apart t) tables) parts.0 in
-    All-cons IsFilled (table_given t) (map table_given tables) (filled t first here.0) (all_filled first tables parts.1)
+    All-cons IsFilled (filled_table t) (map filled_table tables) (filled t first here.0) (all_filled first tables parts.1)
 
 -- ---- the pages of the pager are those of the segments
 
@@ -59,8 +59,8 @@ record IsPageOf (catalog : CatalogFields) (files : List (List ℕ)) (seg page : 
 never : {P : Type 0} → false ≡ true → P
 never e = absurd (cc)
 
-module _ (catalog : CatalogFields) (files : List (List ℕ)) (lay : Option LayFields) (p : PagerFields) (are : AreFiles catalog files) (few : length catalog.segments ≤ 512) (given : p ≡ pager_given wired_frames catalog.frames (booted_tables catalog files lay)) where
-  tables_are : p.tables ≡ map table_given (booted_tables catalog files lay)
+module _ (catalog : CatalogFields) (files : List (List ℕ)) (lay : Option NewSectionFields) (p : PagerFields) (are : AreFiles catalog files) (few : length catalog.segments ≤ 512) (given : p ≡ initial_pager wired_frames catalog.frames (booted_tables catalog files lay)) where
+  tables_are : p.tables ≡ map filled_table (booted_tables catalog files lay)
   tables_are = ap (λ (x : PagerFields). x.tables) given
 
   has_live : (seg page : ℕ) (d : SdwFields) → booted_sdw catalog files seg ≡ Some d → has_page p seg page ≡ nat_lt page (page_count d)
@@ -131,7 +131,7 @@ regs_dbr ring s = refl
 pub runnable : (catalog : CatalogFields) (files : List (List ℕ)) (s : SnapFields) (core : List ℕ) (pager : PagerFields) (regs : RegsFields) (snap : SnapFields)
     → AreFiles catalog files → length catalog.segments ≤ 512 → IsFirst s.lay → 24 ≤ catalog.frames → catalog.frames ≤ 8192
     → IsMade catalog files s.lay (1024 * (wired_frames + catalog.frames)) core
-    → pager ≡ pager_given wired_frames catalog.frames (booted_tables catalog files s.lay) → AllEmpty pager → regs ≡ start_regs catalog.start.ring s
+    → pager ≡ initial_pager wired_frames catalog.frames (booted_tables catalog files s.lay) → AllEmpty pager → regs ≡ start_regs catalog.start.ring s
     → IsRunnable catalog.frames (record { core = core; pager = pager; regs = regs; snap = snap })
 runnable catalog files s core pager regs snap are few first some most made given empty at =
     let room : 2048 ≤ 1024 * (wired_frames + catalog.frames) = omega arith in
@@ -159,5 +159,5 @@ runnable catalog files s core pager regs snap are few first some most made given
       };
       linkage = λ ring lt.
           live_sdw catalog files s.lay (1024 * (wired_frames + catalog.frames)) core are few made room (linkage_segment ring)
-          (ring_segment (linkage_segment ring) ring linkage_pages) (linkage_sdw catalog files ring lt);
+          (ring_descriptor (linkage_segment ring) ring linkage_pages) (linkage_sdw catalog files ring lt);
     }

@@ -11,9 +11,9 @@ use Rattle.m36_model.specs.Pointers.{pointer}
 use Rattle.m36_model.specs.BootedCore.{table_at}
 use Rattle.m36_dir.specs.Fields.{SegmentFields}
 use Rattle.m36_dir.specs.Catalog.{CatalogFields}
-use Rattle.m36_link.specs.Fields.{LayFields}
+use Rattle.m36_link.specs.Fields.{NewSectionFields}
 use Rattle.m36_link.specs.Known.{linkage_segment, lot_words, lot_word}
-use Rattle.m36_boot.specs.Segments.{file_at, ring_segment, catalog_segment, limited_segment, limit_of, last_block, booted_sdw, stack_pages, linkage_pages, stack_words, linkage_words, lot_of, booted_words}
+use Rattle.m36_boot.specs.Segments.{file_at, ring_descriptor, catalog_descriptor_at, catalog_descriptor, limit_of, last_block, booted_sdw, stack_pages, linkage_pages, stack_words, linkage_words, lot_of, booted_words}
 
 -- No file is longer than a segment, and there are as many files as segments.
 pub record AreFiles (catalog : CatalogFields) (files : List (List ℕ)) : Type 0 where
@@ -40,10 +40,10 @@ never d e = absurd (cc)
 the_same : (a b d : SdwFields) → a ≡ b → Some b ≡ Some d → a ≡ d
 the_same a b d e f = cc
 
-ring_live : (catalog : CatalogFields) (seg ring pages : ℕ) (d : SdwFields) → 8 ≤ seg → seg < 24 → pages ≤ 256 → Some (ring_segment seg ring pages) ≡ Some d
+ring_live : (catalog : CatalogFields) (seg ring pages : ℕ) (d : SdwFields) → 8 ≤ seg → seg < 24 → pages ≤ 256 → Some (ring_descriptor seg ring pages) ≡ Some d
     → IsLive catalog seg d
 ring_live catalog seg ring pages d low high few e =
-    let is : ring_segment seg ring pages ≡ d = the_same _ _ d refl e in
+    let is : ring_descriptor seg ring pages ≡ d = the_same _ _ d refl e in
     let P : SdwFields → Type 0 = λ x. IsLive catalog seg x in
     subst P is (record { rings = low; given = inl high; last = omega (arith, high); table = refl; bound = omega (arith, few); paged = refl; on = refl })
 
@@ -56,10 +56,10 @@ file_short catalog files i are =
     ]
 
 given_live : (catalog : CatalogFields) (o : Option SegmentFields) (seg : ℕ) (words : List ℕ) (d : SdwFields) → slice_get catalog.segments (seg - 64) ≡ o
-    → 64 ≤ seg → length words ≤ 2 ^ 18 → catalog_segment seg o words ≡ Some d → IsLive catalog seg d
+    → 64 ≤ seg → length words ≤ 2 ^ 18 → catalog_descriptor_at seg o words ≡ Some d → IsLive catalog seg d
 given_live catalog None seg words d at low few e = never d e
 given_live catalog (Some s) seg words d at low few e =
-    let is : limited_segment seg s words (limit_of s words) ≡ d = the_same _ _ d refl e in
+    let is : catalog_descriptor seg s words (limit_of s words) ≡ d = the_same _ _ d refl e in
     let inside = slice_get_within catalog.segments (seg - 64) s at in
     let P : SdwFields → Type 0 = λ x. IsLive catalog seg x in
     let bound : last_block words < 2 ^ 14 = omega (arith, few) in
@@ -93,11 +93,11 @@ live catalog files seg d are e =
 -- ---- a segment's words fit its pages
 
 -- a linkage section fits a linkage segment, after the LOT
-pub record IsFitting (l : LayFields) : Type 0 where
+pub record IsFitting (l : NewSectionFields) : Type 0 where
   pub seg : l.seg < 576
   pub words : 1024 + length l.words ≤ 2 ^ 18
 
-abbrev pub IsFirst : Option LayFields → Type 0
+abbrev pub IsFirst : Option NewSectionFields → Type 0
 IsFirst None = Unit {0}
 IsFirst (Some l) = IsFitting l
 
@@ -109,7 +109,7 @@ stack_size ring =
     let all = length-append (replicate 22 nought) (ptr_even (pointer (linkage_segment ring) ring 0) ∷ ptr_odd (pointer (linkage_segment ring) ring 0) ∷ []) in
     omega (arith, zeros, all)
 
-pub lot_size : (l : LayFields) → l.seg < 1024 → length (lot_of l) ≡ 1024
+pub lot_size : (l : NewSectionFields) → l.seg < 1024 → length (lot_of l) ≡ 1024
 lot_size l lt =
     let nought : ℕ = 0 in
     let before = length-replicate l.seg nought in
@@ -121,7 +121,7 @@ linkage_if : (b : Bool) (words : List ℕ) → length words ≤ 2 ^ 18 → lengt
 linkage_if true words le = le
 linkage_if false words le = omega arith
 
-linkage_size : (ring : ℕ) (lay : Option LayFields) → IsFirst lay → length (linkage_words lay ring) ≤ 2 ^ 18
+linkage_size : (ring : ℕ) (lay : Option NewSectionFields) → IsFirst lay → length (linkage_words lay ring) ≤ 2 ^ 18
 unfolding linkage_words
 linkage_size ring None is = omega arith
 linkage_size ring (Some l) is =
@@ -146,18 +146,18 @@ chosen_false : {A : Type 0} (b : Bool) (x y : A) → b ≡ false → cond b x y 
 chosen_false true x y e = absurd (cc)
 chosen_false false x y e = refl
 
-pub stack_here : (files : List (List ℕ)) (lay : Option LayFields) (seg : ℕ) → nat_lt seg 8 ≡ false → nat_lt seg 16 ≡ true
+pub stack_here : (files : List (List ℕ)) (lay : Option NewSectionFields) (seg : ℕ) → nat_lt seg 8 ≡ false → nat_lt seg 16 ≡ true
     → booted_words files lay seg ≡ stack_words (seg - 8)
 unfolding booted_words
 stack_here files lay seg d e = chosen_false (nat_lt seg 8) _ _ d ∙ chosen_true (nat_lt seg 16) _ _ e
 
-pub linkage_here : (files : List (List ℕ)) (lay : Option LayFields) (seg : ℕ) → nat_lt seg 8 ≡ false → nat_lt seg 16 ≡ false → nat_lt seg 24 ≡ true
+pub linkage_here : (files : List (List ℕ)) (lay : Option NewSectionFields) (seg : ℕ) → nat_lt seg 8 ≡ false → nat_lt seg 16 ≡ false → nat_lt seg 24 ≡ true
     → booted_words files lay seg ≡ linkage_words lay (seg - 16)
 unfolding booted_words
 linkage_here files lay seg d e f =
     chosen_false (nat_lt seg 8) _ _ d ∙ chosen_false (nat_lt seg 16) _ _ e ∙ chosen_true (nat_lt seg 24) _ _ f
 
-pub file_here : (files : List (List ℕ)) (lay : Option LayFields) (seg : ℕ) → nat_lt seg 8 ≡ false → nat_lt seg 16 ≡ false → nat_lt seg 24 ≡ false
+pub file_here : (files : List (List ℕ)) (lay : Option NewSectionFields) (seg : ℕ) → nat_lt seg 8 ≡ false → nat_lt seg 16 ≡ false → nat_lt seg 24 ≡ false
     → nat_lt seg 64 ≡ false → booted_words files lay seg ≡ file_at files (seg - 64)
 unfolding booted_words
 file_here files lay seg d e f g =
@@ -165,13 +165,13 @@ file_here files lay seg d e f g =
     ∙ chosen_false (nat_lt seg 64) _ _ g
 
 given_fit : (words : List ℕ) (o : Option SegmentFields) (seg : ℕ) (file : List ℕ) (d : SdwFields) → words ≡ file
-    → catalog_segment seg o file ≡ Some d → length words ≤ 16 * (d.bound + 1)
+    → catalog_descriptor_at seg o file ≡ Some d → length words ≤ 16 * (d.bound + 1)
 given_fit words None seg file d same e = never d e
 given_fit words (Some s) seg file d same e =
     let room : length file ≤ 16 * (last_block file + 1) = omega arith in
-    fits_by words file d (limited_segment seg s file (limit_of s file)) same (the_same _ _ d refl e) room
+    fits_by words file d (catalog_descriptor seg s file (limit_of s file)) same (the_same _ _ d refl e) room
 
-pub blocks_fit : (catalog : CatalogFields) (files : List (List ℕ)) (lay : Option LayFields) (seg : ℕ) (d : SdwFields) → IsFirst lay
+pub blocks_fit : (catalog : CatalogFields) (files : List (List ℕ)) (lay : Option NewSectionFields) (seg : ℕ) (d : SdwFields) → IsFirst lay
     → booted_sdw catalog files seg ≡ Some d → length (booted_words files lay seg) ≤ 16 * (d.bound + 1)
 unfolding booted_sdw
 blocks_fit catalog files lay seg d is e =
@@ -181,13 +181,13 @@ blocks_fit catalog files lay seg d is e =
           elim (choice (nat_lt seg 16) _ _ d stacks.1) [
             | inl here ↦
                 let size = stack_size (seg - 8) in
-                fits_by (booted_words files lay seg) (stack_words (seg - 8)) d (ring_segment seg (seg - 8) stack_pages)
+                fits_by (booted_words files lay seg) (stack_words (seg - 8)) d (ring_descriptor seg (seg - 8) stack_pages)
                 (stack_here files lay seg stacks.0 here.0) (the_same _ _ d refl here.1) (omega (arith, size))
             | inr linkages ↦
                 elim (choice (nat_lt seg 24) _ _ d linkages.1) [
                   | inl here ↦
                       let size = linkage_size (seg - 16) lay is in
-                      fits_by (booted_words files lay seg) (linkage_words lay (seg - 16)) d (ring_segment seg (seg - 16) linkage_pages)
+                      fits_by (booted_words files lay seg) (linkage_words lay (seg - 16)) d (ring_descriptor seg (seg - 16) linkage_pages)
                       (linkage_here files lay seg stacks.0 linkages.0 here.0) (the_same _ _ d refl here.1) (omega (arith, size))
                   | inr rest ↦
                       elim (choice (nat_lt seg 64) _ _ d rest.1) [
@@ -200,6 +200,6 @@ blocks_fit catalog files lay seg d is e =
           ]
     ]
 
-pub pages_fit : (catalog : CatalogFields) (files : List (List ℕ)) (lay : Option LayFields) (seg : ℕ) (d : SdwFields) → IsFirst lay
+pub pages_fit : (catalog : CatalogFields) (files : List (List ℕ)) (lay : Option NewSectionFields) (seg : ℕ) (d : SdwFields) → IsFirst lay
     → booted_sdw catalog files seg ≡ Some d → length (booted_words files lay seg) ≤ 1024 * (d.bound / 64 + 1)
 pages_fit catalog files lay seg d is e = let blocks = blocks_fit catalog files lay seg d is e in omega (arith, blocks)

@@ -4,7 +4,7 @@ use Rattle.std.specs.Prelude.{if◌then◌else◌, true, List, [], ◌∷◌, �
 use Rattle.std.specs.Prelude.{Option, Some, None, unwrap_or}
 use Rattle.std.specs.Prelude.{Result, Ok, Err}
 use Rattle.m36_desc.specs.Fields.{SdwFields}
-use Rattle.m36_desc.specs.Access.{in_order}
+use Rattle.m36_desc.specs.Access.{has_ordered_brackets}
 use Rattle.m36_desc.specs.Descriptors.{sdw_of, sdw_even, sdw_odd}
 use Rattle.m36_model.specs.Place.{core_sdw, page_count}
 use Rattle.m36_model.specs.BootedCore.{descriptor_words, booted_dbr, wired_frames, table_words, table_at}
@@ -14,13 +14,13 @@ use Rattle.m36_model.specs.Residence.{Paged, flat_of}
 use Rattle.m36_dir.specs.Catalog.{CatalogFields}
 use Rattle.m36_page.specs.declared.table.PageTable.{PageTable}
 use Rattle.m36_page.specs.Fields.{PagerFields}
-use Rattle.m36_page.specs.Given.{pager_given}
+use Rattle.m36_page.specs.Given.{initial_pager}
 use Rattle.m36_page.specs.Residence.{content_of, paged_by, has_page, spot_of, IsPager}
 use Rattle.m36_boot.specs.declared.fault.BootFault.{BootFault}
 use Rattle.m36_boot.specs.declared.image.Image.{Image}
-use Rattle.m36_link.specs.Fields.{LayFields, SnapFields}
+use Rattle.m36_link.specs.Fields.{NewSectionFields, SnapFields}
 use Rattle.m36_link.specs.Known.{first_segment, linkage_segment}
-use Rattle.m36_boot.specs.Segments.{ring_segment, linkage_pages, booted_sdw, booted_words}
+use Rattle.m36_boot.specs.Segments.{ring_descriptor, linkage_pages, booted_sdw, booted_words}
 use Rattle.m36_boot.specs.Start.{start_regs}
 use Rattle.m36_boot.specs.Refusals.{least_frames, ReportsFault, boot_answer}
 
@@ -53,7 +53,7 @@ booted_word catalog files a =
 -- The words of a descriptor decode to that descriptor, and its brackets are in order.
 pub record IsWellFormed (d : SdwFields) : Type 0 where
   pub back : sdw_of (sdw_even d) (sdw_odd d) ≡ d
-  pub ordered : in_order d ≡ true
+  pub ordered : has_ordered_brackets d ≡ true
 
 -- The descriptors of the segment numbers below `count` are written, and every other word is
 -- unchanged.
@@ -78,14 +78,14 @@ table_of_segment seg (Some d) words =
 
 -- the page tables of n segment numbers from `seg` on
 unfoldable pub tables_from :
-    CatalogFields → List (List ℕ) → Option LayFields → ℕ → ℕ → List PageTable
+    CatalogFields → List (List ℕ) → Option NewSectionFields → ℕ → ℕ → List PageTable
 tables_from catalog files lay seg zero = []
 tables_from catalog files lay seg (suc n) =
     table_of_segment seg (booted_sdw catalog files seg) (booted_words files lay seg)
     ++ tables_from catalog files lay (seg + 1) n
 
 -- the page tables of all segments of the image, in the order of their numbers
-unfoldable pub booted_tables : CatalogFields → List (List ℕ) → Option LayFields → List PageTable
+unfoldable pub booted_tables : CatalogFields → List (List ℕ) → Option NewSectionFields → List PageTable
 booted_tables catalog files lay =
     tables_from catalog files lay 0 (first_segment + length catalog.segments)
 
@@ -97,7 +97,7 @@ content_by (Some d) words w =
     if nat_lt (w / 1024) (page_count d) then Some (slice_index words w) else None
 
 -- the content of a word of a segment of the image; None if it has no place
-unfoldable pub booted_content : CatalogFields → List (List ℕ) → Option LayFields → ℕ → ℕ → Option ℕ
+unfoldable pub booted_content : CatalogFields → List (List ℕ) → Option NewSectionFields → ℕ → ℕ → Option ℕ
 booted_content catalog files lay seg w =
     content_by (booted_sdw catalog files seg) (booted_words files lay seg) w
 
@@ -133,7 +133,7 @@ pub record IsImage
   pub size : length image.core ≡ 1024 * (wired_frames + catalog.frames)
   pub core : (a : ℕ) → slice_index image.core a ≡ booted_word catalog files a
   pub pager :
-      image.pager ≡ pager_given wired_frames catalog.frames (booted_tables catalog files s.lay)
+      image.pager ≡ initial_pager wired_frames catalog.frames (booted_tables catalog files s.lay)
   pub regs : image.regs ≡ start_regs catalog.start.ring s
   -- what follows
   pub content :
@@ -160,10 +160,10 @@ pub record IsRunnable (frames : ℕ) (image : Image) : Type 0 where
   pub linkage :
       (ring : ℕ) → ring < 8
       → core_sdw image.core booted_dbr (linkage_segment ring)
-      ≡ Ok (ring_segment (linkage_segment ring) ring linkage_pages)
+      ≡ Ok (ring_descriptor (linkage_segment ring) ring linkage_pages)
 
 -- The result of `lay`: the image of the start, or the first fault; or NoMemory.
-abbrev pub LaySays : CatalogFields → List (List ℕ) → Result Image BootFault → Type 0
-LaySays catalog files (Ok image) =
+abbrev pub LayResult : CatalogFields → List (List ℕ) → Result Image BootFault → Type 0
+LayResult catalog files (Ok image) =
     (boot_answer catalog files ≡ Ok image.snap) × IsImage catalog files image.snap image
-LaySays catalog files (Err told) = ReportsFault told (boot_answer catalog files)
+LayResult catalog files (Err told) = ReportsFault told (boot_answer catalog files)

@@ -1,7 +1,7 @@
 -- What holds for the numbers of a booted image, and for the segments that may be started.
 use Rattle.std.specs.Prelude.{◌≡◌, ℕ, ◌+◌, ◌<◌, ◌≤◌, true, not, List, slice_get, Option, Some}
 use Rattle.std.specs.Prelude.{is_some, Ok}
-use Rattle.m36_desc.specs.Access.{first_of, fetch_rows}
+use Rattle.m36_desc.specs.Access.{first_violation, fetch_rows}
 use Rattle.m36_model.specs.Place.{ring_stack}
 use Rattle.m36_model.specs.Modification.{ptr}
 use Rattle.m36_model.specs.Pointers.{pointer}
@@ -11,10 +11,10 @@ use Rattle.m36_dir.specs.Fields.{SegmentFields}
 use Rattle.m36_dir.specs.BootOrder.{most_segments}
 use Rattle.m36_dir.specs.Catalog.{CatalogFields}
 use Rattle.obj36_parts.specs.ObjectSegment.{linkage_register}
-use Rattle.m36_link.specs.Fields.{LayFields, SnapFields}
+use Rattle.m36_link.specs.Fields.{NewSectionFields, SnapFields}
 use Rattle.m36_link.specs.Known.{first_segment, linkage_segment, catalog_number}
 use Rattle.m36_boot.specs.Segments.{stack_segment, stack_pages, linkage_pages, file_at}
-use Rattle.m36_boot.specs.Segments.{ring_segment, limited_segment, catalog_segment, booted_sdw}
+use Rattle.m36_boot.specs.Segments.{ring_descriptor, catalog_descriptor, catalog_descriptor_at, booted_sdw}
 use Rattle.m36_boot.specs.Segments.{stack_words, linkage_words, booted_words}
 use Rattle.m36_boot.specs.Start.{may_start, section_base, start_regs}
 
@@ -29,28 +29,28 @@ use Rattle.m36_boot.specs.Start.{may_start, section_base, start_regs}
 pub record ImageNumbersLaw : Type 0 where
   pub stacks : (ring : ℕ) → stack_segment ring ≡ ring_stack booted_dbr ring
   pub descriptors :
-      (seg ring pages : ℕ) → is_stack_of ring (Ok (ring_segment seg ring pages)) ≡ true
+      (seg ring pages : ℕ) → is_stack_of ring (Ok (ring_descriptor seg ring pages)) ≡ true
   pub segments : booted_segments ≡ first_segment + most_segments
   pub stack :
       (catalog : CatalogFields) (files : List (List ℕ)) (ring : ℕ) → ring < 8
       → booted_sdw catalog files (stack_segment ring)
-      ≡ Some (ring_segment (stack_segment ring) ring stack_pages)
+      ≡ Some (ring_descriptor (stack_segment ring) ring stack_pages)
   pub stack_has :
-      (files : List (List ℕ)) (lay : Option LayFields) (ring : ℕ) → ring < 8
+      (files : List (List ℕ)) (lay : Option NewSectionFields) (ring : ℕ) → ring < 8
       → booted_words files lay (stack_segment ring) ≡ stack_words ring
   pub linkage :
       (catalog : CatalogFields) (files : List (List ℕ)) (ring : ℕ) → ring < 8
       → booted_sdw catalog files (linkage_segment ring)
-      ≡ Some (ring_segment (linkage_segment ring) ring linkage_pages)
+      ≡ Some (ring_descriptor (linkage_segment ring) ring linkage_pages)
   pub linkage_has :
-      (files : List (List ℕ)) (lay : Option LayFields) (ring : ℕ) → ring < 8
+      (files : List (List ℕ)) (lay : Option NewSectionFields) (ring : ℕ) → ring < 8
       → booted_words files lay (linkage_segment ring) ≡ linkage_words lay ring
   pub file :
       (catalog : CatalogFields) (files : List (List ℕ)) (i : ℕ)
       → booted_sdw catalog files (catalog_number i)
-      ≡ catalog_segment (catalog_number i) (slice_get catalog.segments i) (file_at files i)
+      ≡ catalog_descriptor_at (catalog_number i) (slice_get catalog.segments i) (file_at files i)
   pub file_has :
-      (files : List (List ℕ)) (lay : Option LayFields) (i : ℕ)
+      (files : List (List ℕ)) (lay : Option NewSectionFields) (i : ℕ)
       → booted_words files lay (catalog_number i) ≡ file_at files i
   pub register :
       (ring : ℕ) (s : SnapFields)
@@ -63,4 +63,4 @@ abbrev pub MayStartLaw : Type 0
 MayStartLaw =
     (s : SegmentFields) (ring seg : ℕ) (words : List ℕ) (limit : ℕ) → s.r1 ≤ s.r2 → s.r2 ≤ s.r3
     → may_start ring (Some s)
-    ≡ not (is_some (first_of (fetch_rows (limited_segment seg s words limit) ring)))
+    ≡ not (is_some (first_violation (fetch_rows (catalog_descriptor seg s words limit) ring)))

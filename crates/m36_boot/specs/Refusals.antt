@@ -7,7 +7,7 @@ use Rattle.std.specs.Option.{option_or}
 use Rattle.m36_dir.specs.Fields.{SegmentFields}
 use Rattle.m36_dir.specs.Catalog.{CatalogFields}
 use Rattle.obj36_parts.specs.PartsFields.{PartsFields}
-use Rattle.obj36.specs.ObjectOf.{value_of}
+use Rattle.obj36.specs.ObjectOf.{encoded_parts}
 use Rattle.m36_boot.specs.declared.fault.BootFault.{BootFault}
 use Rattle.m36_boot.specs.declared.fault.BootFault.TheVariants as fault
 use Rattle.m36_link.specs.Fields.{SnapFields}
@@ -49,7 +49,7 @@ bound_fault seg (Some p) =
 
 -- the fault of a segment, if any; only gates have one
 unfoldable pub gate_fault : ℕ → SegmentFields → List ℕ → Option BootFault
-gate_fault seg s words = if is_gate s.kind then bound_fault seg (value_of words) else None
+gate_fault seg s words = if is_gate s.kind then bound_fault seg (encoded_parts words) else None
 
 -- as `gate_fault`; no fault if there is no segment
 abbrev pub gate_fault_of : ℕ → Option SegmentFields → List ℕ → Option BootFault
@@ -66,8 +66,8 @@ first_gate_fault catalog files i (suc n) =
 -- ---- the start: its segment is not found, is not an object, or may not be started
 
 -- the answer to the link to the start, or the fault with which the catalog cannot be booted
-abbrev pub Answer : Type 0
-Answer = Result SnapFields BootFault
+abbrev pub StartAnswer : Type 0
+StartAnswer = Result SnapFields BootFault
 
 -- a segment that is not plain, whose file is an object
 abbrev pub is_object : Option SegmentFields → Option PartsFields → Bool
@@ -76,33 +76,33 @@ is_object _ _ = false
 
 -- the answer to the link to the start; U3 if the segment may not be executed in the ring of the
 -- start (false), or the link is refused
-abbrev pub answer_if : Bool → Result SnapFields RefusedFields → Answer
-answer_if true (Ok s) = Ok s
-answer_if true (Err why) = Err fault.U3
-answer_if false answer = Err fault.U3
+abbrev pub start_answer_if : Bool → Result SnapFields RefusedFields → StartAnswer
+start_answer_if true (Ok s) = Ok s
+start_answer_if true (Err why) = Err fault.U3
+start_answer_if false answer = Err fault.U3
 
 -- the answer to the link to the start, whose segment has this number; U3 if no segment is found, U4
 -- if it is not an object
-abbrev pub start_in : CatalogFields → List (List ℕ) → Option ℕ → Answer
-start_in catalog files None = Err fault.U3
-start_in catalog files (Some seg) =
+abbrev pub start_answer_at : CatalogFields → List (List ℕ) → Option ℕ → StartAnswer
+start_answer_at catalog files None = Err fault.U3
+start_answer_at catalog files (Some seg) =
     if is_object (segment_of catalog seg) (object_in files seg) then
-    answer_if (may_start catalog.start.ring (segment_of catalog seg)) (start_answer catalog files)
+    start_answer_if (may_start catalog.start.ring (segment_of catalog seg)) (start_answer catalog files)
     else Err (fault.U4 seg)
 
 -- the answer for the start of a catalog, or its fault
-unfoldable pub start_of : CatalogFields → List (List ℕ) → Answer
-start_of catalog files = start_in catalog files (start_segment catalog)
+unfoldable pub start_of : CatalogFields → List (List ℕ) → StartAnswer
+start_of catalog files = start_answer_at catalog files (start_segment catalog)
 
 -- ---- all of them
 
 -- the first fault, if there is one, and otherwise the answer
-abbrev pub first_or : Option BootFault → Answer → Answer
+abbrev pub first_or : Option BootFault → StartAnswer → StartAnswer
 first_or (Some first) answer = Err first
 first_or None answer = answer
 
 -- the answer with which the catalog is booted, or its first fault
-unfoldable pub boot_answer : CatalogFields → List (List ℕ) → Answer
+unfoldable pub boot_answer : CatalogFields → List (List ℕ) → StartAnswer
 boot_answer catalog files =
     if nat_lt catalog.frames least_frames then Err fault.U1
     else first_or (first_gate_fault catalog files 0 (length catalog.segments))
@@ -111,15 +111,15 @@ boot_answer catalog files =
 -- ---- the results of the code, which may also be NoMemory
 
 -- The code reports this fault, or has run out of memory.
-abbrev pub ReportsFault : BootFault → Answer → Type 0
+abbrev pub ReportsFault : BootFault → StartAnswer → Type 0
 ReportsFault fault.NoMemory answer = Unit {0}
 ReportsFault told answer = answer ≡ Err told
 
 -- The code's result for the start: the answer, or its fault; NoMemory is allowed in place of
 -- either.
-abbrev pub StartSays : Result SnapFields BootFault → Answer → Type 0
-StartSays (Ok s) answer = answer ≡ Ok s
-StartSays (Err told) answer = ReportsFault told answer
+abbrev pub StartResult : Result SnapFields BootFault → StartAnswer → Type 0
+StartResult (Ok s) answer = answer ≡ Ok s
+StartResult (Err told) answer = ReportsFault told answer
 
 -- The code reports this fault of a gate, or has run out of memory.
 abbrev pub ReportsGateFault : BootFault → Option BootFault → Type 0
@@ -127,18 +127,18 @@ ReportsGateFault fault.NoMemory first = Unit {0}
 ReportsGateFault told first = first ≡ Some told
 
 -- The code's result for the call limiter of a gate: its entry bound, or its fault; or NoMemory.
-abbrev pub GateSays : ℕ → List ℕ → Result ℕ BootFault → Type 0
-GateSays seg words (Ok limit) =
-    (bound_fault seg (value_of words) ≡ None) × (limit ≡ entry_bound_of (value_of words))
+abbrev pub GateLimitResult : ℕ → List ℕ → Result ℕ BootFault → Type 0
+GateLimitResult seg words (Ok limit) =
+    (bound_fault seg (encoded_parts words) ≡ None) × (limit ≡ entry_bound_of (encoded_parts words))
     × IsLimit limit
-GateSays seg words (Err told) = ReportsGateFault told (bound_fault seg (value_of words))
+GateLimitResult seg words (Err told) = ReportsGateFault told (bound_fault seg (encoded_parts words))
 
 -- The code's result for the call limiter of a segment: the limiter, or the fault of the gate; or
 -- NoMemory.
-abbrev pub LimitSays : ℕ → SegmentFields → List ℕ → Result ℕ BootFault → Type 0
-LimitSays seg s words (Ok limit) =
+abbrev pub LimitResult : ℕ → SegmentFields → List ℕ → Result ℕ BootFault → Type 0
+LimitResult seg s words (Ok limit) =
     (gate_fault seg s words ≡ None) × (limit ≡ limit_of s words) × IsLimit limit
-LimitSays seg s words (Err told) = ReportsGateFault told (gate_fault seg s words)
+LimitResult seg s words (Err told) = ReportsGateFault told (gate_fault seg s words)
 
 -- the call limiter of a segment; 0 if there is no segment
 abbrev pub limit_at : Option SegmentFields → List ℕ → ℕ

@@ -15,8 +15,8 @@ use Rattle.m36_dir.specs.Fields.{SegmentFields}
 use Rattle.m36_dir.specs.Catalog.{CatalogFields}
 use Rattle.obj36_parts.specs.PartsFields.{PartsFields}
 use Rattle.obj36_parts.specs.ObjectSegment.{segment_limit}
-use Rattle.obj36.specs.ObjectOf.{value_of}
-use Rattle.m36_link.specs.Fields.{LayFields}
+use Rattle.obj36.specs.ObjectOf.{encoded_parts}
+use Rattle.m36_link.specs.Fields.{NewSectionFields}
 use Rattle.m36_link.specs.Known.{first_segment, first_linkage, linkage_segment, catalog_index}
 use Rattle.m36_link.specs.Known.{lot_words, lot_word}
 
@@ -55,8 +55,8 @@ file_at files i = slice_index_or files i []
 -- ---- descriptors
 
 -- the descriptor of a paged segment whose last block of 16 words is `last`, with no mode on
-abbrev pub paged_segment : ℕ → ℕ → SdwFields
-paged_segment seg last =
+abbrev pub paged_descriptor : ℕ → ℕ → SdwFields
+paged_descriptor seg last =
     record {
       addr = table_at seg;
       r1 = 0;
@@ -81,9 +81,9 @@ bound_of_pages pages = 64 * pages - 1
 
 -- the descriptor of a stack or a linkage segment: it can be read and written in the rings from 0 to
 -- its own
-abbrev pub ring_segment : ℕ → ℕ → ℕ → SdwFields
-ring_segment seg ring pages =
-    record (paged_segment seg (bound_of_pages pages)) {
+abbrev pub ring_descriptor : ℕ → ℕ → ℕ → SdwFields
+ring_descriptor seg ring pages =
+    record (paged_descriptor seg (bound_of_pages pages)) {
       r1 = ring;
       r2 = ring;
       r3 = ring;
@@ -105,16 +105,16 @@ entry_bound_of (Some p) = p.entry_bound
 -- the number of words of a segment that are entries for callers from outside: those of a gate's
 -- object
 unfoldable pub limit_of : SegmentFields → List ℕ → ℕ
-limit_of s words = if is_gate s.kind then entry_bound_of (value_of words) else 0
+limit_of s words = if is_gate s.kind then entry_bound_of (encoded_parts words) else 0
 
 -- the last block with a word of the file; block 0 for an empty file
 abbrev pub last_block : List ℕ → ℕ
 last_block words = (length words - 1) / 16
 
 -- the descriptor of a segment of the catalog, with this call limiter
-abbrev pub limited_segment : ℕ → SegmentFields → List ℕ → ℕ → SdwFields
-limited_segment seg s words limit =
-    record (paged_segment seg (last_block words)) {
+abbrev pub catalog_descriptor : ℕ → SegmentFields → List ℕ → ℕ → SdwFields
+catalog_descriptor seg s words limit =
+    record (paged_descriptor seg (last_block words)) {
       r1 = s.r1;
       r2 = s.r2;
       r3 = s.r3;
@@ -127,18 +127,18 @@ limited_segment seg s words limit =
     }
 
 -- the descriptor of a segment of the catalog, if it exists
-abbrev pub catalog_segment : ℕ → Option SegmentFields → List ℕ → Option SdwFields
-catalog_segment seg None words = None
-catalog_segment seg (Some s) words = Some (limited_segment seg s words (limit_of s words))
+abbrev pub catalog_descriptor_at : ℕ → Option SegmentFields → List ℕ → Option SdwFields
+catalog_descriptor_at seg None words = None
+catalog_descriptor_at seg (Some s) words = Some (catalog_descriptor seg s words (limit_of s words))
 
 -- the descriptor of a segment; None if the image has no such segment
 unfoldable pub booted_sdw : CatalogFields → List (List ℕ) → ℕ → Option SdwFields
 booted_sdw catalog files seg =
     if nat_lt seg first_stack then None
-    else if nat_lt seg first_linkage then Some (ring_segment seg (seg - first_stack) stack_pages)
-    else if nat_lt seg after_ring_segments then Some (ring_segment seg (seg - first_linkage) linkage_pages)
+    else if nat_lt seg first_linkage then Some (ring_descriptor seg (seg - first_stack) stack_pages)
+    else if nat_lt seg after_ring_segments then Some (ring_descriptor seg (seg - first_linkage) linkage_pages)
     else if nat_lt seg first_segment then None
-    else catalog_segment seg (slice_get catalog.segments (catalog_index seg))
+    else catalog_descriptor_at seg (slice_get catalog.segments (catalog_index seg))
     (file_at files (catalog_index seg))
 
 -- ---- words; missing words up to the end of the last page are zero
@@ -149,21 +149,21 @@ stack_words ring =
     replicate 22 0 ++ pair_before (pointer (linkage_segment ring) ring 0) []
 
 -- the LOT in which one linkage section is laid
-abbrev pub lot_of : LayFields → List ℕ
+abbrev pub lot_of : NewSectionFields → List ℕ
 lot_of l = replicate l.seg 0 ++ lot_word l ∷ replicate (lot_words - 1 - l.seg) 0
 
 -- The words of the linkage segment of a ring: in that of the start, the LOT and after it the
 -- linkage section of the start's segment.
-abbrev pub linkage_by : ℕ → Option LayFields → List ℕ
-linkage_by ring None = []
-linkage_by ring (Some l) = if nat_eq ring l.ring then lot_of l ++ l.words else []
+abbrev pub linkage_words_by : ℕ → Option NewSectionFields → List ℕ
+linkage_words_by ring None = []
+linkage_words_by ring (Some l) = if nat_eq ring l.ring then lot_of l ++ l.words else []
 
 -- the words of the linkage segment of a ring
-unfoldable pub linkage_words : Option LayFields → ℕ → List ℕ
-linkage_words lay ring = linkage_by ring lay
+unfoldable pub linkage_words : Option NewSectionFields → ℕ → List ℕ
+linkage_words lay ring = linkage_words_by ring lay
 
 -- The words of a segment; none if the image has no such segment.
-unfoldable pub booted_words : List (List ℕ) → Option LayFields → ℕ → List ℕ
+unfoldable pub booted_words : List (List ℕ) → Option NewSectionFields → ℕ → List ℕ
 booted_words files lay seg =
     if nat_lt seg first_stack then []
     else if nat_lt seg first_linkage then stack_words (seg - first_stack)

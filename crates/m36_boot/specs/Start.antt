@@ -13,9 +13,9 @@ use Rattle.m36_dir.specs.Catalog.{CatalogFields}
 use Rattle.obj36_parts.specs.Fields.{LinkFields}
 use Rattle.obj36_parts.specs.ObjectSegment.{to_entry}
 use Rattle.obj36_parts.specs.declared.section.Section.TheVariants.{Text}
-use Rattle.m36_link.specs.Fields.{KnownFields, LayFields, SnapFields}
+use Rattle.m36_link.specs.Fields.{KnownFields, NewSectionFields, SnapFields}
 use Rattle.m36_link.specs.Known.{nothing_known, linkage_segment}
-use Rattle.m36_link.specs.Search.{searched}
+use Rattle.m36_link.specs.Search.{search_result}
 use Rattle.m36_link.specs.Snap.{RefusedFields, outer_snap}
 use Rattle.m36_boot.specs.Segments.{stack_segment}
 
@@ -46,7 +46,7 @@ start_answer catalog files = by_start (λ known. outer_snap known catalog files)
 -- the number of the segment that is found
 unfoldable pub start_segment : CatalogFields → Option ℕ
 start_segment catalog =
-    by_start (λ known ring link from. searched known catalog ring link.name from) catalog
+    by_start (λ known ring link from. search_result known catalog ring link.name from) catalog
 
 -- the segment may be executed in the ring of the start
 abbrev pub may_start : ℕ → Option SegmentFields → Bool
@@ -56,7 +56,7 @@ may_start ring (Some s) = s.mode.executable && nat_le s.r1 ring && nat_le ring s
 -- ---- registers
 
 -- the place in its linkage segment of the linkage section of the start; 0 if there is none
-abbrev pub section_base : Option LayFields → ℕ
+abbrev pub section_base : Option NewSectionFields → ℕ
 section_base None = 0
 section_base (Some l) = l.base
 

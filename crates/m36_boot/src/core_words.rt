@@ -16,7 +16,7 @@ use m36_link::{FIRST_SEGMENT, File};
 use m36_word::{Pair, Word};
 
 // The two words of a descriptor; zeros if there is no segment.
-fn pair_of(sdw: Option<Sdw>) -> Pair
+fn descriptor_pair(sdw: Option<Sdw>) -> Pair
     ensures even { result.even ≡ descriptor_word 0 sdw }
     ensures odd { result.odd ≡ descriptor_word 1 sdw }
     ensures back { IfSome sdw (λ d. sdw_of (sdw_even d) (sdw_odd d) ≡ d) }
@@ -52,6 +52,6 @@ pub(crate) fn put_descriptors(core: &mut Core, catalog: &Catalog, files: &[File]
 {
     let count = catalog.count();
     for seg in 0..FIRST_SEGMENT + count as u16 {
-        put_pair(core, seg, pair_of(descriptor(catalog, files, limits, seg)));
+        put_pair(core, seg, descriptor_pair(descriptor(catalog, files, limits, seg)));
     }
 }

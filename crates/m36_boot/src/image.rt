@@ -1,11 +1,11 @@
 //! The booted image.
 
 ghost use Rattle.std.specs.Prelude.{◌≡◌, ◌<◌, ◌≤◌, length, None, Ok, IfOk};
-ghost use Rattle.m36_page.specs.Residence.{Reads, HasFrames};
+ghost use Rattle.m36_page.specs.Residence.{AgreesWithCore, HasFrames};
 ghost use Rattle.m36_boot.specs.Segments.{AreShort};
 ghost use Rattle.m36_boot.specs.Start.{start_answer};
 ghost use Rattle.m36_boot.specs.Refusals.{least_frames, AreLimits, first_gate_fault};
-ghost use Rattle.m36_boot.specs.Image.{IsImage, IsRunnable, LaySays};
+ghost use Rattle.m36_boot.specs.Image.{IsImage, IsRunnable, LayResult};
 
 use crate::core_words::put_descriptors;
 use crate::fault::BootFault;
@@ -54,7 +54,7 @@ fn image_at(
     ensures image { IfOk result (λ image. IsImage catalog.now files.now image.snap image) }
     ensures snap { IfOk result (λ image. image.snap ≡ snap) }
     ensures runnable { IfOk result (IsRunnable catalog.now.frames) }
-    ensures reads { IfOk result (λ image. Reads image.pager image.core) }
+    ensures reads { IfOk result (λ image. AgreesWithCore image.pager image.core) }
     ensures frames { IfOk result (λ image. HasFrames image.pager image.core) }
 {
     link_laws();
@@ -75,7 +75,7 @@ fn image_at(
 
 // The image of a catalog whose gates have no fault; `limits` has the call limiter of each segment.
 // The error is the first fault of the start, or `NoMemory`.
-fn started(
+fn image_without_gate_faults(
     alloc: Global,
     catalog: &Catalog,
     files: &[File],
@@ -86,10 +86,10 @@ fn started(
     requires limits { AreLimits catalog.now files.now (length catalog.now.segments) limits.now }
     requires frames { least_frames ≤ catalog.now.frames }
     requires gates { first_gate_fault catalog.now files.now 0 (length catalog.now.segments) ≡ None }
-    ensures says { LaySays catalog.now files.now result }
+    ensures says { LayResult catalog.now files.now result }
     ensures answer { IfOk result (λ image. start_answer catalog.now files.now ≡ Ok image.snap) }
     ensures runnable { IfOk result (IsRunnable catalog.now.frames) }
-    ensures reads { IfOk result (λ image. Reads image.pager image.core) }
+    ensures reads { IfOk result (λ image. AgreesWithCore image.pager image.core) }
     ensures frames { IfOk result (λ image. HasFrames image.pager image.core) }
 {
     match start_of(alloc, catalog, files) {
@@ -104,17 +104,17 @@ fn started(
 pub fn lay(alloc: Global, catalog: &Catalog, files: &[File]) -> Result<Image, BootFault>
     requires files { length files.now ≡ length catalog.now.segments }
     requires short { AreShort files.now }
-    ensures says { LaySays catalog.now files.now result }
+    ensures says { LayResult catalog.now files.now result }
     ensures answer { IfOk result (λ image. start_answer catalog.now files.now ≡ Ok image.snap) }
     ensures runnable { IfOk result (IsRunnable catalog.now.frames) }
-    ensures reads { IfOk result (λ image. Reads image.pager image.core) }
+    ensures reads { IfOk result (λ image. AgreesWithCore image.pager image.core) }
     ensures frames { IfOk result (λ image. HasFrames image.pager image.core) }
 {
     if catalog.frames() < LEAST_FRAMES {
         return Err(BootFault::U1);
     }
     match limits_of(alloc, catalog, files) {
-        Ok(limits) => started(alloc, catalog, files, limits.as_slice()),
+        Ok(limits) => image_without_gate_faults(alloc, catalog, files, limits.as_slice()),
         Err(fault) => Err(fault),
     }
 }

@@ -2,7 +2,7 @@
 
 ghost use Rattle.std.specs.Prelude.{◌≡◌, ◌+◌, ◌<◌, ◌++◌, ◌∷◌, [], true, length, OnOk, IfOk, IfErr, None};
 ghost use Rattle.m36_boot.specs.Segments.{AreShort};
-ghost use Rattle.m36_boot.specs.Refusals.{is_entry_count, IsLimit, GateSays, LimitSays, AreLimits, ReportsGateFault, first_gate_fault};
+ghost use Rattle.m36_boot.specs.Refusals.{is_entry_count, IsLimit, GateLimitResult, LimitResult, AreLimits, ReportsGateFault, first_gate_fault};
 
 use crate::fault::BootFault;
 use crate::objects::{file, object_of};
@@ -26,7 +26,7 @@ fn is_entry_count(bound: u32) -> bool
 // object, and U2 if it has no entry or too many.
 #[tactic(auto, using(crate::proofs::LimitLoops::gates))]
 fn gate_limit(seg: u16, file: &File) -> Result<u16, BootFault>
-    ensures { GateSays seg file.now result }
+    ensures { GateLimitResult seg file.now result }
 {
     let Some(object) = object_of(file) else {
         return Err(BootFault::U4(seg));
@@ -41,7 +41,7 @@ fn gate_limit(seg: u16, file: &File) -> Result<u16, BootFault>
 // The call limiter of a segment: 0 if it is not a gate. The error is the fault of a gate.
 #[tactic(auto, unfolding(crate::specs::Refusals::gate_fault, crate::specs::Segments::limit_of))]
 fn limit(seg: u16, segment: &Segment, file: &File) -> Result<u16, BootFault>
-    ensures { LimitSays seg segment.now file.now result }
+    ensures { LimitResult seg segment.now file.now result }
 {
     match segment.kind {
         SegKind::Gate => gate_limit(seg, file),
@@ -50,7 +50,7 @@ fn limit(seg: u16, segment: &Segment, file: &File) -> Result<u16, BootFault>
 }
 
 // Adds the call limiter of the next segment.
-fn add(limits: &mut Vec<u16>, limit: u16) -> Result<(), NoMemory>
+fn add_limit(limits: &mut Vec<u16>, limit: u16) -> Result<(), NoMemory>
     ensures { OnOk result (limits.new.items ≡ limits.old.items ++ limit ∷ []) }
 {
     limits.push(limit)?;
@@ -78,7 +78,7 @@ pub(crate) fn limits_of(
     for i in 0..count {
         let seg = FIRST_SEGMENT + i as u16;
         match limit(seg, catalog.segment(i), file(files, i)) {
-            Ok(limit) => add(&mut limits, limit)?,
+            Ok(limit) => add_limit(&mut limits, limit)?,
             Err(fault) => return Err(fault),
         }
     }

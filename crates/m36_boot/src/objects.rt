@@ -2,7 +2,7 @@
 
 ghost use Rattle.std.specs.Prelude.{◌≡◌, ◌<◌, ◌≤◌, length, option_copied};
 ghost use Rattle.obj36_parts.specs.ObjectSegment.{segment_limit};
-ghost use Rattle.obj36.specs.ObjectOf.{value_of};
+ghost use Rattle.obj36.specs.ObjectOf.{encoded_parts};
 ghost use Rattle.m36_boot.specs.Segments.{AreShort, file_at};
 
 use m36_link::File;
@@ -22,7 +22,7 @@ pub(crate) fn file(files: &[File], i: usize) -> &File
 /// The object in a file, if the file is an object.
 #[tactic(auto, using(crate::proofs::ReadObjects::objects))]
 pub(crate) fn object_of(file: &File) -> Option<&Object>
-    ensures { option_copied result ≡ value_of file.now }
+    ensures { option_copied result ≡ encoded_parts file.now }
 {
     file.object().ok()
 }

@@ -1,11 +1,11 @@
 //! The descriptors and the words of segments.
 
 ghost use Rattle.std.specs.Prelude.{◌≡◌, ◌+◌, ◌*◌, ◌/◌, ◌<◌, ◌≤◌, ◌^◌, ◌⊎◌, length, IfOk, IfSome, true};
-ghost use Rattle.m36_desc.specs.Access.{in_order};
+ghost use Rattle.m36_desc.specs.Access.{has_ordered_brackets};
 ghost use Rattle.m36_model.specs.BootedCore.{table_words, table_at, booted_segments};
 ghost use Rattle.obj36_parts.specs.ObjectSegment.{segment_limit};
 ghost use Rattle.m36_link.specs.Known.{first_segment};
-ghost use Rattle.m36_boot.specs.Segments.{AreShort, first_stack, after_ring_segments, paged_segment, ring_segment, limited_segment, booted_sdw, stack_words, lot_of, linkage_words, booted_words};
+ghost use Rattle.m36_boot.specs.Segments.{AreShort, first_stack, after_ring_segments, paged_descriptor, ring_descriptor, catalog_descriptor, booted_sdw, stack_words, lot_of, linkage_words, booted_words};
 ghost use Rattle.m36_boot.specs.Refusals.{IsLimit, AreLimits};
 
 use crate::objects::file;
@@ -33,10 +33,10 @@ pub(crate) fn table_at(seg: u16) -> u32
 // ---- descriptors
 
 // The descriptor of a paged segment whose last block of 16 words is `last`, with no mode on.
-fn paged_segment(seg: u16, last: u16) -> Sdw
+fn paged_descriptor(seg: u16, last: u16) -> Sdw
     requires seg { seg < booted_segments }
     requires last { last < 2 ^ 14 }
-    ensures { result ≡ paged_segment seg last }
+    ensures { result ≡ paged_descriptor seg last }
 {
     Sdw {
         addr: table_at(seg),
@@ -59,15 +59,15 @@ fn paged_segment(seg: u16, last: u16) -> Sdw
 
 // The descriptor of a stack or a linkage segment.
 #[tactic(auto, using(crate::proofs::Orders::in_order_by))]
-fn ring_segment(seg: u16, ring: u8, pages: u16) -> Sdw
+fn ring_descriptor(seg: u16, ring: u8, pages: u16) -> Sdw
     requires seg { seg < booted_segments }
     requires ring { ring < 8 }
     requires some { 1 ≤ pages }
     requires most { pages ≤ table_words }
-    ensures value { result ≡ ring_segment seg ring pages }
-    ensures ordered { in_order result ≡ true }
+    ensures value { result ≡ ring_descriptor seg ring pages }
+    ensures ordered { has_ordered_brackets result ≡ true }
 {
-    let mut sdw = paged_segment(seg, 64 * pages - 1);
+    let mut sdw = paged_descriptor(seg, 64 * pages - 1);
     sdw.r1 = ring;
     sdw.r2 = ring;
     sdw.r3 = ring;
@@ -78,16 +78,16 @@ fn ring_segment(seg: u16, ring: u8, pages: u16) -> Sdw
 
 // The descriptor of a segment of the catalog, with this call limiter.
 #[tactic(auto, using(crate::proofs::Orders::in_order_by))]
-fn limited_segment(seg: u16, segment: &Segment, words: &[Word], limit: u16) -> Sdw
+fn catalog_descriptor(seg: u16, segment: &Segment, words: &[Word], limit: u16) -> Sdw
     requires seg { seg < booted_segments }
     requires words { length words.now ≤ segment_limit }
     requires limit { IsLimit limit }
     requires read_bracket { segment.now.r1 ≤ segment.now.r2 }
     requires call_bracket { segment.now.r2 ≤ segment.now.r3 }
-    ensures value { result ≡ limited_segment seg segment.now words.now limit }
-    ensures ordered { in_order result ≡ true }
+    ensures value { result ≡ catalog_descriptor seg segment.now words.now limit }
+    ensures ordered { has_ordered_brackets result ≡ true }
 {
-    let mut sdw = paged_segment(seg, (words.len().saturating_sub(1) / 16) as u16);
+    let mut sdw = paged_descriptor(seg, (words.len().saturating_sub(1) / 16) as u16);
     sdw.r1 = segment.r1;
     sdw.r2 = segment.r2;
     sdw.r3 = segment.r3;
@@ -108,28 +108,28 @@ pub(crate) fn descriptor(catalog: &Catalog, files: &[File], limits: &[u16], seg:
     requires limits { AreLimits catalog.now files.now (length catalog.now.segments) limits.now }
     requires seg { seg < first_segment + length catalog.now.segments }
     ensures value { result ≡ booted_sdw catalog.now files.now seg }
-    ensures ordered { IfSome result (λ d. in_order d ≡ true) }
+    ensures ordered { IfSome result (λ d. has_ordered_brackets d ≡ true) }
 {
     let _ = catalog.count();
     if seg < FIRST_STACK {
         None
     } else if seg < FIRST_LINKAGE {
-        Some(ring_segment(seg, (seg - FIRST_STACK) as u8, 16))
+        Some(ring_descriptor(seg, (seg - FIRST_STACK) as u8, 16))
     } else if seg < AFTER_RING_SEGMENTS {
-        Some(ring_segment(seg, (seg - FIRST_LINKAGE) as u8, 256))
+        Some(ring_descriptor(seg, (seg - FIRST_LINKAGE) as u8, 256))
     } else if seg < FIRST_SEGMENT {
         None
     } else {
         let i = (seg - FIRST_SEGMENT) as usize;
         let words = file(files, i).words();
-        Some(limited_segment(seg, catalog.segment(i), words, limits[i]))
+        Some(catalog_descriptor(seg, catalog.segment(i), words, limits[i]))
     }
 }
 
 // ---- words
 
 // The word with these two halves.
-fn joined(left: u32, right: u32) -> Word
+fn word_of_halves(left: u32, right: u32) -> Word
     requires left { left < 2 ^ 18 }
     requires right { right < 2 ^ 18 }
     ensures { result ≡ left * 2 ^ 18 + right }
@@ -146,7 +146,7 @@ fn stack_words(alloc: Global, ring: u8) -> Result<Words, NoMemory>
 {
     let mut words = Words::new(alloc);
     push_zeros(&mut words, 22)?;
-    words.push(joined(
+    words.push(word_of_halves(
         FIRST_LINKAGE as u32 + ring as u32,
         ((ring as u32) << 15) + ITS_TAG as u32,
     ))?;

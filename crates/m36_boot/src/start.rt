@@ -2,7 +2,7 @@
 
 ghost use Rattle.std.specs.Prelude.{◌≡◌, ◌+◌, ◌<◌, ◌^◌, option_copied};
 ghost use Rattle.m36_boot.specs.Start.{start_link, start_answer, start_segment, may_start, section_base, start_regs};
-ghost use Rattle.m36_boot.specs.Refusals.{is_object, answer_if, start_of, StartSays};
+ghost use Rattle.m36_boot.specs.Refusals.{is_object, start_answer_if, start_of, StartResult};
 ghost use Rattle.m36_link.specs.Known.{nothing_known};
 ghost use Rattle.m36_model.specs.Pointers.{pointer};
 
@@ -54,7 +54,7 @@ fn may_start(ring: u8, segment: Option<&Segment>) -> bool
 
 // The answer to the link to the start, if it may be executed, where no ring knows any name yet.
 #[tactic(auto, unfolding(crate::specs::Start::start_answer))]
-fn answer_if(
+fn start_answer_if(
     alloc: Global,
     known: &Known,
     catalog: &Catalog,
@@ -62,7 +62,7 @@ fn answer_if(
     may: bool,
 ) -> Result<Snap, BootFault>
     requires { known.now ≡ nothing_known }
-    ensures { StartSays result (answer_if may (start_answer catalog.now files.now)) }
+    ensures { StartResult result (start_answer_if may (start_answer catalog.now files.now)) }
 {
     if !may {
         return Err(BootFault::U3);
@@ -79,7 +79,7 @@ fn answer_if(
 /// The answer to the link to the start. The error is the first fault of the start, or `NoMemory`.
 #[tactic(auto, unfolding(crate::specs::Refusals::start_of, crate::specs::Start::start_segment))]
 pub(crate) fn start_of(alloc: Global, catalog: &Catalog, files: &[File]) -> Result<Snap, BootFault>
-    ensures { StartSays result (start_of catalog.now files.now) }
+    ensures { StartResult result (start_of catalog.now files.now) }
 {
     let known = Known::new(alloc, catalog)?;
     let start = catalog.start();
@@ -90,7 +90,7 @@ pub(crate) fn start_of(alloc: Global, catalog: &Catalog, files: &[File]) -> Resu
     if !is_object(segment, object_in(files, seg)) {
         return Err(BootFault::U4(seg));
     }
-    answer_if(
+    start_answer_if(
         alloc,
         &known,
         catalog,

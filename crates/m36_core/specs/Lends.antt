@@ -12,8 +12,8 @@ module _ {X : Type 0} where
 
 -- When the borrow of a range ends, the slots of the range hold the values that were left there, and
 -- every other slot is unchanged.
-abbrev pub lends_run :
+abbrev pub lends_range :
     (R : RattleType) → MutBor (Cells R.Denot) → ℕ → MutBor (List R.Denot) → Fml
-lends_run R c from r =
+lends_range R c from r =
     Lends (the_row R) (Array R 0) c r
     (λ ws. with_slots c.now (map Some (overwritten (somes c.now.slots) from ws)))

@@ -114,7 +114,7 @@ pub(crate) fn deallocate<T, A: Allocator>(
 }
 
 impl<T> Cells<T> {
-    ghost use Rattle.m36_core.specs.Lends.{lends_run};
+    ghost use Rattle.m36_core.specs.Lends.{lends_range};
 
     /// Writes a value into the slot at an index. `base` has to be the pointer to these slots.
     pub(crate) fn write(&mut self, base: Base<T>, index: usize, item: T)
@@ -148,7 +148,7 @@ impl<T> Cells<T> {
     pub(crate) fn slice_mut(&mut self, base: Base<T>, from: usize, len: usize) -> &mut [T]
         requires { (base.ptr ≡ self.old.at) × IsWhole self.old.slots
             × (from + len ≤ length self.old.slots) }
-        ensures* writes_back { sem 𝓛 (lends_run T.row self.entry from result) }
+        ensures* writes_back { sem 𝓛 (lends_range T.row self.entry from result) }
         ensures value { result.now ≡ take len (drop from (somes self.old.slots)) }
     {
         unsafe { slice::from_raw_parts_mut(base.ptr.add(from), len) }

@@ -5,19 +5,19 @@ use Rattle.m36_outside.specs.declared.sink.Put.{Put}
 use Rattle.m36_outside.specs.declared.sink.Put.TheVariants.{Done, Failed}
 use Rattle.m36_world.specs.Seen.{Seen}
 use Rattle.m36_program.specs.Gathered.{Loses}
-use Rattle.m36_debug.specs.declared.turning.LineResult.{LineResult}
-use Rattle.m36_debug.specs.declared.turning.LineResult.TheVariants as ends
+use Rattle.m36_debug.specs.declared.machine_relations.LineResult.{LineResult}
+use Rattle.m36_debug.specs.declared.machine_relations.LineResult.TheVariants as ends
 use Rattle.m36_debug.specs.Handing.{after_put, HandsOver}
-use Rattle.m36_debug.specs.Parts.{SessionPart, CutPart, LineContract}
-use Rattle.m36_debug.specs.PieceSays.{PieceSays}
+use Rattle.m36_debug.specs.Parts.{SessionPart, FailedPart, LineContract}
+use Rattle.m36_debug.specs.PieceContract.{PieceContract}
 use Rattle.m36_debug.specs.Putting.{Pending, PutsPieces}
-use Rattle.m36_debug.specs.Session.{Turning, SessionPoint, standing, Waiting, Over, Starved, texts_of}
-use Rattle.m36_debug.specs.SessionState.{SittingFields}
+use Rattle.m36_debug.specs.Session.{MachineRelations, SessionPoint, standing, Waiting, Over, Starved, texts_of}
+use Rattle.m36_debug.specs.SessionState.{SessionStateFields}
 use Rattle.m36_debug.proofs.PutLaws.{puts_on, puts_more}
 
 -- the answers of a part were put
 part_put :
-    {M : Type 0} (o : Turning M) (s : SessionPoint) (m : M) (lines : List (List ℕ)) (s' : SessionPoint) (m' : M) (old mid new : Pending)
+    {M : Type 0} (o : MachineRelations M) (s : SessionPoint) (m : M) (lines : List (List ℕ)) (s' : SessionPoint) (m' : M) (old mid new : Pending)
     → SessionPart o s m lines s' m' Done old mid → PutsPieces Done [] mid new → SessionPart o s m lines s' m' Done old new
 part_put o s m lines s' m' old mid new part puts = record {
   events = part.events;
@@ -28,8 +28,8 @@ part_put o s m lines s' m' old mid new part puts = record {
 
 -- only a prefix of them was put
 part_lost :
-    {M : Type 0} (o : Turning M) (s : SessionPoint) (m : M) (lines : List (List ℕ)) (s' : SessionPoint) (m' : M) (old mid new : Pending)
-    → SessionPart o s m lines s' m' Done old mid → PutsPieces Failed [] mid new → CutPart o s m lines m' old new
+    {M : Type 0} (o : MachineRelations M) (s : SessionPoint) (m : M) (lines : List (List ℕ)) (s' : SessionPoint) (m' : M) (old mid new : Pending)
+    → SessionPart o s m lines s' m' Done old mid → PutsPieces Failed [] mid new → FailedPart o s m lines m' old new
 part_lost o s m lines s' m' old mid new part puts = record {
   stands = s';
   part = record {
@@ -42,8 +42,8 @@ part_lost o s m lines s' m' old mid new part puts = record {
 
 -- after the output failed, nothing more was put
 cut_stays :
-    {M : Type 0} (o : Turning M) (s : SessionPoint) (m : M) (lines : List (List ℕ)) (m' : M) (old mid new : Pending)
-    → CutPart o s m lines m' old mid → new.world ≡ mid.world → CutPart o s m lines m' old new
+    {M : Type 0} (o : MachineRelations M) (s : SessionPoint) (m : M) (lines : List (List ℕ)) (m' : M) (old mid new : Pending)
+    → FailedPart o s m lines m' old mid → new.world ≡ mid.world → FailedPart o s m lines m' old new
 cut_stays o s m lines m' old mid new cut same = record {
   stands = cut.stands;
   part = record {
@@ -64,7 +64,7 @@ IsUncut ends.Cut = ⊥
 -- ---- a line
 
 end_by :
-    {M : Type 0} (o : Turning M) (end : LineResult) (put : Put) (s : SessionPoint) (m : M) (lines : List (List ℕ)) (sitting : SittingFields) (m' : M) (old mid new : Pending)
+    {M : Type 0} (o : MachineRelations M) (end : LineResult) (put : Put) (s : SessionPoint) (m : M) (lines : List (List ℕ)) (sitting : SessionStateFields) (m' : M) (old mid new : Pending)
     → IsUncut end → LineContract o end s m lines sitting m' old mid → PutsPieces put [] mid new → LineContract o (after_put put end) s m lines sitting m' old new
 end_by o ends.Line Done s m lines sitting m' old mid new uncut says puts = part_put o s m lines (standing sitting Waiting) m' old mid new says puts
 end_by o ends.Line Failed s m lines sitting m' old mid new uncut says puts = part_lost o s m lines (standing sitting Waiting) m' old mid new says puts
@@ -75,7 +75,7 @@ end_by o ends.Starved Failed s m lines sitting m' old mid new uncut says puts = 
 end_by o ends.Cut put s m lines sitting m' old mid new uncut says puts = absurd uncut
 
 pub end_handed :
-    {M : Type 0} (o : Turning M) (end result : LineResult) (s : SessionPoint) (m : M) (lines : List (List ℕ)) (sitting : SittingFields) (m' : M) (old mid new : Pending)
+    {M : Type 0} (o : MachineRelations M) (end result : LineResult) (s : SessionPoint) (m : M) (lines : List (List ℕ)) (sitting : SessionStateFields) (m' : M) (old mid new : Pending)
     → LineContract o end s m lines sitting m' old mid → HandsOver end result mid new → LineContract o result s m lines sitting m' old new
 end_handed o ends.Line result s m lines sitting m' old mid new says hands =
     subst (λ (e : LineResult). LineContract o e s m lines sitting m' old new) (sym hands.result_is) (end_by o ends.Line hands.put s m lines sitting m' old mid new tt says hands.puts)
@@ -89,8 +89,8 @@ end_handed o ends.Cut result s m lines sitting m' old mid new says hands =
 -- ---- a piece
 
 piece_by :
-    {M : Type 0} (o : Turning M) (end : LineResult) (put : Put) (s : SessionPoint) (m : M) (text kept : List ℕ) (sitting : SittingFields) (m' : M) (old mid new : Pending)
-    → IsUncut end → PieceSays o end s m text kept sitting m' old mid → PutsPieces put [] mid new → PieceSays o (after_put put end) s m text kept sitting m' old new
+    {M : Type 0} (o : MachineRelations M) (end : LineResult) (put : Put) (s : SessionPoint) (m : M) (text kept : List ℕ) (sitting : SessionStateFields) (m' : M) (old mid new : Pending)
+    → IsUncut end → PieceContract o end s m text kept sitting m' old mid → PutsPieces put [] mid new → PieceContract o (after_put put end) s m text kept sitting m' old new
 piece_by o ends.Line Done s m text kept sitting m' old mid new uncut says puts =
     record { lines = says.lines; is = says.is; unbroken = says.unbroken; part = part_put o s m says.lines (standing sitting Waiting) m' old mid new says.part puts }
 piece_by o ends.Line Failed s m text kept sitting m' old mid new uncut says puts =
@@ -106,16 +106,16 @@ piece_by o ends.Starved Failed s m text kept sitting m' old mid new uncut says p
 piece_by o ends.Cut put s m text kept sitting m' old mid new uncut says puts = absurd uncut
 
 pub piece_handed :
-    {M : Type 0} (o : Turning M) (end result : LineResult) (s : SessionPoint) (m : M) (text kept : List ℕ) (sitting : SittingFields) (m' : M) (old mid new : Pending)
-    → PieceSays o end s m text kept sitting m' old mid → HandsOver end result mid new → PieceSays o result s m text kept sitting m' old new
+    {M : Type 0} (o : MachineRelations M) (end result : LineResult) (s : SessionPoint) (m : M) (text kept : List ℕ) (sitting : SessionStateFields) (m' : M) (old mid new : Pending)
+    → PieceContract o end s m text kept sitting m' old mid → HandsOver end result mid new → PieceContract o result s m text kept sitting m' old new
 piece_handed o ends.Line result s m text kept sitting m' old mid new says hands =
-    subst (λ (e : LineResult). PieceSays o e s m text kept sitting m' old new) (sym hands.result_is) (piece_by o ends.Line hands.put s m text kept sitting m' old mid new tt says hands.puts)
+    subst (λ (e : LineResult). PieceContract o e s m text kept sitting m' old new) (sym hands.result_is) (piece_by o ends.Line hands.put s m text kept sitting m' old mid new tt says hands.puts)
 piece_handed o ends.Quit result s m text kept sitting m' old mid new says hands =
-    subst (λ (e : LineResult). PieceSays o e s m text kept sitting m' old new) (sym hands.result_is) (piece_by o ends.Quit hands.put s m text kept sitting m' old mid new tt says hands.puts)
+    subst (λ (e : LineResult). PieceContract o e s m text kept sitting m' old new) (sym hands.result_is) (piece_by o ends.Quit hands.put s m text kept sitting m' old mid new tt says hands.puts)
 piece_handed o ends.Starved result s m text kept sitting m' old mid new says hands =
-    subst (λ (e : LineResult). PieceSays o e s m text kept sitting m' old new) (sym hands.result_is) (piece_by o ends.Starved hands.put s m text kept sitting m' old mid new tt says hands.puts)
+    subst (λ (e : LineResult). PieceContract o e s m text kept sitting m' old new) (sym hands.result_is) (piece_by o ends.Starved hands.put s m text kept sitting m' old mid new tt says hands.puts)
 piece_handed o ends.Cut result s m text kept sitting m' old mid new says hands =
-    subst (λ (e : LineResult). PieceSays o e s m text kept sitting m' old new) (sym hands.result_is)
+    subst (λ (e : LineResult). PieceContract o e s m text kept sitting m' old new) (sym hands.result_is)
     (record { lines = says.lines; rest = says.rest; is = says.is; part = cut_stays o s m says.lines m' old mid new says.part hands.same })
 
 pub ruleset handing = (end_handed, piece_handed)

@@ -11,7 +11,7 @@ use Rattle.std.proofs.lemmas.List.Sums.{split_at_first, fails_before_first, pass
 use Rattle.std.proofs.Math.Dec.{ltb}
 use Rattle.m36_text.proofs.Splitting.{cond_none, ended_line, open_line, rest_whole}
 use Rattle.m36_outside.specs.Passing.{joined}
-use Rattle.m36_text.specs.Lines.{as_line, unended_line, ended, lines_of, those_read, open_rest, open_lines_of_parts, open_lines_of}
+use Rattle.m36_text.specs.Lines.{as_line, unended_line, lines_of_parts, lines_of, present_values, open_last_line, open_lines_of_parts, open_lines_of}
 use Rattle.m36_debug.specs.LinesTaken.{whole_lines, IsUnbroken, IsLines, IsFirstPart}
 
 -- ---- a line feed in a text
@@ -87,19 +87,19 @@ lines_one text line rest is unbroken = record {
 
 -- A line that has begun is complete.
 pub lines_line :
-    (text begun end behind rest : List ℕ) (lines : List (List ℕ))
-    → IsLines text lines (begun ++ rest) → IsUnbroken begun → IsUnbroken end → rest ≡ as_line end ++ behind
-    → IsLines text (lines ++ (begun ++ end) ∷ []) behind
-lines_line text begun end behind rest lines before begun_unbroken end_unbroken cut =
-    let whole_line : IsUnbroken (begun ++ end) = All-append (λ b. (b == 10) ≡ false) begun end begun_unbroken end_unbroken in
-    let starts : begun ++ rest ≡ as_line (begun ++ end) ++ behind =
-    ap (λ t. begun ++ t) cut
-    ∙ sym (append_assoc begun (as_line end) behind)
-    ∙ ap (λ t. t ++ behind) (sym (append_assoc begun end (10 ∷ []))) in
-    let more : IsLines ((begun ++ rest) ++ []) ((begun ++ end) ∷ []) behind =
-    lines_one ((begun ++ rest) ++ []) (begun ++ end) behind (append-nil (begun ++ rest) ∙ starts) whole_line in
-    subst (λ t. IsLines t (lines ++ (begun ++ end) ∷ []) behind) (append-nil text)
-    (lines_on text (begun ++ rest) [] behind lines ((begun ++ end) ∷ []) before more)
+    (text activity_after_line end behind rest : List ℕ) (lines : List (List ℕ))
+    → IsLines text lines (activity_after_line ++ rest) → IsUnbroken activity_after_line → IsUnbroken end → rest ≡ as_line end ++ behind
+    → IsLines text (lines ++ (activity_after_line ++ end) ∷ []) behind
+lines_line text activity_after_line end behind rest lines before begun_unbroken end_unbroken cut =
+    let whole_line : IsUnbroken (activity_after_line ++ end) = All-append (λ b. (b == 10) ≡ false) activity_after_line end begun_unbroken end_unbroken in
+    let starts : activity_after_line ++ rest ≡ as_line (activity_after_line ++ end) ++ behind =
+    ap (λ t. activity_after_line ++ t) cut
+    ∙ sym (append_assoc activity_after_line (as_line end) behind)
+    ∙ ap (λ t. t ++ behind) (sym (append_assoc activity_after_line end (10 ∷ []))) in
+    let more : IsLines ((activity_after_line ++ rest) ++ []) ((activity_after_line ++ end) ∷ []) behind =
+    lines_one ((activity_after_line ++ rest) ++ []) (activity_after_line ++ end) behind (append-nil (activity_after_line ++ rest) ∙ starts) whole_line in
+    subst (λ t. IsLines t (lines ++ (activity_after_line ++ end) ∷ []) behind) (append-nil text)
+    (lines_on text (activity_after_line ++ rest) [] behind lines ((activity_after_line ++ end) ∷ []) before more)
 
 -- ---- the lines of a text
 
@@ -129,27 +129,27 @@ unfolding lines_of
 whole_lines_on [] rest unbroken = refl
 whole_lines_on (line ∷ lines) rest unbroken =
     let behind : List ℕ = joined (map as_line lines) ++ rest in
-    ap (λ t. those_read (ended (slice_split (λ b. b == 10) t))) (append_assoc (as_line line) (joined (map as_line lines)) rest)
-    ∙ ap (λ l. those_read (ended l)) (split_line line behind (All-head IsUnbroken line lines unbroken))
-    ∙ ap (λ (l : List (Option (List ℕ))). those_read l) (ended_line line (slice_split (λ b. b == 10) behind) (omega (arith, length-slice_split (λ b. b == 10) behind)))
+    ap (λ t. present_values (lines_of_parts (slice_split (λ b. b == 10) t))) (append_assoc (as_line line) (joined (map as_line lines)) rest)
+    ∙ ap (λ l. present_values (lines_of_parts l)) (split_line line behind (All-head IsUnbroken line lines unbroken))
+    ∙ ap (λ (l : List (Option (List ℕ))). present_values l) (ended_line line (slice_split (λ b. b == 10) behind) (omega (arith, length-slice_split (λ b. b == 10) behind)))
     ∙ ap (λ l. line ∷ l) (whole_lines_on lines rest (All-tail IsUnbroken line lines unbroken))
 
-open_last : (rest : List ℕ) → IsUnbroken rest → open_lines_of rest ≡ open_rest rest
+open_last : (rest : List ℕ) → IsUnbroken rest → open_lines_of rest ≡ open_last_line rest
 unfolding open_lines_of
 open_last rest unbroken = ap open_lines_of_parts (slice_split_none (λ b. b == 10) rest unbroken)
 
-no_whole : (rest : List ℕ) → those_read (unended_line rest) ≡ []
+no_whole : (rest : List ℕ) → present_values (unended_line rest) ≡ []
 no_whole [] = refl
 no_whole (b ∷ rest) = refl
 
 whole_last : (rest : List ℕ) → IsUnbroken rest → whole_lines rest ≡ []
 unfolding lines_of
-whole_last rest unbroken = ap (λ l. those_read (ended l)) (slice_split_none (λ b. b == 10) rest unbroken) ∙ no_whole rest
+whole_last rest unbroken = ap (λ l. present_values (lines_of_parts l)) (slice_split_none (λ b. b == 10) rest unbroken) ∙ no_whole rest
 
 -- All lines of a text whose last line is not whole.
 pub all_open :
     (text rest : List ℕ) (lines : List (List ℕ))
-    → IsLines text lines rest → IsUnbroken rest → open_lines_of text ≡ lines ++ open_rest rest
+    → IsLines text lines rest → IsUnbroken rest → open_lines_of text ≡ lines ++ open_last_line rest
 all_open text rest lines are unbroken =
     ap open_lines_of are.is ∙ open_lines_on lines rest are.unbroken ∙ ap (λ l. lines ++ l) (open_last rest unbroken)
 

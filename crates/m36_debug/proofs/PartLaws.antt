@@ -3,14 +3,14 @@ use Rattle.std.proofs.Common.{◌≡◌, ℕ, List, [], ◌∷◌, ◌++◌, ref
 use Rattle.std.proofs.lemmas.List.{append-nil, append_assoc}
 use Rattle.m36_outside.specs.declared.sink.Put.TheVariants.{Done, Failed}
 use Rattle.m36_debug.specs.Putting.{Pending, PutsPieces}
-use Rattle.m36_debug.specs.Parts.{SessionPart, CutPart}
-use Rattle.m36_debug.specs.Session.{Turning, SessionPoint, EventKind, SessionEvent, May, state_after, said, Follow, texts_of, lines_in, line_in}
+use Rattle.m36_debug.specs.Parts.{SessionPart, FailedPart}
+use Rattle.m36_debug.specs.Session.{MachineRelations, SessionPoint, EventKind, SessionEvent, MayHappen, state_after, said, Follow, texts_of, lines_in, line_in}
 use Rattle.m36_debug.proofs.PutLaws.{puts_nothing, puts_on, puts_more}
 
 -- ---- events
 
 pub follow_on :
-    {M : Type 0} (o : Turning M) (s : SessionPoint) (m : M) (events others : List (SessionEvent M)) (s1 : SessionPoint) (m1 : M) (s2 : SessionPoint) (m2 : M)
+    {M : Type 0} (o : MachineRelations M) (s : SessionPoint) (m : M) (events others : List (SessionEvent M)) (s1 : SessionPoint) (m1 : M) (s2 : SessionPoint) (m2 : M)
     → Follow o s m events s1 m1 → Follow o s1 m1 others s2 m2 → Follow o s m (events ++ others) s2 m2
 unfolding Follow
 follow_on o s m [] others s1 m1 s2 m2 one two =
@@ -19,7 +19,7 @@ follow_on o s m (e ∷ events) others s1 m1 s2 m2 one two =
     (one.0, follow_on o (state_after (o.regs e.after) s e.happened) e.after events others s1 m1 s2 m2 one.1 two)
 
 pub said_on :
-    {M : Type 0} (o : Turning M) (s : SessionPoint) (m : M) (events others : List (SessionEvent M)) (s1 : SessionPoint) (m1 : M)
+    {M : Type 0} (o : MachineRelations M) (s : SessionPoint) (m : M) (events others : List (SessionEvent M)) (s1 : SessionPoint) (m1 : M)
     → Follow o s m events s1 m1 → texts_of o s (events ++ others) ≡ texts_of o s events ++ texts_of o s1 others
 unfolding Follow texts_of
 said_on o s m [] others s1 m1 one = ap (λ (u : SessionPoint). texts_of o u others) (sym one.0)
@@ -35,12 +35,12 @@ in_on (e ∷ events) others =
 
 -- ---- parts
 
-pub part_none : {M : Type 0} (o : Turning M) (s : SessionPoint) (m : M) (now : Pending) → SessionPart o s m [] s m Done now now
+pub part_none : {M : Type 0} (o : MachineRelations M) (s : SessionPoint) (m : M) (now : Pending) → SessionPart o s m [] s m Done now now
 unfolding Follow texts_of lines_in
 part_none o s m now = record { events = []; follow = (refl, refl); took = refl; wrote = puts_nothing now }
 
 pub part_on :
-    {M : Type 0} (o : Turning M) (s : SessionPoint) (m : M) (lines others : List (List ℕ)) (s1 : SessionPoint) (m1 : M) (s2 : SessionPoint) (m2 : M) (old now new : Pending)
+    {M : Type 0} (o : MachineRelations M) (s : SessionPoint) (m : M) (lines others : List (List ℕ)) (s1 : SessionPoint) (m1 : M) (s2 : SessionPoint) (m2 : M) (old now new : Pending)
     → SessionPart o s m lines s1 m1 Done old now → SessionPart o s1 m1 others s2 m2 Done now new
     → SessionPart o s m (lines ++ others) s2 m2 Done old new
 part_on o s m lines others s1 m1 s2 m2 old now new one two = record {
@@ -51,9 +51,9 @@ part_on o s m lines others s1 m1 s2 m2 old now new one two = record {
 }
 
 pub part_cut :
-    {M : Type 0} (o : Turning M) (s : SessionPoint) (m : M) (lines others : List (List ℕ)) (s1 : SessionPoint) (m1 m2 : M) (old now new : Pending)
-    → SessionPart o s m lines s1 m1 Done old now → CutPart o s1 m1 others m2 now new
-    → CutPart o s m (lines ++ others) m2 old new
+    {M : Type 0} (o : MachineRelations M) (s : SessionPoint) (m : M) (lines others : List (List ℕ)) (s1 : SessionPoint) (m1 m2 : M) (old now new : Pending)
+    → SessionPart o s m lines s1 m1 Done old now → FailedPart o s1 m1 others m2 now new
+    → FailedPart o s m (lines ++ others) m2 old new
 part_cut o s m lines others s1 m1 m2 old now new one two = record {
   stands = two.stands;
   part = record {
@@ -66,8 +66,8 @@ part_cut o s m lines others s1 m1 m2 old now new one two = record {
 
 -- one event
 pub event_part :
-    {M : Type 0} (o : Turning M) (s : SessionPoint) (m m' : M) (h : EventKind) (old new : Pending)
-    → May o s.doing m h m' → PutsPieces Done (said (o.regs m') (o.content m') s h) old new
+    {M : Type 0} (o : MachineRelations M) (s : SessionPoint) (m m' : M) (h : EventKind) (old new : Pending)
+    → MayHappen o s.doing m h m' → PutsPieces Done (said (o.regs m') (o.content m') s h) old new
     → SessionPart o s m (line_in h) (state_after (o.regs m') s h) m' Done old new
 unfolding Follow texts_of lines_in
 event_part o s m m' h old new may puts = record {
@@ -78,9 +78,9 @@ event_part o s m m' h old new may puts = record {
 }
 
 pub event_cut :
-    {M : Type 0} (o : Turning M) (s : SessionPoint) (m m' : M) (h : EventKind) (old new : Pending)
-    → May o s.doing m h m' → PutsPieces Failed (said (o.regs m') (o.content m') s h) old new
-    → CutPart o s m (line_in h) m' old new
+    {M : Type 0} (o : MachineRelations M) (s : SessionPoint) (m m' : M) (h : EventKind) (old new : Pending)
+    → MayHappen o s.doing m h m' → PutsPieces Failed (said (o.regs m') (o.content m') s h) old new
+    → FailedPart o s m (line_in h) m' old new
 unfolding Follow texts_of lines_in
 event_cut o s m m' h old new may puts = record {
   stands = state_after (o.regs m') s h;

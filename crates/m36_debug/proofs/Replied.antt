@@ -1,7 +1,7 @@
 -- The events of a session's program: answers are put, and it continues or ends; a piece of input is taken, or not.
 use Rattle.std.proofs.Common.{◌≡◌, ◌≤◌, ◌⊎◌, ℕ, zero, suc, List, [], ◌∷◌, ◌++◌, length, Result, Ok, Err, refl, sym, ap, subst, ◌∙◌, inl, inr}
 use Rattle.m36_world.specs.Happened.{IsInput, IsInputFailed, IsOutput, IsOutputFailed}
-use Rattle.m36_world.specs.Follow.{Next, Follow, outputs}
+use Rattle.m36_world.specs.Follow.{InSequence, Follow, outputs}
 use Rattle.m36_world.specs.Seen.{Seen}
 use Rattle.m36_world.specs.declared.event.Event.{Event}
 use Rattle.m36_world.specs.declared.event.Event.TheVariants.{Input, InputFailed, Output, OutputFailed}
@@ -11,10 +11,10 @@ use Rattle.m36_status.specs.declared.status.Status.TheVariants.{ReadFault, Write
 use Rattle.m36_program.specs.Goes.{Goes, FailsWith}
 use Rattle.m36_program.specs.Program.{done, puts_all}
 use Rattle.m36_debug.specs.Replies.{Reply, All, Quits, Breaks}
-use Rattle.m36_debug.specs.Session.{Turning}
+use Rattle.m36_debug.specs.Session.{MachineRelations}
 use Rattle.m36_debug.specs.SessionProgram.{Talk, too_long, starves, takes_within, on_reply, replies, session_from}
-use Rattle.m36_debug.specs.SessionSays.{LinesSeen, input}
-use Rattle.m36_debug.specs.SessionState.{SittingFields}
+use Rattle.m36_debug.specs.SessionContract.{LinesSeen, input}
+use Rattle.m36_debug.specs.SessionState.{SessionStateFields}
 
 -- ---- the input
 
@@ -35,8 +35,8 @@ pub record AfterTurn (more : List Event) (old new : Seen) : Type 0 where
   pub follow : Follow more between new
   pub input : input_by between ≡ input_by old
 
-further : (pieces : List (List ℕ)) (more : List Event) (old new : Seen) → Follow (outputs pieces ++ more) old new → AfterTurn more old new
-further pieces more old new follow =
+decide_after_turn : (pieces : List (List ℕ)) (more : List Event) (old new : Seen) → Follow (outputs pieces ++ more) old new → AfterTurn more old new
+decide_after_turn pieces more old new follow =
     let parts = follow_split (outputs pieces) more old new follow in
     record { between = parts.between; follow = parts.goes_on; input = outputs_keep pieces old parts.between parts.begins }
 
@@ -158,12 +158,12 @@ takes_puts_none most go pieces result (inl goes) = let is = goes.first in cc
 takes_puts_none most go pieces result (inr fails) = let is = fails.only in cc
 
 pub session_puts_none :
-    {M : Type 0} (o : Turning M) (left taken : ℕ) (begun : List ℕ) (s : SittingFields) (m : M) → PutsNone (session_from o left taken begun s m)
+    {M : Type 0} (o : MachineRelations M) (left taken : ℕ) (activity_after_line : List ℕ) (s : SessionStateFields) (m : M) → PutsNone (session_from o left taken activity_after_line s m)
 unfolding session_from
-session_puts_none o zero zero begun s m = takes_puts_none 1 _
-session_puts_none o zero (suc taken) begun s m = too_long_puts_none
-session_puts_none o (suc left) zero begun s m = takes_puts_none (suc left) _
-session_puts_none o (suc left) (suc taken) begun s m = session_puts_none o left taken begun s m
+session_puts_none o zero zero activity_after_line s m = takes_puts_none 1 _
+session_puts_none o zero (suc taken) activity_after_line s m = too_long_puts_none
+session_puts_none o (suc left) zero activity_after_line s m = takes_puts_none (suc left) _
+session_puts_none o (suc left) (suc taken) activity_after_line s m = session_puts_none o left taken activity_after_line s m
 
 -- ---- a reply
 
@@ -173,17 +173,17 @@ written_in (Quits written) = written
 written_in (Breaks written) = written
 
 -- All lines were answered, and the session continued.
-pub record WentOn {M : Type 0} (Is : Reply M → Type 0) (on : List ℕ → SittingFields → M → Talk) (events : List Event) (result : Result (Unit {0}) Status) (old new : Seen)
+pub record WentOn {M : Type 0} (Is : Reply M → Type 0) (on : List ℕ → SessionStateFields → M → Talk) (events : List Event) (result : Result (Unit {0}) Status) (old new : Seen)
     : Type 0 where
   pub written : List (List ℕ)
   pub kept : List ℕ
-  pub sitting : SittingFields
+  pub sitting : SessionStateFields
   pub machine : M
   pub is : Is (All written kept sitting machine)
   pub more : List Event
   pub events_are : events ≡ outputs written ++ more
   pub goes : Goes (on kept sitting machine) more result
-  pub further : AfterTurn more old new
+  pub decide_after_turn : AfterTurn more old new
 
 -- The last was `quit`.
 pub record HasQuit {M : Type 0} (Is : Reply M → Type 0) (events : List Event) (result : Result (Unit {0}) Status) (old new : Seen) : Type 0 where
@@ -209,7 +209,7 @@ pub record HasFailed {M : Type 0} (Is : Reply M → Type 0) (events : List Event
   pub input : input_by new ≡ input_by old
 
 abbrev pub Replied :
-    {M : Type 0} → (Reply M → Type 0) → (List ℕ → SittingFields → M → Talk) → List Event → Result (Unit {0}) Status → Seen → Seen → Type 0
+    {M : Type 0} → (Reply M → Type 0) → (List ℕ → SessionStateFields → M → Talk) → List Event → Result (Unit {0}) Status → Seen → Seen → Type 0
 Replied Is on events result old new =
     WentOn Is on events result old new ⊎ HasQuit Is events result old new ⊎ HasStarved Is events result old new ⊎ HasFailed Is events result old new
 
@@ -217,11 +217,11 @@ has_failed :
     {M : Type 0} (Is : Reply M → Type 0) (reply : Reply M) (events : List Event) (result : Result (Unit {0}) Status) (old new : Seen)
     → Is reply → Unwrote (written_in reply) events result → Follow events old new → HasFailed Is events result old new
 has_failed Is reply events result old new is unwrote follow =
-    let on = further unwrote.handed (OutputFailed unwrote.failed ∷ []) old new (subst (λ e. Follow e old new) unwrote.events_are follow) in
+    let on = decide_after_turn unwrote.handed (OutputFailed unwrote.failed ∷ []) old new (subst (λ e. Follow e old new) unwrote.events_are follow) in
     record { reply = reply; is = is; unwrote = unwrote; input = last_failed unwrote.failed on.between new on.follow ∙ on.input }
 
 went_on :
-    {M : Type 0} (Is : Reply M → Type 0) (on : List ℕ → SittingFields → M → Talk) (written : List (List ℕ)) (kept : List ℕ) (s : SittingFields) (m : M)
+    {M : Type 0} (Is : Reply M → Type 0) (on : List ℕ → SessionStateFields → M → Talk) (written : List (List ℕ)) (kept : List ℕ) (s : SessionStateFields) (m : M)
     (events : List Event) (result : Result (Unit {0}) Status) (old new : Seen)
     → Is (All written kept s m) → Follow events old new
     → Wrote written (on kept s m) events result ⊎ Unwrote written events result → Replied Is on events result old new
@@ -234,7 +234,7 @@ went_on Is on written kept s m events result old new is follow (inl all) = inl (
   more = all.more;
   events_are = all.is;
   goes = all.goes;
-  further = further written all.more old new (subst (λ e. Follow e old new) all.is follow);
+  decide_after_turn = decide_after_turn written all.more old new (subst (λ e. Follow e old new) all.is follow);
 })
 went_on Is on written kept s m events result old new is follow (inr part) =
     inr (inr (inr (has_failed Is (All written kept s m) events result old new is part follow)))
@@ -249,14 +249,14 @@ ends_after :
     (pieces : List (List ℕ)) (value : Result (Unit {0}) Status) (more events : List Event) (result : Result (Unit {0}) Status) (old new : Seen)
     → events ≡ outputs pieces ++ more → more ≡ [] → result ≡ value → Follow events old new → EndsAfter pieces value events result old new
 ends_after pieces value more events result old new is none result_is follow =
-    let on = further pieces more old new (subst (λ e. Follow e old new) is follow) in record {
+    let on = decide_after_turn pieces more old new (subst (λ e. Follow e old new) is follow) in record {
       events_are = is ∙ ap (λ e. outputs pieces ++ e) none;
       result_is = result_is;
       input = nothing_more more on.between new none on.follow ∙ on.input;
     }
 
 has_quit :
-    {M : Type 0} (Is : Reply M → Type 0) (on : List ℕ → SittingFields → M → Talk) (written : List (List ℕ))
+    {M : Type 0} (Is : Reply M → Type 0) (on : List ℕ → SessionStateFields → M → Talk) (written : List (List ℕ))
     (events : List Event) (result : Result (Unit {0}) Status) (old new : Seen)
     → Is (Quits written) → Follow events old new
     → Wrote written (done tt) events result ⊎ Unwrote written events result → Replied Is on events result old new
@@ -273,7 +273,7 @@ starved_ends more result (inl goes) = absurd goes.is
 starved_ends more result (inr ends) = (ends.none, ends.result_is)
 
 has_starved :
-    {M : Type 0} (Is : Reply M → Type 0) (on : List ℕ → SittingFields → M → Talk) (written : List (List ℕ))
+    {M : Type 0} (Is : Reply M → Type 0) (on : List ℕ → SessionStateFields → M → Talk) (written : List (List ℕ))
     (events : List Event) (result : Result (Unit {0}) Status) (old new : Seen)
     → Is (Breaks written) → Follow events old new
     → Wrote written starves events result ⊎ Unwrote written events result → Replied Is on events result old new
@@ -285,9 +285,9 @@ has_starved Is on written events result old new is follow (inr part) =
     inr (inr (inr (has_failed Is (Breaks written) events result old new is part follow)))
 
 by_reply :
-    {M : Type 0} (Is : Reply M → Type 0) (on : List ℕ → SittingFields → M → Talk) (reply : Reply M)
+    {M : Type 0} (Is : Reply M → Type 0) (on : List ℕ → SessionStateFields → M → Talk) (reply : Reply M)
     (events : List Event) (result : Result (Unit {0}) Status) (old new : Seen)
-    → ((kept : List ℕ) (s : SittingFields) (m : M) → PutsNone (on kept s m)) → Is reply
+    → ((kept : List ℕ) (s : SessionStateFields) (m : M) → PutsNone (on kept s m)) → Is reply
     → Goes (on_reply on reply) events result → Follow events old new → Replied Is on events result old new
 by_reply Is on (All written kept s m) events result old new none is goes follow =
     went_on Is on written kept s m events result old new is follow (puts_go written (on kept s m) events result (none kept s m) goes)
@@ -297,9 +297,9 @@ by_reply Is on (Breaks written) events result old new none is goes follow =
     has_starved Is on written events result old new is follow (puts_go written starves events result starves_puts_none goes)
 
 pub replies_go :
-    {M : Type 0} (Is : Reply M → Type 0) (on : List ℕ → SittingFields → M → Talk)
+    {M : Type 0} (Is : Reply M → Type 0) (on : List ℕ → SessionStateFields → M → Talk)
     (events : List Event) (result : Result (Unit {0}) Status) (old new : Seen)
-    → ((kept : List ℕ) (s : SittingFields) (m : M) → PutsNone (on kept s m))
+    → ((kept : List ℕ) (s : SessionStateFields) (m : M) → PutsNone (on kept s m))
     → Goes (replies Is on) events result → Follow events old new → Replied Is on events result old new
 unfolding Goes replies
 replies_go Is on events result old new none goes follow =
@@ -330,7 +330,7 @@ not_taken events old new is follow =
     let one : Follow (InputFailed ∷ []) old new = subst (λ e. Follow e old new) is follow in
     subst (λ s. IsInputFailed old s) (sym one.goes_on) one.begins
 
-input_first : (piece : List ℕ) (more events : List Event) (old new : Seen) → events ≡ Input piece ∷ more → Follow events old new → Next (IsInput piece) (Follow more) old new
+input_first : (piece : List ℕ) (more events : List Event) (old new : Seen) → events ≡ Input piece ∷ more → Follow events old new → InSequence (IsInput piece) (Follow more) old new
 unfolding Follow
 input_first piece more events old new is follow = subst (λ e. Follow e old new) is follow
 

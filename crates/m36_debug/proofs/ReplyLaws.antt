@@ -1,7 +1,7 @@
 -- What is left of a session's program after a piece was taken and the answers to its lines were put.
 use Rattle.std.proofs.Common.{◌≤◌, ℕ, List, [], ◌∷◌, ◌++◌, length, Ok, Err, refl, sym, subst, inl, inr}
 use Rattle.std.proofs.lemmas.List.{append_assoc}
-use Rattle.m36_text.specs.Lines.{open_rest}
+use Rattle.m36_text.specs.Lines.{open_last_line}
 use Rattle.m36_world.specs.Happened.{IsInput, IsInputFailed}
 use Rattle.m36_world.specs.Seen.{Seen}
 use Rattle.m36_world.specs.declared.event.Event.TheVariants.{Input, InputFailed}
@@ -14,15 +14,15 @@ use Rattle.m36_program.specs.Program.{done, some, puts_all}
 use Rattle.m36_program.proofs.LeadLaws.{leads_some, leads_empty, leads_gathers, leads_lost, leads_ends}
 use Rattle.m36_program.proofs.Performing.{goes_no_memory}
 use Rattle.m36_debug.specs.Parts.{LineContract}
-use Rattle.m36_debug.specs.PieceSays.{AnsweredAll, AnsweredQuit, AnsweredSome, AnsweredCut}
+use Rattle.m36_debug.specs.PieceContract.{AnsweredAll, AnsweredQuit, AnsweredSome, AnsweredCut}
 use Rattle.m36_debug.specs.Putting.{pending}
-use Rattle.m36_debug.specs.Replies.{Reply, All, Quits, Breaks, IsReply, IsLast}
-use Rattle.m36_debug.specs.Session.{Turning, Waiting, Starved, standing, texts_of}
-use Rattle.m36_debug.specs.SessionProgram.{Talk, starves, takes_within, on_reply, replies, at_end, ended_by}
-use Rattle.m36_debug.specs.SessionSays.{answer_of}
-use Rattle.m36_debug.specs.SessionState.{SittingFields}
-use Rattle.m36_debug.specs.declared.turning.LineResult.{LineResult}
-use Rattle.m36_debug.specs.declared.turning.LineResult.TheVariants as ends
+use Rattle.m36_debug.specs.Replies.{Reply, All, Quits, Breaks, IsReply, IsLastReply}
+use Rattle.m36_debug.specs.Session.{MachineRelations, Waiting, Starved, standing, texts_of}
+use Rattle.m36_debug.specs.SessionProgram.{Talk, starves, takes_within, on_reply, replies, answer_at_end, ended_by}
+use Rattle.m36_debug.specs.SessionContract.{session_result}
+use Rattle.m36_debug.specs.SessionState.{SessionStateFields}
+use Rattle.m36_debug.specs.declared.machine_relations.LineResult.{LineResult}
+use Rattle.m36_debug.specs.declared.machine_relations.LineResult.TheVariants as ends
 
 -- ---- a piece of input
 
@@ -62,7 +62,7 @@ leads_untaken most go first old between new left did =
 
 -- the answers are these
 leads_reply :
-    {M : Type 0} (Is : Reply M → Type 0) (on : List ℕ → SittingFields → M → Talk) (reply : Reply M) (first : Talk) (old new : Seen)
+    {M : Type 0} (Is : Reply M → Type 0) (on : List ℕ → SessionStateFields → M → Talk) (reply : Reply M) (first : Talk) (old new : Seen)
     → Is reply → Leads (replies Is on) first old new → Leads (on_reply on reply) first old new
 unfolding replies
 leads_reply Is on reply first old new is left = leads_some Is (on_reply on) reply first old new is left
@@ -75,7 +75,7 @@ leads_none more rest first old new left = leads_empty [] (puts_all more rest) fi
 
 -- all lines were answered
 pub replied_all :
-    {M : Type 0} (Is : Reply M → Type 0) (on : List ℕ → SittingFields → M → Talk) (written : List (List ℕ)) (kept : List ℕ) (s : SittingFields) (m : M)
+    {M : Type 0} (Is : Reply M → Type 0) (on : List ℕ → SessionStateFields → M → Talk) (written : List (List ℕ)) (kept : List ℕ) (s : SessionStateFields) (m : M)
     (first : Talk) (old between new : Seen)
     → Is (All written kept s m) → Leads (replies Is on) first old between → Gathers [] [] written between new
     → Leads (on kept s m) first old new
@@ -86,7 +86,7 @@ replied_all Is on written kept s m first old between new is left gathers =
 
 -- the last was `quit`
 pub replied_quit :
-    {M : Type 0} (Is : Reply M → Type 0) (on : List ℕ → SittingFields → M → Talk) (written : List (List ℕ)) (first : Talk) (old between new : Seen)
+    {M : Type 0} (Is : Reply M → Type 0) (on : List ℕ → SessionStateFields → M → Talk) (written : List (List ℕ)) (first : Talk) (old between new : Seen)
     → Is (Quits written) → Leads (replies Is on) first old between → Gathers [] [] written between new
     → Performs first (Ok tt) old new
 unfolding puts_all Goes
@@ -102,7 +102,7 @@ goes_starved = goes_no_memory (some (λ (u : Unit {0}). ⊥) (λ u. done tt))
 
 -- memory ran out
 pub replied_starved :
-    {M : Type 0} (Is : Reply M → Type 0) (on : List ℕ → SittingFields → M → Talk) (written : List (List ℕ)) (first : Talk) (old between new : Seen)
+    {M : Type 0} (Is : Reply M → Type 0) (on : List ℕ → SessionStateFields → M → Talk) (written : List (List ℕ)) (first : Talk) (old between new : Seen)
     → Is (Breaks written) → Leads (replies Is on) first old between → Gathers [] [] written between new
     → Performs first (Err NoMemory) old new
 unfolding puts_all
@@ -114,7 +114,7 @@ replied_starved Is on written first old between new is left gathers =
 
 -- the output failed
 pub replied_cut :
-    {M : Type 0} (Is : Reply M → Type 0) (on : List ℕ → SittingFields → M → Talk) (written : List (List ℕ)) (first : Talk) (old between new : Seen)
+    {M : Type 0} (Is : Reply M → Type 0) (on : List ℕ → SessionStateFields → M → Talk) (written : List (List ℕ)) (first : Talk) (old between new : Seen)
     → Is (Breaks written) → Leads (replies Is on) first old between → Loses ([] ++ written) between new
     → Performs first (Err WriteFault) old new
 replied_cut Is on written first old between new is left loses =
@@ -129,34 +129,34 @@ goes_done = record { none = refl; result_is = refl }
 
 -- the last line was answered, if there was one
 pub ended_so :
-    {M : Type 0} (o : Turning M) (end : LineResult) (begun : List ℕ) (s sitting : SittingFields) (m m' : M) (first : Talk) (old between new : Seen)
-    → Leads (at_end o begun s m) first old between
-    → LineContract o end (standing s Waiting) m (open_rest begun) sitting m' (pending [] between) (pending [] new)
-    → Performs first (ended_by (answer_of end)) old new
-ended_so o ends.Line begun s sitting m m' first old between new left said =
+    {M : Type 0} (o : MachineRelations M) (end : LineResult) (activity_after_line : List ℕ) (s sitting : SessionStateFields) (m m' : M) (first : Talk) (old between new : Seen)
+    → Leads (answer_at_end o activity_after_line s m) first old between
+    → LineContract o end (standing s Waiting) m (open_last_line activity_after_line) sitting m' (pending [] between) (pending [] new)
+    → Performs first (ended_by (session_result end)) old new
+ended_so o ends.Line activity_after_line s sitting m m' first old between new left said =
     let written = texts_of o (standing s Waiting) said.events in
     leads_ends (done tt) first (Ok tt) old new new
-    (replied_all (IsLast o (standing s Waiting) m begun) (λ kept sitting later. done tt) written [] sitting m' first old between new
+    (replied_all (IsLastReply o (standing s Waiting) m activity_after_line) (λ kept sitting later. done tt) written [] sitting m' first old between new
     (record { events = said.events; follow = said.follow; took = said.took; said = refl }) left said.wrote)
     (record { events = []; follow = follow_none new; goes = goes_done })
-ended_so o ends.Quit begun s sitting m m' first old between new left said =
-    replied_quit (IsLast o (standing s Waiting) m begun) (λ kept sitting later. done tt) (texts_of o (standing s Waiting) said.events) first old between new
+ended_so o ends.Quit activity_after_line s sitting m m' first old between new left said =
+    replied_quit (IsLastReply o (standing s Waiting) m activity_after_line) (λ kept sitting later. done tt) (texts_of o (standing s Waiting) said.events) first old between new
     (record {
       sitting = sitting;
       machine = m';
       happens = record { events = said.events; follow = said.follow; took = said.took; said = refl };
     })
     left said.wrote
-ended_so o ends.Starved begun s sitting m m' first old between new left said =
-    replied_starved (IsLast o (standing s Waiting) m begun) (λ kept sitting later. done tt) (texts_of o (standing s Waiting) said.events) first old between new
+ended_so o ends.Starved activity_after_line s sitting m m' first old between new left said =
+    replied_starved (IsLastReply o (standing s Waiting) m activity_after_line) (λ kept sitting later. done tt) (texts_of o (standing s Waiting) said.events) first old between new
     (record {
       stands = standing sitting Starved;
       machine = m';
       happens = record { events = said.events; follow = said.follow; took = said.took; said = refl };
     })
     left said.wrote
-ended_so o ends.Cut begun s sitting m m' first old between new left said =
-    replied_cut (IsLast o (standing s Waiting) m begun) (λ kept sitting later. done tt) (texts_of o (standing s Waiting) said.part.events) first old between new
+ended_so o ends.Cut activity_after_line s sitting m m' first old between new left said =
+    replied_cut (IsLastReply o (standing s Waiting) m activity_after_line) (λ kept sitting later. done tt) (texts_of o (standing s Waiting) said.part.events) first old between new
     (record {
       stands = said.stands;
       machine = m';
@@ -168,7 +168,7 @@ ended_so o ends.Cut begun s sitting m m' first old between new left said =
 
 -- all whole lines of a piece were answered
 pub piece_all :
-    {M : Type 0} (o : Turning M) (text kept : List ℕ) (s sitting : SittingFields) (m m' : M) (on : List ℕ → SittingFields → M → Talk) (first : Talk)
+    {M : Type 0} (o : MachineRelations M) (text kept : List ℕ) (s sitting : SessionStateFields) (m m' : M) (on : List ℕ → SessionStateFields → M → Talk) (first : Talk)
     (old between new : Seen)
     → Leads (replies (IsReply o (standing s Waiting) m text) on) first old between
     → AnsweredAll o (standing s Waiting) m text kept sitting m' (pending [] between) (pending [] new)
@@ -184,7 +184,7 @@ piece_all o text kept s sitting m m' on first old between new left said =
     left said.part.wrote
 
 pub piece_quit :
-    {M : Type 0} (o : Turning M) (text : List ℕ) (s sitting : SittingFields) (m m' : M) (on : List ℕ → SittingFields → M → Talk) (first : Talk)
+    {M : Type 0} (o : MachineRelations M) (text : List ℕ) (s sitting : SessionStateFields) (m m' : M) (on : List ℕ → SessionStateFields → M → Talk) (first : Talk)
     (old between new : Seen)
     → Leads (replies (IsReply o (standing s Waiting) m text) on) first old between
     → AnsweredQuit o (standing s Waiting) m text sitting m' (pending [] between) (pending [] new)
@@ -202,7 +202,7 @@ piece_quit o text s sitting m m' on first old between new left said =
     left said.part.wrote
 
 pub piece_starved :
-    {M : Type 0} (o : Turning M) (text : List ℕ) (s : SittingFields) (m m' : M) (on : List ℕ → SittingFields → M → Talk) (first : Talk)
+    {M : Type 0} (o : MachineRelations M) (text : List ℕ) (s : SessionStateFields) (m m' : M) (on : List ℕ → SessionStateFields → M → Talk) (first : Talk)
     (old between new : Seen)
     → Leads (replies (IsReply o (standing s Waiting) m text) on) first old between
     → AnsweredSome o (standing s Waiting) m text m' (pending [] between) (pending [] new)
@@ -220,7 +220,7 @@ piece_starved o text s m m' on first old between new left said =
     left said.part.wrote
 
 pub piece_cut :
-    {M : Type 0} (o : Turning M) (text : List ℕ) (s : SittingFields) (m m' : M) (on : List ℕ → SittingFields → M → Talk) (first : Talk)
+    {M : Type 0} (o : MachineRelations M) (text : List ℕ) (s : SessionStateFields) (m m' : M) (on : List ℕ → SessionStateFields → M → Talk) (first : Talk)
     (old between new : Seen)
     → Leads (replies (IsReply o (standing s Waiting) m text) on) first old between
     → AnsweredCut o (standing s Waiting) m text m' (pending [] between) (pending [] new)

@@ -8,7 +8,7 @@ use Rattle.std.proofs.Math.Seq.{take-append-add}
 use Rattle.std.proofs.lemmas.List.{append-nil, append_assoc, take-append-drop, take-append-le}
 use Rattle.std.proofs.lemmas.List.Elements.{All-head, All-tail}
 use Rattle.m36_outside.specs.Passing.{joined}
-use Rattle.m36_outside.specs.Piece.{preceded}
+use Rattle.m36_outside.specs.Piece.{prepended}
 use Rattle.m36_outside.specs.declared.sink.Put.TheVariants.{Done}
 use Rattle.m36_text.specs.Lines.{open_lines_of}
 use Rattle.m36_step.specs.declared.turns.Turn.{Turn}
@@ -17,17 +17,17 @@ use Rattle.m36_world.specs.declared.event.Event.{Event}
 use Rattle.m36_status.specs.declared.status.Status.{Status}
 use Rattle.m36_program.specs.Alike.{IsEnd, OneText}
 use Rattle.m36_program.specs.Performs.{Performs}
-use Rattle.m36_program.specs.Trail.{pieces_of}
+use Rattle.m36_program.specs.MayHappen.{pieces_of}
 use Rattle.m36_debug.specs.declared.fault.SessionFault.{SessionFault}
 use Rattle.m36_debug.specs.declared.fault.SessionFault.TheVariants as fault
 use Rattle.m36_debug.specs.declared.session_line.SessionLine.TheVariants.{Quit}
 use Rattle.m36_debug.specs.LinesTaken.{whole_lines, IsFirstPart}
-use Rattle.m36_debug.specs.Session.{Turning, Activity, Waiting, standing, lines_in, texts_of}
+use Rattle.m36_debug.specs.Session.{MachineRelations, Activity, Waiting, standing, lines_in, texts_of}
 use Rattle.m36_debug.specs.SessionLines.{session_line, IsNotQuit}
 use Rattle.m36_debug.specs.SessionProgram.{session, ended_by}
-use Rattle.m36_debug.specs.SessionSays.{LinesSeen, IsSession, TookBy, TookSome, TookWhole, HasEnded, CountBy}
-use Rattle.m36_debug.specs.SessionSays.{bytes_limit, last_put_of}
-use Rattle.m36_debug.specs.SessionState.{new_sitting}
+use Rattle.m36_debug.specs.SessionContract.{LinesSeen, IsSession, TookLinesBy, TookSome, TookWhole, HasEnded, CountBy}
+use Rattle.m36_debug.specs.SessionContract.{bytes_limit, last_put_of}
+use Rattle.m36_debug.specs.SessionState.{initial_session_state}
 use Rattle.m36_debug.specs.SessionText.{IsTooLong, IsHeld, IsDeterministic, EachTurn, SessionLaw}
 use Rattle.m36_debug.proofs.FirstLines.{first_all, first_longer, first_both, first_agree, whole_first, open_first}
 use Rattle.m36_debug.proofs.SessionBridge.{Held, Puts, session_held}
@@ -48,7 +48,7 @@ not_none bytes is = absurd (cc)
 same_some : (x y : List ℕ) → Some x ≡ Some y → x ≡ y
 same_some x y is = cc
 
-known : (taken bytes : List ℕ) (before after : Option (List ℕ)) → before ≡ Some bytes → before ≡ preceded taken after
+known : (taken bytes : List ℕ) (before after : Option (List ℕ)) → before ≡ Some bytes → before ≡ prepended taken after
     → Known taken bytes after
 known taken bytes before None is came = not_none bytes (sym is ∙ came)
 known taken bytes before (Some rest) is came =
@@ -89,7 +89,7 @@ some_open pieces lines bytes after (inr opened) k =
 took_open :
     (ended : Result (Unit {0}) SessionFault) (pieces lines : List (List ℕ)) (doing : Activity) (bytes : List ℕ)
     (after : LinesSeen)
-    → TookBy ended pieces lines doing after → Known (joined pieces) bytes after.left → IsFirstPart lines
+    → TookLinesBy ended pieces lines doing after → Known (joined pieces) bytes after.left → IsFirstPart lines
     (open_lines_of bytes)
 took_open (Ok done) pieces lines doing bytes after (inl quit) k = some_open pieces lines bytes after quit.some k
 took_open (Ok done) pieces lines doing bytes after (inr all) k =
@@ -139,7 +139,7 @@ take_limit limit text more bytes over all = ap (take limit) all ∙ take-append-
 took_within :
     (ended : Result (Unit {0}) SessionFault) (pieces lines : List (List ℕ)) (doing : Activity) (bytes : List ℕ)
     (after : LinesSeen)
-    → TookBy ended pieces lines doing after → Known (joined pieces) bytes after.left → CountBy ended
+    → TookLinesBy ended pieces lines doing after → Known (joined pieces) bytes after.left → CountBy ended
     (length (joined pieces)) → bytes_limit < length bytes
     → IsFirstPart lines (whole_lines (take bytes_limit bytes))
 took_within (Ok done) pieces lines doing bytes after (inl quit) k count more = some_within pieces lines bytes after
@@ -175,7 +175,7 @@ limit_lines pieces lines doing bytes after took k over =
 -- a session says so only of such bytes
 took_too_long :
     (pieces lines : List (List ℕ)) (doing : Activity) (bytes : List ℕ) (after : LinesSeen)
-    → TookBy (Err fault.TooLong) pieces lines doing after → Known (joined pieces) bytes after.left → CountBy
+    → TookLinesBy (Err fault.TooLong) pieces lines doing after → Known (joined pieces) bytes after.left → CountBy
     (Err fault.TooLong) (length (joined pieces))
     → IsTooLong bytes
 took_too_long pieces lines doing bytes after took k count = record {
@@ -192,7 +192,7 @@ quit_among (line ∷ before) rest last quits none =
 -- and of such bytes each session that ends
 took_short :
     {P : Type 0} (pieces lines : List (List ℕ)) (doing : Activity) (bytes : List ℕ) (after : LinesSeen)
-    → TookBy (Ok tt) pieces lines doing after → Known (joined pieces) bytes after.left → CountBy (Ok tt)
+    → TookLinesBy (Ok tt) pieces lines doing after → Known (joined pieces) bytes after.left → CountBy (Ok tt)
     (length (joined pieces)) → IsTooLong bytes → P
 took_short pieces lines doing bytes after (inl quit) k count long =
     let first = some_within pieces lines bytes after quit.some k count long.more in
@@ -206,7 +206,7 @@ took_short pieces lines doing bytes after (inr all) k count long = ended_short p
 took_further :
     (ended : Result (Unit {0}) SessionFault) (pieces lines taken : List (List ℕ)) (doing : Activity) (bytes : List ℕ)
     (after : LinesSeen)
-    → IsEnd (ended_by ended) → TookBy ended pieces taken doing after → Known (joined pieces) bytes after.left → CountBy
+    → IsEnd (ended_by ended) → TookLinesBy ended pieces taken doing after → Known (joined pieces) bytes after.left → CountBy
     ended (length (joined pieces))
     → IsFirstPart lines (open_lines_of bytes) → (bytes_limit < length bytes → IsFirstPart lines
     (whole_lines (take bytes_limit bytes)))
@@ -229,7 +229,7 @@ took_further (Err fault.NoMemory) pieces lines taken doing bytes after is_end to
 
 -- What the first writes is a prefix of what the second writes, if that ends.
 session_first :
-    {M : Type 0} (o : Turning M) (Plain : Turn → Type 0) (Alike : M → M → Type 0) → StayAlike o Plain Alike
+    {M : Type 0} (o : MachineRelations M) (Plain : Turn → Type 0) (Alike : M → M → Type 0) → StayAlike o Plain Alike
     → (ended ended' : Result (Unit {0}) SessionFault) (m n m1 m2 : M) (before after before' after' : LinesSeen)
     (lines others : List (List ℕ)) (bytes : List ℕ)
     → Alike m n → IsEnd (ended_by ended') → before.left ≡ Some bytes → before'.left ≡ Some bytes
@@ -244,14 +244,14 @@ session_first o Plain Alike stay ended ended' m n m1 m2 before after before' aft
     let others_taken = lines_in second.events in
     let opened = took_open ended first.pieces taken first.stands.doing bytes after first.took k in
     let opened' = took_open ended' second.pieces others_taken second.stands.doing bytes after' second.took k' in
-    let further = took_further ended' second.pieces taken others_taken second.stands.doing bytes after' is_end
+    let decide_after_turn = took_further ended' second.pieces taken others_taken second.stands.doing bytes after' is_end
     second.took k' second.count opened
     (λ more. took_within ended first.pieces taken first.stands.doing bytes after first.took k first.count more) in
     subst (λ l. IsFirstPart l others) (sym first.said)
-    (subst (IsFirstPart (texts_of o (standing new_sitting Waiting) first.events)) (sym second.said)
-    (first_texts o Plain Alike stay new_sitting Waiting m n first.events second.events first.stands m1 second.stands m2
+    (subst (IsFirstPart (texts_of o (standing initial_session_state Waiting) first.events)) (sym second.said)
+    (first_texts o Plain Alike stay initial_session_state Waiting m n first.events second.events first.stands m1 second.stands m2
     alike plain first.follow second.follow
-    (first_agree taken others_taken (open_lines_of bytes) opened opened') further))
+    (first_agree taken others_taken (open_lines_of bytes) opened opened') decide_after_turn))
 
 -- an end says whether the input is too long
 abbrev EndSays : Result (Unit {0}) SessionFault → List ℕ → Type 0
@@ -262,7 +262,7 @@ EndSays (Err fault.TooLong) bytes = IsTooLong bytes
 EndSays (Err fault.NoMemory) bytes = ⊥
 
 end_says :
-    {M : Type 0} (o : Turning M) (ended : Result (Unit {0}) SessionFault) (m m1 : M) (before after : LinesSeen)
+    {M : Type 0} (o : MachineRelations M) (ended : Result (Unit {0}) SessionFault) (m m1 : M) (before after : LinesSeen)
     (lines : List (List ℕ)) (bytes : List ℕ)
     → IsEnd (ended_by ended) → before.left ≡ Some bytes → IsSession o ended m m1 before after lines → EndSays ended
     bytes
@@ -305,7 +305,7 @@ short_end (Err fault.NoMemory) bytes short says = absurd says
 
 -- A session that ends by itself, and whose input is not too long, ends with Ok.
 pub session_done :
-    {M : Type 0} (o : Turning M) (m : M) (bytes : List ℕ) (result : Result (Unit {0}) Status) (old new : Seen)
+    {M : Type 0} (o : MachineRelations M) (m : M) (bytes : List ℕ) (result : Result (Unit {0}) Status) (old new : Seen)
     → old.left ≡ Some bytes → (IsTooLong bytes → ⊥) → Performs (session o m) result old new → IsEnd result → result ≡ Ok
     tt
 session_done o m bytes result old new left short performs is_end =
@@ -335,7 +335,7 @@ some_put ended events lines puts = record { rest = puts.left; is = puts.all }
 
 -- What a call puts is a prefix of what a call puts that ends.
 pieces_first :
-    {M : Type 0} (o : Turning M) (m : M) (bytes : List ℕ) (result end : Result (Unit {0}) Status)
+    {M : Type 0} (o : MachineRelations M) (m : M) (bytes : List ℕ) (result end : Result (Unit {0}) Status)
     (old new old' new' : Seen) (events others : List Event)
     → IsDeterministic o → IsEnd end → old.left ≡ Some bytes → old'.left ≡ Some bytes
     → Held o m result old new events → Held o m end old' new' others
@@ -349,7 +349,7 @@ pieces_first o m bytes result end old new old' new' events others one is_end lef
     refl ends left left' first.session second.session (any_turn second.session.events)))
 
 pub session_one_text :
-    {M : Type 0} (o : Turning M) (m : M) (bytes : List ℕ) (result end : Result (Unit {0}) Status)
+    {M : Type 0} (o : MachineRelations M) (m : M) (bytes : List ℕ) (result end : Result (Unit {0}) Status)
     (old new old' new' : Seen)
     → IsDeterministic o → IsEnd end → old.left ≡ Some bytes → old'.left ≡ Some bytes
     → (one : Performs (session o m) result old new) (other : Performs (session o m) end old' new')
@@ -378,7 +378,7 @@ session_one_text o m bytes result end old new old' new' one is_end left left' ca
 
 -- What a call puts is a prefix of what another session writes that ends, whose turns are plain.
 pub session_plain_text :
-    {M : Type 0} (o : Turning M) (Plain : Turn → Type 0) (Alike : M → M → Type 0) → StayAlike o Plain Alike
+    {M : Type 0} (o : MachineRelations M) (Plain : Turn → Type 0) (Alike : M → M → Type 0) → StayAlike o Plain Alike
     → (m n : M) (bytes : List ℕ) (result end : Result (Unit {0}) Status) (old new old' new' : Seen)
     → Alike m n → IsEnd end → old.left ≡ Some bytes → old'.left ≡ Some bytes
     → (one : Performs (session o m) result old new) (other : IsHeld o n end old' new')
@@ -395,7 +395,7 @@ session_plain_text o Plain Alike stay m n bytes result end old new old' new' ali
 -- ---- the law
 
 pub is_held :
-    {M : Type 0} (o : Turning M) (m : M) (result : Result (Unit {0}) Status) (old new : Seen)
+    {M : Type 0} (o : MachineRelations M) (m : M) (result : Result (Unit {0}) Status) (old new : Seen)
     → Performs (session o m) result old new → IsHeld o m result old new
 is_held o m result old new performs =
     let held = session_held o m result old new performs in
@@ -409,7 +409,7 @@ is_held o m result old new performs =
       read_faults = unread.faults;
     }
 
-pub session_law : {M : Type 0} (o : Turning M) → SessionLaw o
+pub session_law : {M : Type 0} (o : MachineRelations M) → SessionLaw o
 session_law o = record {
   held = λ m result old new performs. is_held o m result old new performs;
   one_text = λ one m bytes result end old new old' new' is_end left left' call other.

@@ -22,47 +22,47 @@ use Rattle.m36_debug.specs.declared.commands.TurnCommand.TheVariants as commands
 use Rattle.m36_debug.specs.declared.commands.RunningCommand.{RunningCommand}
 use Rattle.m36_debug.specs.declared.commands.AfterTurn.{AfterTurn}
 use Rattle.m36_debug.specs.declared.commands.AfterTurn.TheVariants.{Runs, Waits, Starves}
-use Rattle.m36_debug.specs.declared.turning.Came.{Came}
+use Rattle.m36_debug.specs.declared.machine_relations.Came.{Came}
 use Rattle.m36_debug.specs.Commands.{run_of, wants, after_step, after_link, after_turn, is_at_break}
-use Rattle.m36_debug.specs.Parts.{SessionPart, CutPart, TurnContract, CameServed, CameCounts, CameInterrupted, CountsSteps, RunsCounts, Makes, came_of, turn_result}
-use Rattle.m36_debug.specs.Session.{Turning, SessionPoint, standing, Running, Turned, doing_by, next_of, turn_says, command_says, state_after, said}
-use Rattle.m36_debug.specs.SessionState.{SittingFields, sitting_after}
+use Rattle.m36_debug.specs.Parts.{SessionPart, FailedPart, TurnContract, ServiceIsFlagged, TurnChangesCounts, PrecludesStepIfNoneLeft, CountsSteps, ChangesCounts, MakesTurn, put_turn_result, turn_result}
+use Rattle.m36_debug.specs.Session.{MachineRelations, SessionPoint, standing, Running, Turned, activity_by_after_turn, next_of, running_turn_lines, command_lines, state_after, said}
+use Rattle.m36_debug.specs.SessionState.{SessionStateFields, session_state_after}
 use Rattle.m36_debug.proofs.PartLaws.{event_part, event_cut}
 
 -- a part that continues as the command does
 came_says :
-    {M : Type 0} (o : Turning M) (turn : Turn) (next : AfterTurn) (s : SessionPoint) (m : M) (sitting : SittingFields) (m' : M) (old new : Pending)
-    → SessionPart o s m [] (standing sitting (doing_by next)) m' Done old new
-    → TurnContract o (came_of turn next) s m sitting m' old new
+    {M : Type 0} (o : MachineRelations M) (turn : Turn) (next : AfterTurn) (s : SessionPoint) (m : M) (sitting : SessionStateFields) (m' : M) (old new : Pending)
+    → SessionPart o s m [] (standing sitting (activity_by_after_turn next)) m' Done old new
+    → TurnContract o (put_turn_result turn next) s m sitting m' old new
 came_says o turn (Runs run) s m sitting m' old new part = part
 came_says o turn Waits s m sitting m' old new part = part
 came_says o turn Starves s m sitting m' old new part = part
 
 turn_part :
-    {M : Type 0} (o : Turning M) (turn : Turn) (run : RunningCommand) (s : SittingFields) (m m' : M) (old new : Pending)
-    → o.next m turn m' → PutsPieces Done (turn_says (o.regs m') s run turn) old new
-    → SessionPart o (standing s (Running run)) m [] (standing (sitting_after s turn) (doing_by (next_of (o.regs m') s run turn))) m' Done old new
+    {M : Type 0} (o : MachineRelations M) (turn : Turn) (run : RunningCommand) (s : SessionStateFields) (m m' : M) (old new : Pending)
+    → o.next m turn m' → PutsPieces Done (running_turn_lines (o.regs m') s run turn) old new
+    → SessionPart o (standing s (Running run)) m [] (standing (session_state_after s turn) (activity_by_after_turn (next_of (o.regs m') s run turn))) m' Done old new
 unfolding state_after said
 turn_part o turn run s m m' old new next puts = event_part o (standing s (Running run)) m m' (Turned turn) old new next puts
 
 turn_cut :
-    {M : Type 0} (o : Turning M) (turn : Turn) (run : RunningCommand) (s : SittingFields) (m m' : M) (old new : Pending)
-    → o.next m turn m' → PutsPieces Failed (turn_says (o.regs m') s run turn) old new
-    → CutPart o (standing s (Running run)) m [] m' old new
+    {M : Type 0} (o : MachineRelations M) (turn : Turn) (run : RunningCommand) (s : SessionStateFields) (m m' : M) (old new : Pending)
+    → o.next m turn m' → PutsPieces Failed (running_turn_lines (o.regs m') s run turn) old new
+    → FailedPart o (standing s (Running run)) m [] m' old new
 unfolding said
 turn_cut o turn run s m m' old new next puts = event_cut o (standing s (Running run)) m m' (Turned turn) old new next puts
 
 -- a turn was taken, and what it says was put
 pub turn_came :
-    {M : Type 0} (o : Turning M) (put : Put) (turn : Turn) (run : RunningCommand) (s : SittingFields) (m m' : M) (old new : Pending)
-    → o.next m turn m' → PutsPieces put (turn_says (o.regs m') s run turn) old new
-    → TurnContract o (turn_result put turn (next_of (o.regs m') s run turn)) (standing s (Running run)) m (sitting_after s turn) m' old new
+    {M : Type 0} (o : MachineRelations M) (put : Put) (turn : Turn) (run : RunningCommand) (s : SessionStateFields) (m m' : M) (old new : Pending)
+    → o.next m turn m' → PutsPieces put (running_turn_lines (o.regs m') s run turn) old new
+    → TurnContract o (turn_result put turn (next_of (o.regs m') s run turn)) (standing s (Running run)) m (session_state_after s turn) m' old new
 turn_came o Done turn run s m m' old new next puts =
-    came_says o turn (next_of (o.regs m') s run turn) (standing s (Running run)) m (sitting_after s turn) m' old new (turn_part o turn run s m m' old new next puts)
+    came_says o turn (next_of (o.regs m') s run turn) (standing s (Running run)) m (session_state_after s turn) m' old new (turn_part o turn run s m m' old new next puts)
 turn_came o Failed turn run s m m' old new next puts = turn_cut o turn run s m m' old new next puts
 
-service_made : {M : Type 0} (o : Turning M) (turn : Turn) (m m' : M) → o.next m turn m' → is_service turn ≡ true → Makes o IsService m m'
-service_made o (turns.Stepped told) m m' may is = absurd (false≢true is)
+service_made : {M : Type 0} (o : MachineRelations M) (turn : Turn) (m m' : M) → o.next m turn m' → is_service turn ≡ true → MakesTurn o IsService m m'
+service_made o (turns.Stepped result_of_put) m m' may is = absurd (false≢true is)
 service_made o (turns.Linked note) m m' may is = record { turn = turns.Linked note; next = may; kind = tt }
 service_made o (turns.Console text) m m' may is = record { turn = turns.Console text; next = may; kind = tt }
 service_made o (turns.Ended end) m m' may is = absurd (false≢true is)
@@ -70,16 +70,16 @@ service_made o turns.Full m m' may is = absurd (false≢true is)
 service_made o turns.NoMemory m m' may is = absurd (false≢true is)
 
 came_served :
-    {M : Type 0} (o : Turning M) (turn : Turn) (next : AfterTurn) (m m' : M)
-    → o.next m turn m' → CameServed o (came_of turn next) m m'
+    {M : Type 0} (o : MachineRelations M) (turn : Turn) (next : AfterTurn) (m m' : M)
+    → o.next m turn m' → ServiceIsFlagged o (put_turn_result turn next) m m'
 came_served o turn (Runs run) m m' may = λ is. service_made o turn m m' may is
 came_served o turn Waits m m' may = tt
 came_served o turn Starves m m' may = tt
 
 -- a service is one that the machine performed
 pub turn_served :
-    {M : Type 0} (o : Turning M) (put : Put) (turn : Turn) (next : AfterTurn) (m m' : M)
-    → o.next m turn m' → CameServed o (turn_result put turn next) m m'
+    {M : Type 0} (o : MachineRelations M) (put : Put) (turn : Turn) (next : AfterTurn) (m m' : M)
+    → o.next m turn m' → ServiceIsFlagged o (turn_result put turn next) m m'
 turn_served o Done turn next m m' may = came_served o turn next m m' may
 turn_served o Failed turn next m m' may = tt
 
@@ -90,45 +90,45 @@ wants_none commands.Step b = refl
 wants_none commands.Go b = refl
 
 settled_interrupted :
-    {M : Type 0} (o : Turning M) (more : Bool) (command : TurnCommand) (left : ℕ) (b : Bool) (turn : Turn) (m m' : M)
-    → wants command left b ≡ more → CameInterrupted o (came_of turn (if more then Runs (run_of command left) else Waits)) m m'
+    {M : Type 0} (o : MachineRelations M) (more : Bool) (command : TurnCommand) (left : ℕ) (b : Bool) (turn : Turn) (m m' : M)
+    → wants command left b ≡ more → PrecludesStepIfNoneLeft o (put_turn_result turn (if more then Runs (run_of command left) else Waits)) m m'
 settled_interrupted o true command left b turn m m' is =
     λ none. absurd (true≢false (sym is ∙ ap (λ (n : ℕ). wants command n b) none ∙ wants_none command b))
 settled_interrupted o false command left b turn m m' is = tt
 
 step_interrupted :
-    {M : Type 0} (o : Turning M) (outcome : Outcome) (command : TurnCommand) (left : ℕ) (b : Bool) (told : StepRecord) (m m' : M)
-    → o.next m (turns.Stepped told) m' → told.outcome ≡ outcome
-    → CameInterrupted o (came_of (turns.Stepped told) (after_step command left b outcome)) m m'
-step_interrupted o Next command left b told m m' may is =
-    settled_interrupted o (wants command left b) command left b (turns.Stepped told) m m' refl
-step_interrupted o (Faulted fault) command left b told m m' may is =
-    λ none. record { turn = turns.Stepped told; next = may; kind = subst IsHalted (sym is) tt }
-step_interrupted o (Stopped stop) command left b told m m' may is =
-    λ none. record { turn = turns.Stepped told; next = may; kind = subst IsHalted (sym is) tt }
+    {M : Type 0} (o : MachineRelations M) (outcome : Outcome) (command : TurnCommand) (left : ℕ) (b : Bool) (result_of_put : StepRecord) (m m' : M)
+    → o.next m (turns.Stepped result_of_put) m' → result_of_put.outcome ≡ outcome
+    → PrecludesStepIfNoneLeft o (put_turn_result (turns.Stepped result_of_put) (after_step command left b outcome)) m m'
+step_interrupted o Next command left b result_of_put m m' may is =
+    settled_interrupted o (wants command left b) command left b (turns.Stepped result_of_put) m m' refl
+step_interrupted o (Faulted fault) command left b result_of_put m m' may is =
+    λ none. record { turn = turns.Stepped result_of_put; next = may; kind = subst IsHalted (sym is) tt }
+step_interrupted o (Stopped stop) command left b result_of_put m m' may is =
+    λ none. record { turn = turns.Stepped result_of_put; next = may; kind = subst IsHalted (sym is) tt }
 
 stepped_interrupted :
-    {M : Type 0} (o : Turning M) (none : Bool) (run : RunningCommand) (b : Bool) (told : StepRecord) (m m' : M)
-    → o.next m (turns.Stepped told) m'
-    → CameInterrupted o (came_of (turns.Stepped told) (if none then Waits else after_step run.command (run.left - 1) b told.outcome)) m m'
-stepped_interrupted o true run b told m m' may = tt
-stepped_interrupted o false run b told m m' may =
-    step_interrupted o told.outcome run.command (run.left - 1) b told m m' may refl
+    {M : Type 0} (o : MachineRelations M) (none : Bool) (run : RunningCommand) (b : Bool) (result_of_put : StepRecord) (m m' : M)
+    → o.next m (turns.Stepped result_of_put) m'
+    → PrecludesStepIfNoneLeft o (put_turn_result (turns.Stepped result_of_put) (if none then Waits else after_step run.command (run.left - 1) b result_of_put.outcome)) m m'
+stepped_interrupted o true run b result_of_put m m' may = tt
+stepped_interrupted o false run b result_of_put m m' may =
+    step_interrupted o result_of_put.outcome run.command (run.left - 1) b result_of_put m m' may refl
 
 link_interrupted :
-    {M : Type 0} (o : Turning M) (answer : Result Pair LinkCode) (run : RunningCommand) (b : Bool) (note : LinkNoteFields) (m m' : M)
+    {M : Type 0} (o : MachineRelations M) (answer : Result Pair LinkCode) (run : RunningCommand) (b : Bool) (note : LinkNoteFields) (m m' : M)
     → o.next m (turns.Linked note) m' → note.answer ≡ answer
-    → CameInterrupted o (came_of (turns.Linked note) (after_link run.command run.left b answer)) m m'
+    → PrecludesStepIfNoneLeft o (put_turn_result (turns.Linked note) (after_link run.command run.left b answer)) m m'
 link_interrupted o (Ok pair) run b note m m' may is =
     settled_interrupted o (wants run.command run.left b) run.command run.left b (turns.Linked note) m m' refl
 link_interrupted o (Err code) run b note m m' may is =
     λ none. record { turn = turns.Linked note; next = may; kind = subst IsRefused (sym is) tt }
 
 pub came_interrupted :
-    {M : Type 0} (o : Turning M) (turn : Turn) (run : RunningCommand) (b : Bool) (m m' : M)
-    → o.next m turn m' → CameInterrupted o (came_of turn (after_turn run b turn)) m m'
+    {M : Type 0} (o : MachineRelations M) (turn : Turn) (run : RunningCommand) (b : Bool) (m m' : M)
+    → o.next m turn m' → PrecludesStepIfNoneLeft o (put_turn_result turn (after_turn run b turn)) m m'
 unfolding after_turn
-came_interrupted o (turns.Stepped told) run b m m' may = stepped_interrupted o (nat_eq run.left 0) run b told m m' may
+came_interrupted o (turns.Stepped result_of_put) run b m m' may = stepped_interrupted o (nat_eq run.left 0) run b result_of_put m m' may
 came_interrupted o (turns.Linked note) run b m m' may = link_interrupted o note.answer run b note m m' may refl
 came_interrupted o (turns.Console text) run b m m' may =
     settled_interrupted o (wants run.command run.left b) run.command run.left b (turns.Console text) m m' refl
@@ -137,16 +137,16 @@ came_interrupted o turns.Full run b m m' may = tt
 came_interrupted o turns.NoMemory run b m m' may = tt
 
 turn_interrupted :
-    {M : Type 0} (o : Turning M) (put : Put) (turn : Turn) (run : RunningCommand) (b : Bool) (m m' : M)
-    → o.next m turn m' → CameInterrupted o (turn_result put turn (after_turn run b turn)) m m'
+    {M : Type 0} (o : MachineRelations M) (put : Put) (turn : Turn) (run : RunningCommand) (b : Bool) (m m' : M)
+    → o.next m turn m' → PrecludesStepIfNoneLeft o (turn_result put turn (after_turn run b turn)) m m'
 turn_interrupted o Done turn run b m m' may = came_interrupted o turn run b m m' may
 turn_interrupted o Failed turn run b m m' may = tt
 
 pub steps_counted :
-    {M : Type 0} (o : Turning M) (turn : Turn) (s : SittingFields) (m m' : M)
-    → o.next m turn m' → CountsSteps o s.taken (sitting_after s turn).taken m m'
-unfolding sitting_after
-steps_counted o (turns.Stepped told) s m m' may = inr (record { turn = turns.Stepped told; next = may; kind = tt })
+    {M : Type 0} (o : MachineRelations M) (turn : Turn) (s : SessionStateFields) (m m' : M)
+    → o.next m turn m' → CountsSteps o s.taken (session_state_after s turn).taken m m'
+unfolding session_state_after
+steps_counted o (turns.Stepped result_of_put) s m m' may = inr (record { turn = turns.Stepped result_of_put; next = may; kind = tt })
 steps_counted o (turns.Linked note) s m m' may = inl refl
 steps_counted o (turns.Console text) s m m' may = inl refl
 steps_counted o (turns.Ended end) s m m' may = inl refl
@@ -156,59 +156,59 @@ steps_counted o turns.NoMemory s m m' may = inl refl
 -- ---- counts
 
 settled_step :
-    (more : Bool) (command : TurnCommand) (told : StepRecord) (n left before : ℕ)
-    → n < left → CameCounts (came_of (turns.Stepped told) (if more then Runs (run_of command n) else Waits)) left before (before + 1)
-settled_step true command told n left before below = (below, omega arith)
-settled_step false command told n left before below = omega arith
+    (more : Bool) (command : TurnCommand) (result_of_put : StepRecord) (n left before : ℕ)
+    → n < left → TurnChangesCounts (put_turn_result (turns.Stepped result_of_put) (if more then Runs (run_of command n) else Waits)) left before (before + 1)
+settled_step true command result_of_put n left before below = (below, omega arith)
+settled_step false command result_of_put n left before below = omega arith
 
 step_counts :
-    (outcome : Outcome) (command : TurnCommand) (b : Bool) (told : StepRecord) (n left before : ℕ)
-    → n < left → CameCounts (came_of (turns.Stepped told) (after_step command n b outcome)) left before (before + 1)
-step_counts Next command b told n left before below = settled_step (wants command n b) command told n left before below
-step_counts (Faulted fault) command b told n left before below = (below, omega arith)
-step_counts (Stopped stop) command b told n left before below = (below, omega arith)
+    (outcome : Outcome) (command : TurnCommand) (b : Bool) (result_of_put : StepRecord) (n left before : ℕ)
+    → n < left → TurnChangesCounts (put_turn_result (turns.Stepped result_of_put) (after_step command n b outcome)) left before (before + 1)
+step_counts Next command b result_of_put n left before below = settled_step (wants command n b) command result_of_put n left before below
+step_counts (Faulted fault) command b result_of_put n left before below = (below, omega arith)
+step_counts (Stopped stop) command b result_of_put n left before below = (below, omega arith)
 
 stepped_counts :
-    (none : Bool) (run : RunningCommand) (b : Bool) (told : StepRecord) (before : ℕ)
+    (none : Bool) (run : RunningCommand) (b : Bool) (result_of_put : StepRecord) (before : ℕ)
     → nat_eq run.left 0 ≡ none
-    → CameCounts (came_of (turns.Stepped told) (if none then Waits else after_step run.command (run.left - 1) b told.outcome)) run.left before (before + 1)
-stepped_counts true run b told before is = omega arith
-stepped_counts false run b told before is =
+    → TurnChangesCounts (put_turn_result (turns.Stepped result_of_put) (if none then Waits else after_step run.command (run.left - 1) b result_of_put.outcome)) run.left before (before + 1)
+stepped_counts true run b result_of_put before is = omega arith
+stepped_counts false run b result_of_put before is =
     let some : run.left ≢ 0 = eqb-false run.left 0 is in
-    step_counts told.outcome run.command b told (run.left - 1) run.left before (omega (arith, some))
+    step_counts result_of_put.outcome run.command b result_of_put (run.left - 1) run.left before (omega (arith, some))
 
 settled_link :
     (more : Bool) (command : TurnCommand) (note : LinkNoteFields) (left before : ℕ)
-    → CameCounts (came_of (turns.Linked note) (if more then Runs (run_of command left) else Waits)) left before before
+    → TurnChangesCounts (put_turn_result (turns.Linked note) (if more then Runs (run_of command left) else Waits)) left before before
 settled_link true command note left before = (refl, refl)
 settled_link false command note left before = omega arith
 
 link_counts :
     (answer : Result Pair LinkCode) (run : RunningCommand) (b : Bool) (note : LinkNoteFields) (before : ℕ)
-    → CameCounts (came_of (turns.Linked note) (after_link run.command run.left b answer)) run.left before before
+    → TurnChangesCounts (put_turn_result (turns.Linked note) (after_link run.command run.left b answer)) run.left before before
 link_counts (Ok pair) run b note before = settled_link (wants run.command run.left b) run.command note run.left before
 link_counts (Err code) run b note before = (refl, refl)
 
 settled_console :
     (more : Bool) (command : TurnCommand) (text : List ℕ) (left before : ℕ)
-    → CameCounts (came_of (turns.Console text) (if more then Runs (run_of command left) else Waits)) left before before
+    → TurnChangesCounts (put_turn_result (turns.Console text) (if more then Runs (run_of command left) else Waits)) left before before
 settled_console true command text left before = (refl, refl)
 settled_console false command text left before = omega arith
 
 pub came_counts :
-    (turn : Turn) (run : RunningCommand) (b : Bool) (s : SittingFields)
-    → CameCounts (came_of turn (after_turn run b turn)) run.left s.taken (sitting_after s turn).taken
-unfolding after_turn sitting_after
-came_counts (turns.Stepped told) run b s = stepped_counts (nat_eq run.left 0) run b told s.taken refl
+    (turn : Turn) (run : RunningCommand) (b : Bool) (s : SessionStateFields)
+    → TurnChangesCounts (put_turn_result turn (after_turn run b turn)) run.left s.taken (session_state_after s turn).taken
+unfolding after_turn session_state_after
+came_counts (turns.Stepped result_of_put) run b s = stepped_counts (nat_eq run.left 0) run b result_of_put s.taken refl
 came_counts (turns.Linked note) run b s = link_counts note.answer run b note s.taken
 came_counts (turns.Console text) run b s = settled_console (wants run.command run.left b) run.command text run.left s.taken
 came_counts (turns.Ended end) run b s = omega arith
 came_counts turns.Full run b s = omega arith
 came_counts turns.NoMemory run b s = omega arith
 
-pub taken_after : (turn : Turn) (s : SittingFields) → (sitting_after s turn).taken ≤ s.taken + 1
-unfolding sitting_after
-taken_after (turns.Stepped told) s = omega arith
+pub taken_after : (turn : Turn) (s : SessionStateFields) → (session_state_after s turn).taken ≤ s.taken + 1
+unfolding session_state_after
+taken_after (turns.Stepped result_of_put) s = omega arith
 taken_after (turns.Linked note) s = omega arith
 taken_after (turns.Console text) s = omega arith
 taken_after (turns.Ended end) s = omega arith
@@ -217,15 +217,15 @@ taken_after turns.NoMemory s = omega arith
 
 -- a step is one of those that were left, and a service counts 0
 pub turn_counts :
-    (put : Put) (turn : Turn) (run : RunningCommand) (b : Bool) (s : SittingFields)
-    → CameCounts (turn_result put turn (after_turn run b turn)) run.left s.taken (sitting_after s turn).taken
+    (put : Put) (turn : Turn) (run : RunningCommand) (b : Bool) (s : SessionStateFields)
+    → TurnChangesCounts (turn_result put turn (after_turn run b turn)) run.left s.taken (session_state_after s turn).taken
 turn_counts Done turn run b s = came_counts turn run b s
 turn_counts Failed turn run b s = taken_after turn s
 
 -- a turn keeps the breaks
-pub breaks_stay : (turn : Turn) (s : SittingFields) → (sitting_after s turn).breaks ≡ s.breaks
-unfolding sitting_after
-breaks_stay (turns.Stepped told) s = refl
+pub breaks_stay : (turn : Turn) (s : SessionStateFields) → (session_state_after s turn).breaks ≡ s.breaks
+unfolding session_state_after
+breaks_stay (turns.Stepped result_of_put) s = refl
 breaks_stay (turns.Linked note) s = refl
 breaks_stay (turns.Console text) s = refl
 breaks_stay (turns.Ended end) s = refl
@@ -235,75 +235,75 @@ breaks_stay turns.NoMemory s = refl
 -- ---- a turn, in the form of the equations that the code has
 
 further_same :
-    {M : Type 0} (o : Turning M) (turn : Turn) (run : RunningCommand) (next : AfterTurn) (g : RegsFields) (s s' : SittingFields) (m' : M)
-    → s' ≡ sitting_after s turn → g ≡ o.regs m' → next ≡ after_turn run (is_at_break g.ppr s'.breaks) turn
+    {M : Type 0} (o : MachineRelations M) (turn : Turn) (run : RunningCommand) (next : AfterTurn) (g : RegsFields) (s s' : SessionStateFields) (m' : M)
+    → s' ≡ session_state_after s turn → g ≡ o.regs m' → next ≡ after_turn run (is_at_break g.ppr s'.breaks) turn
     → next ≡ next_of (o.regs m') s run turn
-further_same o turn run next g s s' m' noted regs further =
-    further
+further_same o turn run next g s s' m' noted regs decide_after_turn =
+    decide_after_turn
     ∙ ap (λ (h : RegsFields). after_turn run (is_at_break h.ppr s'.breaks) turn) regs
-    ∙ ap (λ (t : SittingFields). after_turn run (is_at_break (o.regs m').ppr t.breaks) turn) noted
+    ∙ ap (λ (t : SessionStateFields). after_turn run (is_at_break (o.regs m').ppr t.breaks) turn) noted
     ∙ ap (λ (b : List Break). after_turn run (is_at_break (o.regs m').ppr b) turn) (breaks_stay turn s)
 
 pub took_turn :
-    {M : Type 0} (o : Turning M) (put : Put) (turn : Turn) (run : RunningCommand) (next : AfterTurn) (came : Came) (g : RegsFields) (s s' : SittingFields) (taken : ℕ) (m m' : M) (old new : Pending)
-    → taken ≡ s.taken → o.next m turn m' → s' ≡ sitting_after s turn → g ≡ o.regs m' → next ≡ after_turn run (is_at_break g.ppr s'.breaks) turn
-    → PutsPieces put (command_says run.command g taken s' turn next) old new → came ≡ turn_result put turn next
+    {M : Type 0} (o : MachineRelations M) (put : Put) (turn : Turn) (run : RunningCommand) (next : AfterTurn) (came : Came) (g : RegsFields) (s s' : SessionStateFields) (taken : ℕ) (m m' : M) (old new : Pending)
+    → taken ≡ s.taken → o.next m turn m' → s' ≡ session_state_after s turn → g ≡ o.regs m' → next ≡ after_turn run (is_at_break g.ppr s'.breaks) turn
+    → PutsPieces put (command_lines run.command g taken s' turn next) old new → came ≡ turn_result put turn next
     → TurnContract o came (standing s (Running run)) m s' m' old new
-took_turn o put turn run next came g s s' taken m m' old new counted may noted regs further puts comes =
-    let same : next ≡ next_of (o.regs m') s run turn = further_same o turn run next g s s' m' noted regs further in
-    let lines : command_says run.command g taken s' turn next ≡ turn_says (o.regs m') s run turn =
-    ap (λ (h : RegsFields). command_says run.command h taken s' turn next) regs
-    ∙ ap (λ (n : ℕ). command_says run.command (o.regs m') n s' turn next) counted
-    ∙ ap (λ (t : SittingFields). command_says run.command (o.regs m') s.taken t turn next) noted
-    ∙ ap (λ (f : AfterTurn). command_says run.command (o.regs m') s.taken (sitting_after s turn) turn f) same in
-    let there : TurnContract o (turn_result put turn (next_of (o.regs m') s run turn)) (standing s (Running run)) m (sitting_after s turn) m' old new =
+took_turn o put turn run next came g s s' taken m m' old new counted may noted regs decide_after_turn puts comes =
+    let same : next ≡ next_of (o.regs m') s run turn = further_same o turn run next g s s' m' noted regs decide_after_turn in
+    let lines : command_lines run.command g taken s' turn next ≡ running_turn_lines (o.regs m') s run turn =
+    ap (λ (h : RegsFields). command_lines run.command h taken s' turn next) regs
+    ∙ ap (λ (n : ℕ). command_lines run.command (o.regs m') n s' turn next) counted
+    ∙ ap (λ (t : SessionStateFields). command_lines run.command (o.regs m') s.taken t turn next) noted
+    ∙ ap (λ (f : AfterTurn). command_lines run.command (o.regs m') s.taken (session_state_after s turn) turn f) same in
+    let there : TurnContract o (turn_result put turn (next_of (o.regs m') s run turn)) (standing s (Running run)) m (session_state_after s turn) m' old new =
     turn_came o put turn run s m m' old new may (subst (λ l. PutsPieces put l old new) lines puts) in
     subst (λ (c : Came). TurnContract o c (standing s (Running run)) m s' m' old new) (sym (comes ∙ ap (λ (f : AfterTurn). turn_result put turn f) same))
-    (subst (λ (t : SittingFields). TurnContract o (turn_result put turn (next_of (o.regs m') s run turn)) (standing s (Running run)) m t m' old new) (sym noted) there)
+    (subst (λ (t : SessionStateFields). TurnContract o (turn_result put turn (next_of (o.regs m') s run turn)) (standing s (Running run)) m t m' old new) (sym noted) there)
 
 pub took_served :
-    {M : Type 0} (o : Turning M) (put : Put) (turn : Turn) (next : AfterTurn) (came : Came) (m m' : M)
-    → o.next m turn m' → came ≡ turn_result put turn next → CameServed o came m m'
+    {M : Type 0} (o : MachineRelations M) (put : Put) (turn : Turn) (next : AfterTurn) (came : Came) (m m' : M)
+    → o.next m turn m' → came ≡ turn_result put turn next → ServiceIsFlagged o came m m'
 took_served o put turn next came m m' may comes =
-    subst (λ (c : Came). CameServed o c m m') (sym comes) (turn_served o put turn next m m' may)
+    subst (λ (c : Came). ServiceIsFlagged o c m m') (sym comes) (turn_served o put turn next m m' may)
 
 pub took_counts :
-    (put : Put) (turn : Turn) (run : RunningCommand) (b : Bool) (next : AfterTurn) (came : Came) (s s' : SittingFields)
-    → s' ≡ sitting_after s turn → next ≡ after_turn run b turn → came ≡ turn_result put turn next
-    → CameCounts came run.left s.taken s'.taken
-took_counts put turn run b next came s s' noted further comes =
-    subst (λ (c : Came). CameCounts c run.left s.taken s'.taken) (sym (comes ∙ ap (λ (f : AfterTurn). turn_result put turn f) further))
-    (subst (λ (t : SittingFields). CameCounts (turn_result put turn (after_turn run b turn)) run.left s.taken t.taken) (sym noted) (turn_counts put turn run b s))
+    (put : Put) (turn : Turn) (run : RunningCommand) (b : Bool) (next : AfterTurn) (came : Came) (s s' : SessionStateFields)
+    → s' ≡ session_state_after s turn → next ≡ after_turn run b turn → came ≡ turn_result put turn next
+    → TurnChangesCounts came run.left s.taken s'.taken
+took_counts put turn run b next came s s' noted decide_after_turn comes =
+    subst (λ (c : Came). TurnChangesCounts c run.left s.taken s'.taken) (sym (comes ∙ ap (λ (f : AfterTurn). turn_result put turn f) decide_after_turn))
+    (subst (λ (t : SessionStateFields). TurnChangesCounts (turn_result put turn (after_turn run b turn)) run.left s.taken t.taken) (sym noted) (turn_counts put turn run b s))
 
 pub took_interrupted :
-    {M : Type 0} (o : Turning M) (put : Put) (turn : Turn) (run : RunningCommand) (b : Bool) (next : AfterTurn) (came : Came) (m m' : M)
-    → o.next m turn m' → next ≡ after_turn run b turn → came ≡ turn_result put turn next → CameInterrupted o came m m'
-took_interrupted o put turn run b next came m m' may further comes =
-    subst (λ (c : Came). CameInterrupted o c m m') (sym (comes ∙ ap (λ (f : AfterTurn). turn_result put turn f) further))
+    {M : Type 0} (o : MachineRelations M) (put : Put) (turn : Turn) (run : RunningCommand) (b : Bool) (next : AfterTurn) (came : Came) (m m' : M)
+    → o.next m turn m' → next ≡ after_turn run b turn → came ≡ turn_result put turn next → PrecludesStepIfNoneLeft o came m m'
+took_interrupted o put turn run b next came m m' may decide_after_turn comes =
+    subst (λ (c : Came). PrecludesStepIfNoneLeft o c m m') (sym (comes ∙ ap (λ (f : AfterTurn). turn_result put turn f) decide_after_turn))
     (turn_interrupted o put turn run b m m' may)
 
 pub took_stepped :
-    {M : Type 0} (o : Turning M) (turn : Turn) (s s' : SittingFields) (m m' : M)
-    → o.next m turn m' → s' ≡ sitting_after s turn → CountsSteps o s.taken s'.taken m m'
+    {M : Type 0} (o : MachineRelations M) (turn : Turn) (s s' : SessionStateFields) (m m' : M)
+    → o.next m turn m' → s' ≡ session_state_after s turn → CountsSteps o s.taken s'.taken m m'
 took_stepped o turn s s' m m' may noted =
-    subst (λ (t : SittingFields). CountsSteps o s.taken t.taken m m') (sym noted) (steps_counted o turn s m m' may)
+    subst (λ (t : SessionStateFields). CountsSteps o s.taken t.taken m m') (sym noted) (steps_counted o turn s m m' may)
 
 -- ---- turns one after another
 
 -- the turn before was of this kind
-pub record WasMade {M : Type 0} (o : Turning M) (Kind : Turn → Type 0) (m : M) : Type 0 where
+pub record WasMade {M : Type 0} (o : MachineRelations M) (Kind : Turn → Type 0) (m : M) : Type 0 where
   pub before : M
-  pub makes : Makes o Kind before m
+  pub makes : MakesTurn o Kind before m
 
-pub none_served : {M : Type 0} (o : Turning M) (m : M) → false ≡ true → WasMade o IsService m
+pub none_served : {M : Type 0} (o : MachineRelations M) (m : M) → false ≡ true → WasMade o IsService m
 none_served o m is = absurd (false≢true is)
 
-pub some_left : {M : Type 0} (o : Turning M) (m : M) (left : ℕ) → 0 < left → left ≡ 0 → WasMade o PrecludesStep m
+pub some_left : {M : Type 0} (o : MachineRelations M) (m : M) (left : ℕ) → 0 < left → left ≡ 0 → WasMade o PrecludesStep m
 some_left o m left some none = absurd (omega (arith, some, none))
 
 -- with no steps left, none is taken
 pub within_left :
-    {M : Type 0} (o : Turning M) (m m' : M) (left before after most : ℕ)
+    {M : Type 0} (o : MachineRelations M) (m m' : M) (left before after most : ℕ)
     → ((first second third : M) (one two : Turn) → o.next first one second → o.next second two third → PrecludesStep one → IsStep two → ⊥)
     → before + left ≤ most → after ≤ before + 1 → (left ≡ 0 → WasMade o PrecludesStep m) → CountsSteps o before after m m'
     → after ≤ most
@@ -316,15 +316,15 @@ within_left o m m' (suc left) before after most interrupted within few was (inr 
 -- the steps that are left, and those that were taken
 pub runs_count :
     (service : Bool) (next left before after most : ℕ)
-    → RunsCounts service next left before after → before + left ≤ most → after + next ≤ most
+    → ChangesCounts service next left before after → before + left ≤ most → after + next ≤ most
 runs_count true next left before after most counts within = omega (arith, counts.0, counts.1)
 runs_count false next left before after most counts within = omega (arith, counts.0, counts.1)
 
 -- The measure counts a step twice and a service once, since a service is not followed by another.
 pub runs_shorter :
-    {M : Type 0} (o : Turning M) (was service : Bool) (m m' : M) (next left before after : ℕ)
+    {M : Type 0} (o : MachineRelations M) (was service : Bool) (m m' : M) (next left before after : ℕ)
     → ((first second third : M) (one two : Turn) → o.next first one second → o.next second two third → IsService one → IsService two → ⊥)
-    → RunsCounts service next left before after → (was ≡ true → WasMade o IsService m) → (service ≡ true → Makes o IsService m m')
+    → ChangesCounts service next left before after → (was ≡ true → WasMade o IsService m) → (service ≡ true → MakesTurn o IsService m m')
     → next + next + (if service then 0 else 1) < left + left + (if was then 0 else 1)
 runs_shorter o true true m m' next left before after apart counts served serves =
     let one = served refl in

@@ -12,11 +12,11 @@ use Rattle.m36_status.specs.declared.status.Status.{Status}
 use Rattle.m36_program.specs.Goes.{AfterWrite, Goes}
 use Rattle.m36_program.specs.Performs.{Performs}
 use Rattle.m36_program.specs.Program.{May, Program, done, stops, reads, writes, puts, takes, some, wants, puts_all}
-use Rattle.m36_debug.specs.Replies.{Reply, All, Quits, Breaks, IsReply, IsLast}
-use Rattle.m36_debug.specs.Session.{Turning, Waiting, standing}
-use Rattle.m36_debug.specs.SessionProgram.{Talk, too_long, starves, takes_within, on_reply, replies, at_end, by_piece, session_from, session}
-use Rattle.m36_debug.specs.SessionSays.{bytes_limit}
-use Rattle.m36_debug.specs.SessionState.{SittingFields, new_sitting}
+use Rattle.m36_debug.specs.Replies.{Reply, All, Quits, Breaks, IsReply, IsLastReply}
+use Rattle.m36_debug.specs.Session.{MachineRelations, Waiting, standing}
+use Rattle.m36_debug.specs.SessionProgram.{Talk, too_long, starves, takes_within, on_reply, replies, answer_at_end, by_piece, session_from, session}
+use Rattle.m36_debug.specs.SessionContract.{bytes_limit}
+use Rattle.m36_debug.specs.SessionState.{SessionStateFields, initial_session_state}
 
 -- ---- events
 
@@ -116,20 +116,20 @@ unfolding ReadsNone
 done_unread = tt
 
 reply_unread :
-    {M : Type 0} (on : List ℕ → SittingFields → M → Talk) (reply : Reply M)
-    → ((kept : List ℕ) (s : SittingFields) (m : M) → ReadsNone (on kept s m)) → ReadsNone (on_reply on reply)
+    {M : Type 0} (on : List ℕ → SessionStateFields → M → Talk) (reply : Reply M)
+    → ((kept : List ℕ) (s : SessionStateFields) (m : M) → ReadsNone (on kept s m)) → ReadsNone (on_reply on reply)
 reply_unread on (All written kept s m) none = puts_unread written (on kept s m) (none kept s m)
 reply_unread on (Quits written) none = puts_unread written (done tt) done_unread
 reply_unread on (Breaks written) none = puts_unread written starves starves_unread
 
 replies_unread :
-    {M : Type 0} (Is : Reply M → Type 0) (on : List ℕ → SittingFields → M → Talk)
-    → ((kept : List ℕ) (s : SittingFields) (m : M) → ReadsNone (on kept s m)) → ReadsNone (replies Is on)
+    {M : Type 0} (Is : Reply M → Type 0) (on : List ℕ → SessionStateFields → M → Talk)
+    → ((kept : List ℕ) (s : SessionStateFields) (m : M) → ReadsNone (on kept s m)) → ReadsNone (replies Is on)
 unfolding ReadsNone replies
 replies_unread Is on none = λ reply is. reply_unread on reply none
 
-end_unread : {M : Type 0} (o : Turning M) (begun : List ℕ) (s : SittingFields) (m : M) → ReadsNone (at_end o begun s m)
-end_unread o begun s m = replies_unread (IsLast o (standing s Waiting) m begun) (λ kept sitting later. done tt) (λ kept sitting later. done_unread)
+end_unread : {M : Type 0} (o : MachineRelations M) (activity_after_line : List ℕ) (s : SessionStateFields) (m : M) → ReadsNone (answer_at_end o activity_after_line s m)
+end_unread o activity_after_line s m = replies_unread (IsLastReply o (standing s Waiting) m activity_after_line) (λ kept sitting later. done tt) (λ kept sitting later. done_unread)
 
 takes_unread : (most : ℕ) (go : List ℕ → Talk) → ((piece : List ℕ) → ReadsNone (go piece)) → ReadsNone (takes_within most go)
 unfolding ReadsNone takes_within
@@ -146,23 +146,23 @@ unfolding ReadsNone too_long
 too_long_unread = tt
 
 from_unread :
-    {M : Type 0} (o : Turning M) (left taken : ℕ) (begun : List ℕ) (s : SittingFields) (m : M) → ReadsNone (session_from o left taken begun s m)
+    {M : Type 0} (o : MachineRelations M) (left taken : ℕ) (activity_after_line : List ℕ) (s : SessionStateFields) (m : M) → ReadsNone (session_from o left taken activity_after_line s m)
 unfolding session_from
-from_unread o zero zero begun s m =
-    takes_unread 1 (by_piece (at_end o begun s m) (λ taken piece. too_long)) (λ piece.
-    piece_unread (at_end o begun s m) (λ taken p. too_long) piece (end_unread o begun s m) (λ n p. too_long_unread))
-from_unread o zero (suc taken) begun s m = too_long_unread
-from_unread {M} o (suc left) zero begun s m =
-    let more : ℕ → List ℕ → Talk = λ taken p. replies (IsReply o (standing s Waiting) m (begun ++ p)) (session_from o left taken) in
-    takes_unread (suc left) (by_piece (at_end o begun s m) more) (λ piece.
-    piece_unread (at_end o begun s m) more piece (end_unread o begun s m) (λ n p.
-    replies_unread (IsReply o (standing s Waiting) m (begun ++ p)) (session_from o left n) (λ kept sitting later. from_unread o left n kept sitting later)))
-from_unread o (suc left) (suc taken) begun s m = from_unread o left taken begun s m
+from_unread o zero zero activity_after_line s m =
+    takes_unread 1 (by_piece (answer_at_end o activity_after_line s m) (λ taken piece. too_long)) (λ piece.
+    piece_unread (answer_at_end o activity_after_line s m) (λ taken p. too_long) piece (end_unread o activity_after_line s m) (λ n p. too_long_unread))
+from_unread o zero (suc taken) activity_after_line s m = too_long_unread
+from_unread {M} o (suc left) zero activity_after_line s m =
+    let more : ℕ → List ℕ → Talk = λ taken p. replies (IsReply o (standing s Waiting) m (activity_after_line ++ p)) (session_from o left taken) in
+    takes_unread (suc left) (by_piece (answer_at_end o activity_after_line s m) more) (λ piece.
+    piece_unread (answer_at_end o activity_after_line s m) more piece (end_unread o activity_after_line s m) (λ n p.
+    replies_unread (IsReply o (standing s Waiting) m (activity_after_line ++ p)) (session_from o left n) (λ kept sitting later. from_unread o left n kept sitting later)))
+from_unread o (suc left) (suc taken) activity_after_line s m = from_unread o left taken activity_after_line s m
 
 pub session_unread :
-    {M : Type 0} (o : Turning M) (m : M) (result : Result (Unit {0}) Status) (old new : Seen)
+    {M : Type 0} (o : MachineRelations M) (m : M) (result : Result (Unit {0}) Status) (old new : Seen)
     → Performs (session o m) result old new → Unread old new
 unfolding session
 session_unread o m result old new performs =
     no_reads performs.events old new
-    (goes_unread (session o m) performs.events result (from_unread o bytes_limit 0 [] new_sitting m) performs.goes) performs.follow
+    (goes_unread (session o m) performs.events result (from_unread o bytes_limit 0 [] initial_session_state m) performs.goes) performs.follow

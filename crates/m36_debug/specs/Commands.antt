@@ -39,31 +39,31 @@ wants Step left at_break = nat_lt 0 left
 wants Go left at_break = nat_lt 0 left && (nat_eq left go_limit || not at_break)
 
 -- what a command does after a turn that need not be followed by a service or the end of the run
-abbrev pub after_quiet_turn : TurnCommand → ℕ → Bool → AfterTurn
-after_quiet_turn command left at_break =
+abbrev pub continue_or_wait : TurnCommand → ℕ → Bool → AfterTurn
+continue_or_wait command left at_break =
     if wants command left at_break then Runs (run_of command left) else Waits
 
 -- What a command does after a step. One whose outcome is not Next is followed at once by its
 -- service or by the end of the run: by one more turn, even if no steps are left.
 abbrev pub after_step : TurnCommand → ℕ → Bool → Outcome → AfterTurn
-after_step command left at_break Next = after_quiet_turn command left at_break
+after_step command left at_break Next = continue_or_wait command left at_break
 after_step command left at_break (Faulted fault) = Runs (run_of command left)
 after_step command left at_break (Stopped stop) = Runs (run_of command left)
 
 -- What a command does after a link service. A refused link is followed by one more turn, the end of
 -- the run.
 abbrev pub after_link : TurnCommand → ℕ → Bool → Result Pair LinkCode → AfterTurn
-after_link command left at_break (Ok pair) = after_quiet_turn command left at_break
+after_link command left at_break (Ok pair) = continue_or_wait command left at_break
 after_link command left at_break (Err code) = Runs (run_of command left)
 
 -- what a command does after a turn; the flag is whether the turn left the machine at a break
 unfoldable pub after_turn : RunningCommand → Bool → Turn → AfterTurn
-after_turn run at_break (turns.Stepped told) =
+after_turn run at_break (turns.Stepped result_of_put) =
     if nat_eq run.left 0 then Waits
-    else after_step run.command (run.left - 1) at_break told.outcome
+    else after_step run.command (run.left - 1) at_break result_of_put.outcome
 after_turn run at_break (turns.Linked note) =
     after_link run.command run.left at_break note.answer
-after_turn run at_break (turns.Console text) = after_quiet_turn run.command run.left at_break
+after_turn run at_break (turns.Console text) = continue_or_wait run.command run.left at_break
 after_turn run at_break (turns.Ended end) = Waits
 after_turn run at_break turns.Full = Waits
 after_turn run at_break turns.NoMemory = Starves

@@ -7,8 +7,8 @@ pub mod Putting
 pub mod Parts
 pub mod LinesTaken
 pub mod Handing
-pub mod PieceSays
-pub mod SessionSays
+pub mod PieceContract
+pub mod SessionContract
 pub mod Taking
 pub mod Replies
 pub mod SessionProgram

@@ -1,11 +1,11 @@
 -- The lines of a session, from the bytes that were read.
 use Rattle.std.specs.Prelude.{ℕ, ◌≡◌, ◌==◌, ◌++◌, false, List, map, All}
 use Rattle.m36_outside.specs.Passing.{joined}
-use Rattle.m36_text.specs.Lines.{as_line, lines_of, those_read}
+use Rattle.m36_text.specs.Lines.{as_line, lines_of, present_values}
 
 -- the whole lines: those that have their line feeds
 abbrev pub whole_lines : List ℕ → List (List ℕ)
-whole_lines text = those_read (lines_of text)
+whole_lines text = present_values (lines_of text)
 
 -- a prefix of some lines
 pub record IsFirstPart (lines all : List (List ℕ)) : Type 0 where

@@ -17,22 +17,22 @@ use Rattle.m36_debug.specs.Commands.{run_of, go_limit, is_at_break, after_turn}
 use Rattle.m36_debug.specs.SessionLines.{session_line}
 use Rattle.m36_debug.specs.SessionTexts.{unknown_line, where_line, break_line, seg_line, regs_lines}
 use Rattle.m36_debug.specs.SessionTexts.{end_lines, end_or_where, turn_lines}
-use Rattle.m36_debug.specs.SessionState.{SittingFields, sitting_after, sitting_before, sitting_with}
+use Rattle.m36_debug.specs.SessionState.{SessionStateFields, session_state_after, session_state_before, session_state_with_break}
 use Rattle.m36_debug.specs.SessionState.{has_taken, has_room}
 
 -- what a session uses of a machine: its registers and words, which turns it may answer, and how it
 -- may go back
-pub record Turning (M : Type 0) : Type 1 where
+pub record MachineRelations (M : Type 0) : Type 1 where
   pub regs : M → RegsFields
   pub content : M → ℕ → ℕ → Option ℕ
   pub next : M → Turn → M → Type 0
   pub went : M → ℕ → BackAnswer → M → Type 0
 
 -- the relations of a machine, as one record
-abbrev pub turning :
+abbrev pub machine_relations :
     {M : Type 0} → (M → RegsFields) → (M → ℕ → ℕ → Option ℕ) → (M → Turn → M → Type 0)
-    → (M → ℕ → BackAnswer → M → Type 0) → Turning M
-turning regs content next went =
+    → (M → ℕ → BackAnswer → M → Type 0) → MachineRelations M
+machine_relations regs content next went =
     record { regs = regs; content = content; next = next; went = went }
 
 -- ---- the state of a session
@@ -47,11 +47,11 @@ pub data Activity : Type 0 where
 
 -- the state of a session: what it remembers, and what it is doing
 pub record SessionPoint : Type 0 where
-  pub sitting : SittingFields
+  pub sitting : SessionStateFields
   pub doing : Activity
 
 -- a state of a session, from what it remembers and what it is doing
-abbrev pub standing : SittingFields → Activity → SessionPoint
+abbrev pub standing : SessionStateFields → Activity → SessionPoint
 standing s doing = record { sitting = s; doing = doing }
 
 -- ---- events
@@ -70,38 +70,38 @@ pub record SessionEvent (M : Type 0) : Type 0 where
 -- What may happen when: a line is taken if the session waits for one, a turn is made if a command
 -- runs, and the machine goes back if it has to. The turn, or going back, is one that the machine
 -- may answer.
-abbrev pub May : {M : Type 0} → Turning M → Activity → M → EventKind → M → Type 0
-May o Waiting m (Took line) m' = m' ≡ m
-May o (Running run) m (Turned turn) m' = o.next m turn m'
-May o (Backing n line) m (Went answer) m' = o.went m n answer m'
-May o doing m happened m' = ⊥
+abbrev pub MayHappen : {M : Type 0} → MachineRelations M → Activity → M → EventKind → M → Type 0
+MayHappen o Waiting m (Took line) m' = m' ≡ m
+MayHappen o (Running run) m (Turned turn) m' = o.next m turn m'
+MayHappen o (Backing n line) m (Went answer) m' = o.went m n answer m'
+MayHappen o doing m happened m' = ⊥
 
 -- ---- a line is taken
 
 -- what the session is doing after a line with a command that may take `left` steps: the command
 -- runs, unless the run of the machine has ended
-abbrev pub run_begun : Option End → TurnCommand → ℕ → Activity
-run_begun None command left = Running (run_of command left)
-run_begun (Some end) command left = Waiting
+abbrev pub activity_if_running : Option End → TurnCommand → ℕ → Activity
+activity_if_running None command left = Running (run_of command left)
+activity_if_running (Some end) command left = Waiting
 
 -- what the session is doing after a line was taken
-abbrev pub begun : SittingFields → List ℕ → SessionLine → Activity
-begun s line (session.Step n) = run_begun s.ended commands.Step n
-begun s line session.Go = run_begun s.ended commands.Go go_limit
-begun s line (session.Break seg word) = Waiting
-begun s line session.Regs = Waiting
-begun s line (session.Seg seg word) = Waiting
-begun s line session.Where = Waiting
-begun s line (session.Back n) = if has_taken s n then Backing n line else Waiting
-begun s line session.Quit = Over
-begun s line session.Empty = Waiting
-begun s line session.Unknown = Waiting
+abbrev pub activity_after_line : SessionStateFields → List ℕ → SessionLine → Activity
+activity_after_line s line (session.Step n) = activity_if_running s.ended commands.Step n
+activity_after_line s line session.Go = activity_if_running s.ended commands.Go go_limit
+activity_after_line s line (session.Break seg word) = Waiting
+activity_after_line s line session.Regs = Waiting
+activity_after_line s line (session.Seg seg word) = Waiting
+activity_after_line s line session.Where = Waiting
+activity_after_line s line (session.Back n) = if has_taken s n then Backing n line else Waiting
+activity_after_line s line session.Quit = Over
+activity_after_line s line session.Empty = Waiting
+activity_after_line s line session.Unknown = Waiting
 
 -- what the session remembers after a line was taken
-abbrev pub state_after_line : SittingFields → SessionLine → SittingFields
+abbrev pub state_after_line : SessionStateFields → SessionLine → SessionStateFields
 state_after_line s (session.Step n) = s
 state_after_line s session.Go = s
-state_after_line s (session.Break seg word) = sitting_with s seg word
+state_after_line s (session.Break seg word) = session_state_with_break s seg word
 state_after_line s session.Regs = s
 state_after_line s (session.Seg seg word) = s
 state_after_line s session.Where = s
@@ -111,84 +111,84 @@ state_after_line s session.Empty = s
 state_after_line s session.Unknown = s
 
 -- the answer to `break`: the break, if there is room for it; otherwise the line is unknown
-abbrev pub break_says : SittingFields → List ℕ → ℕ → ℕ → List (List ℕ)
-break_says s line seg word =
+abbrev pub break_answer : SessionStateFields → List ℕ → ℕ → ℕ → List (List ℕ)
+break_answer s line seg word =
     (if has_room s then break_line seg word else unknown_line line) ∷ []
 
 -- what is written for a line; `step` and `go` write the end line again if the run has ended
-abbrev pub line_says :
-    RegsFields → (ℕ → ℕ → Option ℕ) → SittingFields → List ℕ → SessionLine → List (List ℕ)
-line_says g content s line (session.Step n) = end_lines s.ended s.taken
-line_says g content s line session.Go = end_lines s.ended s.taken
-line_says g content s line (session.Break seg word) = break_says s line seg word
-line_says g content s line session.Regs = regs_lines g
-line_says g content s line (session.Seg seg word) = seg_line seg word (content seg word) ∷ []
-line_says g content s line session.Where = where_line g.ppr ∷ []
-line_says g content s line (session.Back n) =
+abbrev pub line_answer :
+    RegsFields → (ℕ → ℕ → Option ℕ) → SessionStateFields → List ℕ → SessionLine → List (List ℕ)
+line_answer g content s line (session.Step n) = end_lines s.ended s.taken
+line_answer g content s line session.Go = end_lines s.ended s.taken
+line_answer g content s line (session.Break seg word) = break_answer s line seg word
+line_answer g content s line session.Regs = regs_lines g
+line_answer g content s line (session.Seg seg word) = seg_line seg word (content seg word) ∷ []
+line_answer g content s line session.Where = where_line g.ppr ∷ []
+line_answer g content s line (session.Back n) =
     if has_taken s n then [] else unknown_line line ∷ []
-line_says g content s line session.Quit = []
-line_says g content s line session.Empty = []
-line_says g content s line session.Unknown = unknown_line line ∷ []
+line_answer g content s line session.Quit = []
+line_answer g content s line session.Empty = []
+line_answer g content s line session.Unknown = unknown_line line ∷ []
 
 -- ---- a command takes a turn
 
 -- what the session is doing after a turn
-abbrev pub doing_by : AfterTurn → Activity
-doing_by (Runs run) = Running run
-doing_by Waits = Waiting
-doing_by Starves = Starved
+abbrev pub activity_by_after_turn : AfterTurn → Activity
+activity_by_after_turn (Runs run) = Running run
+activity_by_after_turn Waits = Waiting
+activity_by_after_turn Starves = Starved
 
 -- the lines that `go` writes after a turn: none before it is complete; then the end line if the run
 -- has ended, and otherwise where it has stopped
-abbrev pub go_says : RegsFields → SittingFields → AfterTurn → List (List ℕ)
-go_says g s (Runs run) = []
-go_says g s Waits = end_or_where s.ended s.taken g.ppr ∷ []
-go_says g s Starves = []
+abbrev pub go_lines : RegsFields → SessionStateFields → AfterTurn → List (List ℕ)
+go_lines g s (Runs run) = []
+go_lines g s Waits = end_or_where s.ended s.taken g.ppr ∷ []
+go_lines g s Starves = []
 
 -- the lines that a command writes for a turn
-abbrev pub command_says :
-    TurnCommand → RegsFields → ℕ → SittingFields → Turn → AfterTurn → List (List ℕ)
-command_says commands.Step g taken after turn next = turn_lines taken turn
-command_says commands.Go g taken after turn next = go_says g after next
+abbrev pub command_lines :
+    TurnCommand → RegsFields → ℕ → SessionStateFields → Turn → AfterTurn → List (List ℕ)
+command_lines commands.Step g taken after turn next = turn_lines taken turn
+command_lines commands.Go g taken after turn next = go_lines g after next
 
 -- what a command does after a turn that left these registers
-abbrev pub next_of : RegsFields → SittingFields → RunningCommand → Turn → AfterTurn
+abbrev pub next_of : RegsFields → SessionStateFields → RunningCommand → Turn → AfterTurn
 next_of g s run turn = after_turn run (is_at_break g.ppr s.breaks) turn
 
 -- the lines that are written for a turn of a running command, given the state before it and the
 -- registers after it
-abbrev pub turn_says : RegsFields → SittingFields → RunningCommand → Turn → List (List ℕ)
-turn_says g s run turn =
-    command_says run.command g s.taken (sitting_after s turn) turn (next_of g s run turn)
+abbrev pub running_turn_lines : RegsFields → SessionStateFields → RunningCommand → Turn → List (List ℕ)
+running_turn_lines g s run turn =
+    command_lines run.command g s.taken (session_state_after s turn) turn (next_of g s run turn)
 
 -- the state of the session after a turn of a running command, given the registers after it
-abbrev pub turned : RegsFields → SittingFields → RunningCommand → Turn → SessionPoint
-turned g s run turn = standing (sitting_after s turn) (doing_by (next_of g s run turn))
+abbrev pub point_after_turn : RegsFields → SessionStateFields → RunningCommand → Turn → SessionPoint
+point_after_turn g s run turn = standing (session_state_after s turn) (activity_by_after_turn (next_of g s run turn))
 
 -- ---- the machine was asked to go back
 
 -- the state of the session after the machine was asked to go back n steps
-abbrev pub went : SittingFields → ℕ → BackAnswer → SessionPoint
-went s n back.Done = standing (sitting_before s n) Waiting
+abbrev pub went : SessionStateFields → ℕ → BackAnswer → SessionPoint
+went s n back.Done = standing (session_state_before s n) Waiting
 went s n (back.Before taken) = standing s Waiting
 went s n back.Unable = standing s Waiting
 went s n back.NoMemory = standing s Starved
 
 -- The lines that are written after the machine was asked to go back. If it did not, the line is
 -- answered as an unknown one; if memory ran out, nothing is written.
-abbrev pub back_says : RegsFields → List ℕ → BackAnswer → List (List ℕ)
-back_says g line back.Done = where_line g.ppr ∷ []
-back_says g line (back.Before taken) = unknown_line line ∷ []
-back_says g line back.Unable = unknown_line line ∷ []
-back_says g line back.NoMemory = []
+abbrev pub back_answer : RegsFields → List ℕ → BackAnswer → List (List ℕ)
+back_answer g line back.Done = where_line g.ppr ∷ []
+back_answer g line (back.Before taken) = unknown_line line ∷ []
+back_answer g line back.Unable = unknown_line line ∷ []
+back_answer g line back.NoMemory = []
 
 -- ---- a session
 
 -- the state after an event, given the registers that the machine then has
-abbrev pub state_after_by : RegsFields → SittingFields → Activity → EventKind → SessionPoint
+abbrev pub state_after_by : RegsFields → SessionStateFields → Activity → EventKind → SessionPoint
 state_after_by g s Waiting (Took line) =
-    standing (state_after_line s (session_line line)) (begun s line (session_line line))
-state_after_by g s (Running run) (Turned turn) = turned g s run turn
+    standing (state_after_line s (session_line line)) (activity_after_line s line (session_line line))
+state_after_by g s (Running run) (Turned turn) = point_after_turn g s run turn
 state_after_by g s (Backing n line) (Went answer) = went s n answer
 state_after_by g s doing happened = standing s doing
 
@@ -199,10 +199,10 @@ state_after g s happened = state_after_by g s.sitting s.doing happened
 -- the lines that are written for an event, given what the session remembers and what it is doing
 -- before it, and the registers and words of the machine after it
 abbrev pub said_by :
-    RegsFields → (ℕ → ℕ → Option ℕ) → SittingFields → Activity → EventKind → List (List ℕ)
-said_by g content s Waiting (Took line) = line_says g content s line (session_line line)
-said_by g content s (Running run) (Turned turn) = turn_says g s run turn
-said_by g content s (Backing n line) (Went answer) = back_says g line answer
+    RegsFields → (ℕ → ℕ → Option ℕ) → SessionStateFields → Activity → EventKind → List (List ℕ)
+said_by g content s Waiting (Took line) = line_answer g content s line (session_line line)
+said_by g content s (Running run) (Turned turn) = running_turn_lines g s run turn
+said_by g content s (Backing n line) (Went answer) = back_answer g line answer
 said_by g content s doing happened = []
 
 -- the lines that are written for an event, given the state of the session before it, and the
@@ -213,14 +213,14 @@ said g content s happened = said_by g content s.sitting s.doing happened
 
 -- Events follow one another, from a state of the session and a machine to others.
 unfoldable pub Follow :
-    {M : Type 0} → Turning M → SessionPoint → M → List (SessionEvent M) → SessionPoint → M → Type 0
+    {M : Type 0} → MachineRelations M → SessionPoint → M → List (SessionEvent M) → SessionPoint → M → Type 0
 Follow o s m [] s' m' = (s' ≡ s) × (m' ≡ m)
 Follow o s m (e ∷ events) s' m' =
-    May o s.doing m e.happened e.after
+    MayHappen o s.doing m e.happened e.after
     × Follow o (state_after (o.regs e.after) s e.happened) e.after events s' m'
 
 -- the lines that are written for events
-unfoldable pub texts_of : {M : Type 0} → Turning M → SessionPoint → List (SessionEvent M) → List (List ℕ)
+unfoldable pub texts_of : {M : Type 0} → MachineRelations M → SessionPoint → List (SessionEvent M) → List (List ℕ)
 texts_of o s [] = []
 texts_of o s (e ∷ events) =
     said (o.regs e.after) (o.content e.after) s e.happened

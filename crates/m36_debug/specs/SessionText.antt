@@ -10,13 +10,13 @@ use Rattle.m36_step.specs.declared.turns.BackAnswer.TheVariants as back
 use Rattle.m36_status.specs.declared.status.Status.{Status}
 use Rattle.m36_program.specs.Alike.{IsEnd, OneText}
 use Rattle.m36_program.specs.Performs.{Performs}
-use Rattle.m36_program.specs.Trail.{pieces_of}
+use Rattle.m36_program.specs.MayHappen.{pieces_of}
 use Rattle.m36_debug.specs.declared.fault.SessionFault.{SessionFault}
 use Rattle.m36_debug.specs.LinesTaken.{whole_lines}
-use Rattle.m36_debug.specs.Session.{Turning, EventKind, Took, Turned, Went, SessionEvent}
+use Rattle.m36_debug.specs.Session.{MachineRelations, EventKind, Took, Turned, Went, SessionEvent}
 use Rattle.m36_debug.specs.SessionLines.{IsNotQuit}
 use Rattle.m36_debug.specs.SessionProgram.{session, ended_by}
-use Rattle.m36_debug.specs.SessionSays.{SaysInWorld, bytes_limit}
+use Rattle.m36_debug.specs.SessionContract.{SessionContractInWorld, bytes_limit}
 
 -- There are more bytes than a session takes, and no whole line within that limit is `quit`.
 pub record IsTooLong (bytes : List ℕ) : Type 0 where
@@ -26,12 +26,12 @@ pub record IsTooLong (bytes : List ℕ) : Type 0 where
 -- A session over machine m ended with this result. Its lines are those of the bytes that were
 -- taken, and what was put is what its events write, or a prefix of it if the output failed. No file
 -- was read.
-pub record IsHeld {M : Type 0} (o : Turning M) (m : M) (result : Result (Unit {0}) Status)
+pub record IsHeld {M : Type 0} (o : MachineRelations M) (m : M) (result : Result (Unit {0}) Status)
     (old new : Seen) : Type 0 where
   pub ended : Result (Unit {0}) SessionFault
   pub result_is : result ≡ ended_by ended
   pub later : M
-  pub says : SaysInWorld o ended m later old new
+  pub says : SessionContractInWorld o ended m later old new
   pub reads : new.reads ≡ old.reads
   pub read_faults : new.read_faults ≡ old.read_faults
 
@@ -42,7 +42,7 @@ OneAnswer no_memory one other m m' =
     (one ≡ no_memory) ⊎ (other ≡ no_memory) ⊎ ((one ≡ other) × (m ≡ m'))
 
 -- Each state has one turn, and one answer to going back a number of steps.
-pub record IsDeterministic {M : Type 0} (o : Turning M) : Type 0 where
+pub record IsDeterministic {M : Type 0} (o : MachineRelations M) : Type 0 where
   pub turns :
       (before m m' : M) (one other : Turn) → o.next before one m → o.next before other m'
       → OneAnswer turns.NoMemory one other m m'
@@ -62,7 +62,7 @@ EachTurn Is [] = ⊤
 EachTurn Is (e ∷ events) = TurnIs Is e.happened × EachTurn Is events
 
 -- What holds of each call that performs the program of a session.
-pub record SessionLaw {M : Type 0} (o : Turning M) : Type 0 where
+pub record SessionLaw {M : Type 0} (o : MachineRelations M) : Type 0 where
   -- it is a session by its events
   pub held :
       (m : M) (result : Result (Unit {0}) Status) (old new : Seen)

@@ -9,7 +9,7 @@ use Rattle.m36_model.specs.Registers.{RegsFields}
 use Rattle.m36_model.specs.declared.endings.End.{End}
 use Rattle.m36_step.specs.declared.turns.Turn.{Turn}
 use Rattle.m36_step.specs.declared.turns.Turn.TheVariants.{Ended}
-use Rattle.m36_trace.specs.TraceLine.{word_of_segment, address_text, indicators_text}
+use Rattle.m36_trace.specs.TraceLine.{segment_word_text, address_text, indicators_text}
 use Rattle.m36_turns.specs.TurnLines.{run_end_line_of, turn_pieces}
 
 -- the maximum number of bytes of an unknown line that are shown
@@ -27,11 +27,11 @@ unknown_line line = as_line (codes "? " ++ shown line)
 -- the ring of execution, and the segment and word number of the next instruction
 unfoldable pub where_line : PprFields → List ℕ
 where_line p =
-    as_line (octal_text 1 p.prr ++ codes " " ++ word_of_segment p.psr p.ic)
+    as_line (octal_text 1 p.prr ++ codes " " ++ segment_word_text p.psr p.ic)
 
 -- the answer to `break S W`
 unfoldable pub break_line : ℕ → ℕ → List ℕ
-break_line seg word = as_line (codes "break " ++ word_of_segment seg word)
+break_line seg word = as_line (codes "break " ++ segment_word_text seg word)
 
 -- a word of a segment, or `absent` if it has no place
 abbrev pub content_text : Option ℕ → List ℕ
@@ -41,7 +41,7 @@ content_text None = codes "absent"
 -- the answer to `seg S W`
 unfoldable pub seg_line : ℕ → ℕ → Option ℕ → List ℕ
 seg_line seg word content =
-    as_line (word_of_segment seg word ++ codes " " ++ content_text content)
+    as_line (segment_word_text seg word ++ codes " " ++ content_text content)
 
 -- ---- the registers
 

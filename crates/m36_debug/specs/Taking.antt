@@ -6,7 +6,7 @@ use Rattle.m36_world.specs.Happened.{IsInput, IsInputFailed}
 use Rattle.m36_world.specs.Seen.{Seen}
 
 -- A piece of `count` bytes was taken; it is the first bytes of the buffer.
-pub record IsTaken (count most : ℕ) (buffer : List ℕ) (old new : Seen) : Type 0 where
+pub record IsPieceTaken (count most : ℕ) (buffer : List ℕ) (old new : Seen) : Type 0 where
   pub within : count ≤ most
   pub some : 1 ≤ count
   pub room : count ≤ length buffer
@@ -14,6 +14,6 @@ pub record IsTaken (count most : ℕ) (buffer : List ℕ) (old new : Seen) : Typ
 
 -- the contract of the call, by its answer: a piece was taken, the input has ended, or it failed
 abbrev pub TakesWithin : Piece → ℕ → List ℕ → Seen → Seen → Type 0
-TakesWithin (Got count) most buffer old new = IsTaken count most buffer old new
+TakesWithin (Got count) most buffer old new = IsPieceTaken count most buffer old new
 TakesWithin End most buffer old new = IsInput [] old new
 TakesWithin Failed most buffer old new = IsInputFailed old new

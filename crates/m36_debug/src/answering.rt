@@ -1,26 +1,26 @@
 //! Answers the lines of a session.
 
 ghost use Rattle.std.specs.Prelude.{ℕ, ◌≡◌, ◌≤◌, ◌<◌, ◌+◌, ◌-◌, ◌^◌, [], ◌∷◌};
-ghost use Rattle.m36_debug.specs.Parts.{LineContract, CommandSays, BackSays, told};
-ghost use Rattle.m36_step.specs.Counting.{most_taken};
+ghost use Rattle.m36_debug.specs.Parts.{LineContract, CommandContract, BackContract, result_of_put};
+ghost use Rattle.m36_step.specs.Counting.{step_count_limit};
 ghost use Rattle.m36_debug.specs.Putting.{pending, PutsPieces};
-ghost use Rattle.m36_debug.specs.Session.{Waiting, Backing, standing, turning, break_says};
+ghost use Rattle.m36_debug.specs.Session.{Waiting, Backing, standing, machine_relations, break_answer};
 ghost use Rattle.m36_debug.specs.SessionLines.{most_steps};
-ghost use Rattle.m36_debug.specs.SessionState.{sitting_with, has_taken};
+ghost use Rattle.m36_debug.specs.SessionState.{session_state_with_break, has_taken};
 
 use crate::commands::{GO_LIMIT, RunningCommand, TurnCommand};
 use crate::registers::put_regs;
 use crate::session_line::{SessionLine, session_line};
 use crate::sitting::SessionState;
 use crate::texts::{put_break, put_end, put_seg, put_unknown, put_where};
-use crate::turning::{LineResult, run_command};
+use crate::machine_relations::{LineResult, run_command};
 use m36_outside::{Block, Put};
 use m36_step::{BackAnswer, Stepper};
 use m36_world::World;
 
 // How a line ends whose answer is written at once, by the result of writing it.
-fn told(put: Put) -> LineResult
-    ensures { result ≡ told put }
+fn result_of_put(put: Put) -> LineResult
+    ensures { result ≡ result_of_put put }
 {
     match put {
         Put::Done => LineResult::Line,
@@ -37,15 +37,15 @@ fn command<M: Stepper, W: World>(
     world: &mut W,
 ) -> LineResult
     requires some { 0 < run.left }
-    requires room { sitting.old.taken + run.left < most_taken }
-    ensures says { CommandSays (turning M.regs M.content M.next M.went) result sitting.old.ended run
+    requires room { sitting.old.taken + run.left < step_count_limit }
+    ensures says { CommandContract (machine_relations M.regs M.content M.next M.went) result sitting.old.ended run
         sitting.old m.old sitting.new m.new
         (pending block.old (W.seen world.old))
         (pending block.new (W.seen world.new)) }
     ensures taken { sitting.new.taken ≤ sitting.old.taken + run.left }
 {
     match sitting.ended() {
-        Some(end) => told(put_end(block, world, end, sitting.taken())),
+        Some(end) => result_of_put(put_end(block, world, end, sitting.taken())),
         None => run_command(m, run, sitting, block, world),
     }
 }
@@ -61,9 +61,9 @@ fn add_break<W: World>(
 ) -> Put
     requires seg { seg < 2 ^ 15 }
     requires word { word < 2 ^ 18 }
-    ensures sitting { sitting.new ≡ sitting_with sitting.old seg word }
+    ensures sitting { sitting.new ≡ session_state_with_break sitting.old seg word }
     ensures taken { sitting.new.taken ≡ sitting.old.taken }
-    ensures puts { PutsPieces result (break_says sitting.old line.now seg word)
+    ensures puts { PutsPieces result (break_answer sitting.old line.now seg word)
         (pending block.old (W.seen world.old))
         (pending block.new (W.seen world.new)) }
 {
@@ -85,7 +85,7 @@ fn go_back<M: Stepper, W: World>(
     world: &mut W,
 ) -> LineResult
     requires { n ≤ sitting.old.taken }
-    ensures says { LineContract (turning M.regs M.content M.next M.went) result
+    ensures says { LineContract (machine_relations M.regs M.content M.next M.went) result
         (standing sitting.old (Backing n line.now)) m.old [] sitting.new m.new
         (pending block.old (W.seen world.old))
         (pending block.new (W.seen world.new)) }
@@ -94,10 +94,10 @@ fn go_back<M: Stepper, W: World>(
     match m.back(n) {
         BackAnswer::Done => {
             sitting.note_back(n);
-            told(put_where(block, world, m.regs()))
+            result_of_put(put_where(block, world, m.regs()))
         }
-        BackAnswer::Before(_) => told(put_unknown(block, world, line)),
-        BackAnswer::Unable => told(put_unknown(block, world, line)),
+        BackAnswer::Before(_) => result_of_put(put_unknown(block, world, line)),
+        BackAnswer::Unable => result_of_put(put_unknown(block, world, line)),
         BackAnswer::NoMemory => LineResult::Starved,
     }
 }
@@ -111,7 +111,7 @@ fn back<M: Stepper, W: World>(
     block: &mut Block,
     world: &mut W,
 ) -> LineResult
-    ensures says { BackSays (turning M.regs M.content M.next M.went) result
+    ensures says { BackContract (machine_relations M.regs M.content M.next M.went) result
         (has_taken sitting.old n) line.now n
         sitting.old m.old sitting.new m.new
         (pending block.old (W.seen world.old))
@@ -121,7 +121,7 @@ fn back<M: Stepper, W: World>(
     if sitting.has_taken(n) {
         go_back(line, n, m, sitting, block, world)
     } else {
-        told(put_unknown(block, world, line))
+        result_of_put(put_unknown(block, world, line))
     }
 }
 
@@ -135,7 +135,7 @@ pub(crate) fn answer<M: Stepper, W: World>(
     world: &mut W,
 ) -> LineResult
     requires { sitting.old.taken < 2 ^ 62 }
-    ensures says { LineContract (turning M.regs M.content M.next M.went) result
+    ensures says { LineContract (machine_relations M.regs M.content M.next M.went) result
         (standing sitting.old Waiting) m.old (line.now ∷ []) sitting.new m.new
         (pending block.old (W.seen world.old))
         (pending block.new (W.seen world.new)) }
@@ -156,13 +156,13 @@ pub(crate) fn answer<M: Stepper, W: World>(
             };
             command(m, command_run, sitting, block, world)
         }
-        SessionLine::Break(seg, word) => told(add_break(line, seg, word, sitting, block, world)),
-        SessionLine::Regs => told(put_regs(block, world, m.regs())),
-        SessionLine::Seg(seg, word) => told(put_seg(block, world, seg, word, m.content(seg, word))),
-        SessionLine::Where => told(put_where(block, world, m.regs())),
+        SessionLine::Break(seg, word) => result_of_put(add_break(line, seg, word, sitting, block, world)),
+        SessionLine::Regs => result_of_put(put_regs(block, world, m.regs())),
+        SessionLine::Seg(seg, word) => result_of_put(put_seg(block, world, seg, word, m.content(seg, word))),
+        SessionLine::Where => result_of_put(put_where(block, world, m.regs())),
         SessionLine::Back(n) => back(line, n, m, sitting, block, world),
         SessionLine::Quit => LineResult::Quit,
         SessionLine::Empty => LineResult::Line,
-        SessionLine::Unknown => told(put_unknown(block, world, line)),
+        SessionLine::Unknown => result_of_put(put_unknown(block, world, line)),
     }
 }

@@ -2,7 +2,7 @@
 
 ghost use Rattle.std.specs.Prelude.{ℕ, ◌≡◌, ◌<◌};
 ghost use Rattle.std.specs.List.{list_any};
-ghost use Rattle.m36_debug.specs.Commands.{is_at, is_at_break, wants, after_quiet_turn, after_step, after_link, after_turn};
+ghost use Rattle.m36_debug.specs.Commands.{is_at, is_at_break, wants, continue_or_wait, after_step, after_link, after_turn};
 
 use m36_model::{LinkCode, Outcome, Ppr};
 use m36_step::Turn;
@@ -69,8 +69,8 @@ fn wants(command: TurnCommand, left: u32, at_break: bool) -> bool
 
 // What a command does after a turn that need not be followed by a service or the end of the run. It
 // may take `left` more steps.
-fn after_quiet_turn(command: TurnCommand, left: u32, at_break: bool) -> AfterTurn
-    ensures { result ≡ after_quiet_turn command left at_break }
+fn continue_or_wait(command: TurnCommand, left: u32, at_break: bool) -> AfterTurn
+    ensures { result ≡ continue_or_wait command left at_break }
 {
     if wants(command, left, at_break) {
         AfterTurn::Runs(RunningCommand { left, command })
@@ -85,7 +85,7 @@ fn after_step(command: TurnCommand, left: u32, at_break: bool, outcome: Outcome)
     ensures { result ≡ after_step command left at_break outcome }
 {
     match outcome {
-        Outcome::Next => after_quiet_turn(command, left, at_break),
+        Outcome::Next => continue_or_wait(command, left, at_break),
         Outcome::Faulted(_) | Outcome::Stopped(_) => AfterTurn::Runs(RunningCommand {
             left,
             command,
@@ -104,7 +104,7 @@ fn after_link(
     ensures { result ≡ after_link command left at_break answer.now }
 {
     match answer {
-        Ok(_) => after_quiet_turn(command, left, at_break),
+        Ok(_) => continue_or_wait(command, left, at_break),
         Err(_) => AfterTurn::Runs(RunningCommand { left, command }),
     }
 }
@@ -118,9 +118,9 @@ pub(crate) fn after_turn(run: RunningCommand, at_break: bool, turn: &Turn) -> Af
     let RunningCommand { left, command } = run;
     match turn {
         Turn::Stepped(_) if left == 0 => AfterTurn::Waits,
-        Turn::Stepped(told) => after_step(command, left - 1, at_break, told.outcome),
+        Turn::Stepped(result_of_put) => after_step(command, left - 1, at_break, result_of_put.outcome),
         Turn::Linked(note) => after_link(command, left, at_break, &note.answer),
-        Turn::Console(_) => after_quiet_turn(command, left, at_break),
+        Turn::Console(_) => continue_or_wait(command, left, at_break),
         Turn::Ended(_) | Turn::Full => AfterTurn::Waits,
         Turn::NoMemory => AfterTurn::Starves,
     }

@@ -21,7 +21,7 @@
 //! - `performs`: a session is a program (`specs/SessionProgram.antt`). It takes a piece of input,
 //!   puts the answers to the lines that are whole by then, and continues. Taking and putting are
 //!   events of the world, so this clause has their order.
-//! - `says`: the session as a whole (`specs/SessionSays.antt`). There is a list of session events
+//! - `says`: the session as a whole (`specs/SessionContract.antt`). There is a list of session events
 //!   (`specs/Session.antt`) that leads from the machine before the call to the machine after it.
 //!   Its lines are lines of the bytes that were taken, and what was put is the texts of its events,
 //!   or a prefix of them if the output failed.
@@ -63,8 +63,8 @@ pub mod session;
 pub mod session_line;
 mod sitting;
 mod texts;
-pub mod turning;
+pub mod machine_relations;
 
 pub use fault::SessionFault;
-pub use laws::{law_session, step_limit};
+pub use laws::{law_session, law_step_limit};
 pub use session::debug;

@@ -1,27 +1,27 @@
 //! Holds a session over a machine.
 
 ghost use Rattle.std.specs.Prelude.{ℕ, ◌≡◌, ◌≤◌, ◌<◌, ◌+◌, ◌*◌, ◌^◌, [], ◌++◌, length};
-ghost use Rattle.m36_text.specs.Lines.{open_rest};
+ghost use Rattle.m36_text.specs.Lines.{open_last_line};
 ghost use Rattle.m36_program.specs.Performs.{Performs};
 ghost use Rattle.m36_debug.specs.LinesTaken.{IsUnbroken};
 ghost use Rattle.m36_debug.specs.Handing.{after_put, HandsOver};
 ghost use Rattle.m36_debug.specs.Parts.{LineContract};
-ghost use Rattle.m36_debug.specs.PieceSays.{PieceSays};
+ghost use Rattle.m36_debug.specs.PieceContract.{PieceContract};
 ghost use Rattle.m36_debug.specs.Putting.{pending, PutsPieces};
-ghost use Rattle.m36_debug.specs.Session.{Waiting, standing, turning};
+ghost use Rattle.m36_debug.specs.Session.{Waiting, standing, machine_relations};
 ghost use Rattle.m36_debug.specs.SessionLines.{most_steps};
 ghost use Rattle.m36_debug.specs.SessionProgram.{session, ended_by};
-ghost use Rattle.m36_debug.specs.SessionSays.{SaysInWorld, answer_of};
+ghost use Rattle.m36_debug.specs.SessionContract.{SessionContractInWorld, session_result};
 ghost use Rattle.m36_debug.specs.StepLimit.{StepsWithin};
 ghost use Rattle.m36_debug.specs.Taking.{TakesWithin};
 
 use crate::fault::SessionFault;
-use crate::laws::step_limit;
+use crate::laws::law_step_limit;
 use crate::reading::{answer_last, answer_piece};
 use crate::sitting::SessionState;
-use crate::turning::LineResult;
+use crate::machine_relations::LineResult;
 use m36_outside::{Block, Piece, Put, Text};
-use m36_program::hand_over;
+use m36_program::flush_block;
 use m36_step::Stepper;
 use m36_world::World;
 use std::alloc::Global;
@@ -33,8 +33,8 @@ const BYTES_LIMIT: usize = 1_048_576;
 const PIECE: usize = 4096;
 
 // The result of a session, by how its last lines ended.
-fn answer_of(ends: LineResult) -> Result<(), SessionFault>
-    ensures { result ≡ answer_of ends }
+fn session_result(ends: LineResult) -> Result<(), SessionFault>
+    ensures { result ≡ session_result ends }
 {
     match ends {
         LineResult::Line | LineResult::Quit => Ok(()),
@@ -64,7 +64,7 @@ fn put_waiting<W: World>(block: &mut Block, world: &mut W) -> Put
         (pending block.old (W.seen world.old)) (pending block.new (W.seen world.new)) }
     ensures empty { block.new ≡ [] }
 {
-    hand_over(block, world)
+    flush_block(block, world)
 }
 
 // How lines ended after their answers were put: as before, or Cut if the output failed.
@@ -100,40 +100,40 @@ fn put_answers<W: World>(end: LineResult, block: &mut Block, world: &mut W) -> L
 fn reply_piece<M: Stepper, W: World>(
     alloc: Global,
     piece: &[u8],
-    begun: &mut Text,
+    activity_after_line: &mut Text,
     m: &mut M,
     sitting: &mut SessionState,
     block: &mut Block,
     world: &mut W,
 ) -> LineResult
-    requires unbroken { IsUnbroken begun.old }
+    requires unbroken { IsUnbroken activity_after_line.old }
     requires few { sitting.old.taken + most_steps * length piece.now < 2 ^ 62 }
-    ensures says { PieceSays (turning M.regs M.content M.next M.went) result
-        (standing sitting.old Waiting) m.old (begun.old ++ piece.now) begun.new sitting.new m.new
+    ensures says { PieceContract (machine_relations M.regs M.content M.next M.went) result
+        (standing sitting.old Waiting) m.old (activity_after_line.old ++ piece.now) activity_after_line.new sitting.new m.new
         (pending block.old (W.seen world.old)) (pending block.new (W.seen world.new)) }
     ensures taken { sitting.new.taken ≤ sitting.old.taken + most_steps * length piece.now }
     ensures empty { block.new ≡ [] }
 {
-    let end = answer_piece(alloc, piece, begun, m, sitting, block, world);
+    let end = answer_piece(alloc, piece, activity_after_line, m, sitting, block, world);
     put_answers(end, block, world)
 }
 
 // Answers the line that has begun when the input ends, if it is not empty, and puts its answer.
 #[tactic(auto, using(crate::proofs::HandLaws::handing))]
 fn reply_last<M: Stepper, W: World>(
-    begun: &Text,
+    activity_after_line: &Text,
     m: &mut M,
     sitting: &mut SessionState,
     block: &mut Block,
     world: &mut W,
 ) -> LineResult
     requires { sitting.old.taken < 2 ^ 62 }
-    ensures says { LineContract (turning M.regs M.content M.next M.went) result
-        (standing sitting.old Waiting) m.old (open_rest begun.now) sitting.new m.new
+    ensures says { LineContract (machine_relations M.regs M.content M.next M.went) result
+        (standing sitting.old Waiting) m.old (open_last_line activity_after_line.now) sitting.new m.new
         (pending block.old (W.seen world.old)) (pending block.new (W.seen world.new)) }
     ensures empty { block.new ≡ [] }
 {
-    let end = answer_last(begun, m, sitting, block, world);
+    let end = answer_last(activity_after_line, m, sitting, block, world);
     put_answers(end, block, world)
 }
 
@@ -147,15 +147,15 @@ pub fn debug<M: Stepper, W: World>(
     m: &mut M,
     world: &mut W,
 ) -> Result<(), SessionFault>
-    ensures performs { Performs (session (turning M.regs M.content M.next M.went) m.old)
+    ensures performs { Performs (session (machine_relations M.regs M.content M.next M.went) m.old)
         (ended_by result) (W.seen world.old) (W.seen world.new) }
-    ensures says { SaysInWorld (turning M.regs M.content M.next M.went) result m.old m.new
+    ensures says { SessionContractInWorld (machine_relations M.regs M.content M.next M.went) result m.old m.new
         (W.seen world.old) (W.seen world.new) }
-    ensures limit { StepsWithin (turning M.regs M.content M.next M.went) }
+    ensures limit { StepsWithin (machine_relations M.regs M.content M.next M.went) }
 {
-    step_limit::<M>();
+    law_step_limit::<M>();
     let mut sitting = SessionState::new();
-    let mut begun = Text::new(alloc);
+    let mut activity_after_line = Text::new(alloc);
     let mut block = Block::new();
     let mut buffer = [0; PIECE];
     let mut left = BYTES_LIMIT;
@@ -163,13 +163,13 @@ pub fn debug<M: Stepper, W: World>(
         match take_piece(world, left, &mut buffer) {
             Piece::Failed => return Err(SessionFault::ReadFault),
             Piece::End => {
-                return answer_of(reply_last(&begun, m, &mut sitting, &mut block, world));
+                return session_result(reply_last(&activity_after_line, m, &mut sitting, &mut block, world));
             }
             Piece::Got(count) => {
                 match reply_piece(
                     alloc,
                     &buffer[..count],
-                    &mut begun,
+                    &mut activity_after_line,
                     m,
                     &mut sitting,
                     &mut block,
@@ -186,7 +186,7 @@ pub fn debug<M: Stepper, W: World>(
     }
     match take_piece(world, 1, &mut buffer) {
         Piece::Failed => Err(SessionFault::ReadFault),
-        Piece::End => answer_of(reply_last(&begun, m, &mut sitting, &mut block, world)),
+        Piece::End => session_result(reply_last(&activity_after_line, m, &mut sitting, &mut block, world)),
         Piece::Got(_) => Err(SessionFault::TooLong),
     }
 }

@@ -1,9 +1,9 @@
 //! What a session remembers between its lines.
 
 ghost use Rattle.std.specs.Prelude.{ℕ, ◌≡◌, ◌≤◌, ◌<◌, ◌-◌, ◌^◌};
-ghost use Rattle.m36_step.specs.Counting.{most_taken};
+ghost use Rattle.m36_step.specs.Counting.{step_count_limit};
 ghost use Rattle.m36_debug.specs.Session.{next_of};
-ghost use Rattle.m36_debug.specs.SessionState.{new_sitting, sitting_after, sitting_before, sitting_with, has_taken, has_room};
+ghost use Rattle.m36_debug.specs.SessionState.{initial_session_state, session_state_after, session_state_before, session_state_with_break, has_taken, has_room};
 
 use crate::commands::{AfterTurn, Break, RunningCommand, after_turn, is_at_break};
 use arrayvec::ArrayVec;
@@ -22,9 +22,9 @@ pub(crate) struct SessionState {
 
 impl Model for SessionState {
     ghost use Rattle.std.specs.Prelude.{◌<◌, ◌^◌};
-    ghost use Rattle.m36_debug.specs.SessionState.{SittingFields};
+    ghost use Rattle.m36_debug.specs.SessionState.{SessionStateFields};
 
-    ghost Value = { SittingFields };
+    ghost Value = { SessionStateFields };
 
     ghost view = { λ s. record { taken = s.taken; ended = s.ended; breaks = s.breaks.items } };
 
@@ -34,7 +34,7 @@ impl Model for SessionState {
 impl SessionState {
     /// The state at the start of a session.
     pub(crate) fn new() -> SessionState
-        ensures { result ≡ new_sitting }
+        ensures { result ≡ initial_session_state }
     {
         SessionState {
             taken: 0,
@@ -66,17 +66,17 @@ impl SessionState {
 
     /// What a command does after a turn that left these registers, given the breaks of the session.
     #[inline(always)]
-    pub(crate) fn further(&self, run: RunningCommand, regs: &Regs, turn: &Turn) -> AfterTurn
+    pub(crate) fn decide_after_turn(&self, run: RunningCommand, regs: &Regs, turn: &Turn) -> AfterTurn
         ensures { result ≡ next_of regs.now self.now run turn.now }
     {
         after_turn(run, is_at_break(regs.ppr, self.breaks.as_slice()), turn)
     }
 
     /// Records a turn: a step adds one to the count, and an end of the run is kept.
-    #[tactic(auto, unfolding(crate::specs::SessionState::sitting_after))]
+    #[tactic(auto, unfolding(crate::specs::SessionState::session_state_after))]
     pub(crate) fn note(&mut self, turn: &Turn)
-        requires { self.old.taken < most_taken }
-        ensures { self.new ≡ sitting_after self.old turn.now }
+        requires { self.old.taken < step_count_limit }
+        ensures { self.new ≡ session_state_after self.old turn.now }
     {
         match turn {
             Turn::Stepped(_) => self.taken += 1,
@@ -88,7 +88,7 @@ impl SessionState {
     /// Records that n steps were taken back.
     pub(crate) fn note_back(&mut self, n: u32)
         requires { n ≤ self.old.taken }
-        ensures { self.new ≡ sitting_before self.old n }
+        ensures { self.new ≡ session_state_before self.old n }
     {
         self.taken -= n as u64;
         self.ended = None;
@@ -103,7 +103,7 @@ impl SessionState {
 
     /// Adds a break if there is room for it.
     pub(crate) fn add(&mut self, seg: u16, word: u32)
-        ensures sitting { self.new ≡ sitting_with self.old seg word }
+        ensures sitting { self.new ≡ session_state_with_break self.old seg word }
         ensures taken { self.new.taken ≡ self.old.taken }
     {
         if self.has_room() {

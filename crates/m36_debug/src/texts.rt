@@ -1,7 +1,7 @@
 //! Writes the lines of answers.
 
 ghost use Rattle.std.specs.Prelude.{ℕ, ◌≡◌, ◌≤◌, ◌<◌, ◌-◌, ◌^◌, [], ◌∷◌, length};
-ghost use Rattle.m36_step.specs.Counting.{most_taken};
+ghost use Rattle.m36_step.specs.Counting.{step_count_limit};
 ghost use Rattle.m36_text.specs.Lines.{as_line};
 ghost use Rattle.m36_trace.specs.TraceLine.{line_of};
 ghost use Rattle.m36_debug.specs.Putting.{pending, PutsPieces};
@@ -115,12 +115,12 @@ pub(crate) fn put_unknown<W: World>(block: &mut Block, world: &mut W, line: &[u8
 
 // Adds the line of step n, formatted as a whole: used if `push_shown` could not push it.
 #[inline(never)]
-fn put_whole<W: World>(block: &mut Block, world: &mut W, n: u64, told: &StepRecord) -> Put
-    ensures { PutsPieces result (as_line (line_of n told.now) ∷ [])
+fn put_whole<W: World>(block: &mut Block, world: &mut W, n: u64, result_of_put: &StepRecord) -> Put
+    ensures { PutsPieces result (as_line (line_of n result_of_put.now) ∷ [])
         (pending block.old (W.seen world.old))
         (pending block.new (W.seen world.new)) }
 {
-    put_text(block, world, line(n, told))
+    put_text(block, world, line(n, result_of_put))
 }
 
 // Adds the line of step n. `text` keeps an earlier line, and only the parts that differ are
@@ -130,23 +130,23 @@ fn put_step<W: World>(
     block: &mut Block,
     world: &mut W,
     n: u64,
-    told: &StepRecord,
+    result_of_put: &StepRecord,
     text: &mut TraceText,
 ) -> Put
-    ensures { PutsPieces result (as_line (line_of n told.now) ∷ [])
+    ensures { PutsPieces result (as_line (line_of n result_of_put.now) ∷ [])
         (pending block.old (W.seen world.old))
         (pending block.new (W.seen world.new)) }
 {
     let shown = Shown {
-        word: told.word,
-        at: told.at,
-        outcome: told.outcome,
-        ppr: told.ppr,
+        word: result_of_put.word,
+        at: result_of_put.at,
+        outcome: result_of_put.outcome,
+        ppr: result_of_put.ppr,
     };
-    if push_shown(text, n, &shown, &told.after, block) {
+    if push_shown(text, n, &shown, &result_of_put.after, block) {
         return Put::Done;
     }
-    put_whole(block, world, n, told)
+    put_whole(block, world, n, result_of_put)
 }
 
 /// Writes the lines of a turn before which `taken` steps were taken. `text` keeps the line of an
@@ -160,13 +160,13 @@ pub(crate) fn put_turn<W: World>(
     turn: &Turn,
     text: &mut TraceText,
 ) -> Put
-    requires { taken < most_taken }
+    requires { taken < step_count_limit }
     ensures { PutsPieces result (turn_lines taken turn.now)
         (pending block.old (W.seen world.old))
         (pending block.new (W.seen world.new)) }
 {
     match turn {
-        Turn::Stepped(told) => put_step(block, world, taken + 1, told, text),
+        Turn::Stepped(result_of_put) => put_step(block, world, taken + 1, result_of_put, text),
         Turn::Linked(note) => put_characters(block, world, link_line(note)),
         Turn::Console(note) => put_characters(block, world, console_line(note)),
         Turn::Ended(end) => put_end(block, world, *end, taken),

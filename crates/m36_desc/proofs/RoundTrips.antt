@@ -5,8 +5,8 @@ use Rattle.m36_word.specs.Field.{field}
 use Rattle.m36_word.specs.Bits.{of_bit}
 use Rattle.m36_desc.specs.Fields.{SdwFields}
 use Rattle.m36_desc.specs.Widths.{IsSdw}
-use Rattle.m36_desc.specs.Descriptors.{sdw_of, sdw_even, sdw_odd, ptw_of, ptw_word, dbr_of, dbr_even, dbr_odd, ptr_of, ptr_even, ptr_odd, its_of, its_even, its_odd, itp_of, itp_even, itp_odd, packed_of, packed_word, unpacked_segment}
-use Rattle.m36_desc.specs.RoundTrips.{SdwRoundTrip, PtwComesBack, DbrComesBack, PtrComesBack, ItsComesBack, ItpComesBack, EvenTags, PackedComesBack}
+use Rattle.m36_desc.specs.Descriptors.{sdw_of, sdw_even, sdw_odd, ptw_of, ptw_word, dbr_of, dbr_even, dbr_odd, ptr_of, ptr_even, ptr_odd, its_of, its_even, its_odd, itp_of, itp_even, itp_odd, pointer_of_packed, packed_word, unpacked_segment}
+use Rattle.m36_desc.specs.RoundTrips.{SdwRoundTrip, PtwRoundTrip, DbrRoundTrip, PtrRoundTrip, ItsRoundTrip, ItpRoundTrip, EvenTags, PackedRoundTrip}
 
 pub bit_small : (b : Bool) → of_bit b ≤ 1
 bit_small true = omega arith
@@ -44,7 +44,7 @@ sdw_back s h =
     let cached_back : r.cached ≡ s.cached = bit_back s.cached _ (omega arith) in
     λ i. record { addr = addr_back i; r1 = r1_back i; r2 = r2_back i; r3 = r3_back i; fc = fc_back i; bound = bound_back i; limit = limit_back i; f = f_back i; readable = readable_back i; executable = executable_back i; writable = writable_back i; privileged = privileged_back i; unpaged = unpaged_back i; no_gate = no_gate_back i; cached = cached_back i }
 
-pub ptw_back : PtwComesBack
+pub ptw_back : PtwRoundTrip
 ptw_back p h =
     let used_small = bit_small p.used in
     let modified_small = bit_small p.modified in
@@ -57,7 +57,7 @@ ptw_back p h =
     let f_back : r.f ≡ p.f = bit_back p.f _ (omega arith) in
     λ i. record { addr = addr_back i; fc = fc_back i; used = used_back i; modified = modified_back i; f = f_back i }
 
-pub dbr_back : DbrComesBack
+pub dbr_back : DbrRoundTrip
 dbr_back d h =
     let unpaged_small = bit_small d.unpaged in
     let r = dbr_of (dbr_even d) (dbr_odd d) in
@@ -67,7 +67,7 @@ dbr_back d h =
     let unpaged_back : r.unpaged ≡ d.unpaged = bit_back d.unpaged _ (omega arith) in
     λ i. record { addr = addr_back i; bnd = bnd_back i; stack = stack_back i; unpaged = unpaged_back i }
 
-pub ptr_back : PtrComesBack
+pub ptr_back : PtrRoundTrip
 ptr_back p h =
     let r = ptr_of (ptr_even p) (ptr_odd p) in
     let seg_back : r.seg ≡ p.seg = omega arith in
@@ -76,7 +76,7 @@ ptr_back p h =
     let bit_back : r.bit ≡ p.bit = omega arith in
     λ i. record { seg = seg_back i; ring = ring_back i; word = word_back i; bit = bit_back i }
 
-pub its_back : ItsComesBack
+pub its_back : ItsRoundTrip
 its_back p h =
     let r = its_of (its_even p) (its_odd p) in
     let seg_back : r.seg ≡ p.seg = omega arith in
@@ -86,7 +86,7 @@ its_back p h =
     let tag_back : r.tag ≡ p.tag = omega arith in
     λ i. record { seg = seg_back i; ring = ring_back i; word = word_back i; bit = bit_back i; tag = tag_back i }
 
-pub itp_back : ItpComesBack
+pub itp_back : ItpRoundTrip
 itp_back p h =
     let r = itp_of (itp_even p) (itp_odd p) in
     let pr_back : r.pr ≡ p.pr = omega arith in
@@ -101,9 +101,9 @@ even_tags = record { its = λ p. omega arith; itp = λ p. omega arith }
 own_segment : (s : ℕ) → s < 2 ^ 12 - 1 → unpacked_segment s ≡ s
 own_segment s h = cond-false (s == 2 ^ 12 - 1) (2 ^ 15 - 1) s (ne_eqb s (2 ^ 12 - 1) (λ e. absurd (omega (arith, e, h))))
 
-pub packed_back : PackedComesBack
+pub packed_back : PackedRoundTrip
 packed_back seg word ring in_seg in_word =
-    let r = packed_of (packed_word seg word) ring in
+    let r = pointer_of_packed (packed_word seg word) ring in
     let field_back : field (packed_word seg word) 6 12 ≡ seg = omega (arith, in_seg, in_word) in
     let seg_back : r.seg ≡ seg = ap unpacked_segment field_back ∙ own_segment seg in_seg in
     let word_back : r.word ≡ word = omega (arith, in_word) in

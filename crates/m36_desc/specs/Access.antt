@@ -19,9 +19,9 @@ use Rattle.m36_desc.specs.Violations.{bad_outward_call, crossing_ring_transfer}
 use Rattle.m36_desc.specs.declared.access.Acv.{Acv}
 
 -- the access violation of the first row whose condition holds; None if the reference is allowed
-abbrev pub first_of : List (Bool × ℕ) → Option ℕ
-first_of [] = None
-first_of (row ∷ rows) = if row.0 then Some row.1 else first_of rows
+abbrev pub first_violation : List (Bool × ℕ) → Option ℕ
+first_violation [] = None
+first_violation (row ∷ rows) = if row.0 then Some row.1 else first_violation rows
 
 -- whether three rings are in order: r1 <= r2 <= r3
 abbrev pub are_in_order : ℕ → ℕ → ℕ → Bool
@@ -29,12 +29,12 @@ are_in_order r1 r2 r3 = nat_le r1 r2 && nat_le r2 r3
 
 -- Whether the brackets of a segment are in order. If they are not, every reference to the segment
 -- is refused, before any other condition.
-abbrev pub in_order : SdwFields → Bool
-in_order s = are_in_order s.r1 s.r2 s.r3
+abbrev pub has_ordered_brackets : SdwFields → Bool
+has_ordered_brackets s = are_in_order s.r1 s.r2 s.r3
 
 -- the row for brackets that are not in order, followed by more rows
 abbrev pub ordered_rows : SdwFields → List (Bool × ℕ) → List (Bool × ℕ)
-ordered_rows s more = (not (in_order s), illegal_ring_order) ∷ more
+ordered_rows s more = (not (has_ordered_brackets s), illegal_ring_order) ∷ more
 
 -- The rows of a read. A segment needs no R bit to be read by the instructions in it.
 abbrev pub read_rows : SdwFields → ℕ → Bool → List (Bool × ℕ)
@@ -87,14 +87,14 @@ call_rows s trr prr same word =
     )
 
 -- the ring, but at most R2: that in which a segment executes for a caller in this ring
-abbrev pub ring_under : ℕ → ℕ → ℕ
-ring_under r2 ring = if nat_lt r2 ring then r2 else ring
+abbrev pub ring_at_most : ℕ → ℕ → ℕ
+ring_at_most r2 ring = if nat_lt r2 ring then r2 else ring
 
 -- the ring after a call: R2 if the ring of the reference is above it, and otherwise that ring
-abbrev pub ring_called : SdwFields → ℕ → ℕ
-ring_called s trr = ring_under s.r2 trr
+abbrev pub ring_after_call : SdwFields → ℕ → ℕ
+ring_after_call s trr = ring_at_most s.r2 trr
 
 -- the value if no row refuses the reference, and otherwise the access violation
-abbrev pub allowed : {A : Type 0} → A → Option ℕ → Result A Acv
-allowed a None = Ok a
-allowed a (Some n) = Err record { 0 = n }
+abbrev pub unless_violation : {A : Type 0} → A → Option ℕ → Result A Acv
+unless_violation a None = Ok a
+unless_violation a (Some n) = Err record { 0 = n }

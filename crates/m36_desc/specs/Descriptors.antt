@@ -90,8 +90,8 @@ abbrev pub tag_of : ℕ → ℕ
 tag_of w = field w 30 6
 
 -- the odd word of an ITS or ITP pair with these fields
-abbrev pub odd_of : ℕ → ℕ → ℕ → ℕ
-odd_of number bit tag = number * 2 ^ 18 + bit * 2 ^ 9 + tag
+abbrev pub odd_word_of_pair : ℕ → ℕ → ℕ → ℕ
+odd_word_of_pair number bit tag = number * 2 ^ 18 + bit * 2 ^ 9 + tag
 
 -- the tag of ITS, in bits 30 to 35 of the even word of an ITS pair (indirect to segment)
 abbrev pub its_tag : ℕ
@@ -122,7 +122,7 @@ its_even p = p.seg * 2 ^ 18 + p.ring * 2 ^ 15 + its_tag
 
 -- the odd word of an ITS pair
 abbrev pub its_odd : ItsFields → ℕ
-its_odd p = odd_of p.word p.bit p.tag
+its_odd p = odd_word_of_pair p.word p.bit p.tag
 
 -- the ITS pair of these fields
 abbrev pub its_pair : ItsFields → Pair
@@ -148,7 +148,7 @@ itp_even p = p.pr * 2 ^ 33 + itp_tag
 
 -- the odd word of an ITP pair
 abbrev pub itp_odd : ItpFields → ℕ
-itp_odd p = odd_of p.word p.bit p.tag
+itp_odd p = odd_word_of_pair p.word p.bit p.tag
 
 -- Pointer register. It is stored as the ITS pair of its fields with tag 0 in the odd word.
 abbrev pub ptr_of : ℕ → ℕ → PtrFields
@@ -178,8 +178,8 @@ abbrev pub unpacked_segment : ℕ → ℕ
 unpacked_segment seg = if seg == 2 ^ 12 - 1 then 2 ^ 15 - 1 else seg
 
 -- the pointer that a packed pointer encodes, in a given ring, since it has no ring of its own
-abbrev pub packed_of : ℕ → ℕ → PtrFields
-packed_of w ring =
+abbrev pub pointer_of_packed : ℕ → ℕ → PtrFields
+pointer_of_packed w ring =
     record {
       seg = unpacked_segment (field w 6 12);
       ring = ring;

@@ -3,7 +3,7 @@ use Rattle.std.specs.Prelude.{ℕ, ◌^◌, ◌<◌}
 use Rattle.m36_desc.specs.Fields.{SdwFields, PtwFields, DbrFields, PtrFields, ItsFields, ItpFields}
 use Rattle.m36_desc.specs.Descriptors.{sdw_of, sdw_even, sdw_odd, ptw_of, ptw_word, dbr_of}
 use Rattle.m36_desc.specs.Descriptors.{dbr_even, dbr_odd, ptr_of, ptr_even, ptr_odd, its_of}
-use Rattle.m36_desc.specs.Descriptors.{its_even, its_odd, itp_of, itp_even, itp_odd, packed_of}
+use Rattle.m36_desc.specs.Descriptors.{its_even, its_odd, itp_of, itp_even, itp_odd, pointer_of_packed}
 
 -- the fields of an SDW are within their widths
 pub record IsSdw (s : SdwFields) : Type 0 where
@@ -74,7 +74,7 @@ ItpFits = (even odd : ℕ) → IsItp (itp_of even odd)
 
 -- as `SdwFits`, for a pointer register that is read from a packed pointer, which has no ring
 abbrev pub PackedFits : Type 0
-PackedFits = (w ring : ℕ) → ring < 2 ^ 3 → IsPtr (packed_of w ring)
+PackedFits = (w ring : ℕ) → ring < 2 ^ 3 → IsPtr (pointer_of_packed w ring)
 
 -- both numbers are below 2^36, as words are
 pub record AreWords (first second : ℕ) : Type 0 where

@@ -1,8 +1,8 @@
 //! The rights that a segment descriptor gives to a reference.
 
 ghost use Rattle.std.specs.Prelude.{◌≡◌, ◌<◌, ◌^◌, IfOk, []};
-ghost use Rattle.m36_desc.specs.Access.{first_of, allowed, ordered_rows, read_rows, write_rows};
-ghost use Rattle.m36_desc.specs.Access.{fetch_rows, transfer_rows, call_rows, ring_called};
+ghost use Rattle.m36_desc.specs.Access.{first_violation, unless_violation, ordered_rows, read_rows, write_rows};
+ghost use Rattle.m36_desc.specs.Access.{fetch_rows, transfer_rows, call_rows, ring_after_call};
 
 use crate::sdw::Sdw;
 
@@ -14,9 +14,9 @@ pub struct Acv(pub u8);
 /// processor executes; it needs no R bit to read itself.
 #[inline(always)]
 pub fn may_read(s: &Sdw, trr: u8, same: bool) -> Result<(), Acv>
-    ensures { result ≡ allowed tt (first_of (read_rows s.now trr same)) }
+    ensures { result ≡ unless_violation tt (first_violation (read_rows s.now trr same)) }
 {
-    brackets_in_order(s)?;
+    check_bracket_order(s)?;
     if s.r2 < trr {
         return Err(Acv(3));
     }
@@ -29,9 +29,9 @@ pub fn may_read(s: &Sdw, trr: u8, same: bool) -> Result<(), Acv>
 /// Checks that a word may be written in ring `trr`.
 #[inline(always)]
 pub fn may_write(s: &Sdw, trr: u8) -> Result<(), Acv>
-    ensures { result ≡ allowed tt (first_of (write_rows s.now trr)) }
+    ensures { result ≡ unless_violation tt (first_violation (write_rows s.now trr)) }
 {
-    brackets_in_order(s)?;
+    check_bracket_order(s)?;
     if s.r1 < trr {
         return Err(Acv(5));
     }
@@ -44,9 +44,9 @@ pub fn may_write(s: &Sdw, trr: u8) -> Result<(), Acv>
 /// Checks that an instruction may be fetched in ring `prr`.
 #[inline(always)]
 pub fn may_fetch(s: &Sdw, prr: u8) -> Result<(), Acv>
-    ensures { result ≡ allowed tt (first_of (fetch_rows s.now prr)) }
+    ensures { result ≡ unless_violation tt (first_violation (fetch_rows s.now prr)) }
 {
-    brackets_in_order(s)?;
+    check_bracket_order(s)?;
     if prr < s.r1 || s.r2 < prr {
         return Err(Acv(1));
     }
@@ -60,7 +60,7 @@ pub fn may_fetch(s: &Sdw, prr: u8) -> Result<(), Acv>
 /// of execution; a transfer must not change the ring.
 #[inline(always)]
 pub fn may_transfer(s: &Sdw, trr: u8, prr: u8) -> Result<(), Acv>
-    ensures { result ≡ allowed tt (first_of (transfer_rows s.now trr prr)) }
+    ensures { result ≡ unless_violation tt (first_violation (transfer_rows s.now trr prr)) }
 {
     may_fetch(s, trr)?;
     if trr != prr {
@@ -75,10 +75,10 @@ pub fn may_transfer(s: &Sdw, trr: u8, prr: u8) -> Result<(), Acv>
 #[inline]
 pub fn call_ring(s: &Sdw, trr: u8, prr: u8, same: bool, word: u32) -> Result<u8, Acv>
     ensures answer { result
-        ≡ allowed (ring_called s.now trr) (first_of (call_rows s.now trr prr same word)) }
+        ≡ unless_violation (ring_after_call s.now trr) (first_violation (call_rows s.now trr prr same word)) }
     ensures ring { IfOk result (λ ring. ring < 2 ^ 3) }
 {
-    brackets_in_order(s)?;
+    check_bracket_order(s)?;
     if !s.executable {
         return Err(Acv(2));
     }
@@ -99,8 +99,8 @@ pub fn call_ring(s: &Sdw, trr: u8, prr: u8, same: bool, word: u32) -> Result<u8,
 
 // Checks that R1 <= R2 <= R3. If not, each reference to the segment is refused, whatever its kind.
 #[inline(always)]
-fn brackets_in_order(s: &Sdw) -> Result<(), Acv>
-    ensures { result ≡ allowed tt (first_of (ordered_rows s.now [])) }
+fn check_bracket_order(s: &Sdw) -> Result<(), Acv>
+    ensures { result ≡ unless_violation tt (first_violation (ordered_rows s.now [])) }
 {
     if s.r1 <= s.r2 && s.r2 <= s.r3 {
         Ok(())

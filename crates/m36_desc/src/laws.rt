@@ -1,7 +1,7 @@
 //! Theorems about all descriptors, stated as the contracts of functions with empty bodies.
 
-ghost use Rattle.m36_desc.specs.RoundTrips.{SdwRoundTrip, PtwComesBack, DbrComesBack, PtrComesBack};
-ghost use Rattle.m36_desc.specs.RoundTrips.{ItsComesBack, ItpComesBack, EvenTags, PackedComesBack};
+ghost use Rattle.m36_desc.specs.RoundTrips.{SdwRoundTrip, PtwRoundTrip, DbrRoundTrip, PtrRoundTrip};
+ghost use Rattle.m36_desc.specs.RoundTrips.{ItsRoundTrip, ItpRoundTrip, EvenTags, PackedRoundTrip};
 ghost use Rattle.m36_desc.specs.Widths.{SdwFits, PtwFits, DbrFits, PtrFits, ItsFits, ItpFits};
 ghost use Rattle.m36_desc.specs.Widths.{PackedFits, SdwWords, PtwWords, DbrWords, PtrWords};
 ghost use Rattle.m36_desc.specs.Widths.{ItsWords, ItpWords};
@@ -11,13 +11,13 @@ ghost use Rattle.m36_desc.specs.Widths.{ItsWords, ItpWords};
 /// - 1. The even word of an ITS or ITP pair has the tag of its kind.
 pub fn descriptor_laws()
     ensures sdw { SdwRoundTrip }
-    ensures ptw { PtwComesBack }
-    ensures dbr { DbrComesBack }
-    ensures ptr { PtrComesBack }
-    ensures its { ItsComesBack }
-    ensures itp { ItpComesBack }
+    ensures ptw { PtwRoundTrip }
+    ensures dbr { DbrRoundTrip }
+    ensures ptr { PtrRoundTrip }
+    ensures its { ItsRoundTrip }
+    ensures itp { ItpRoundTrip }
     ensures tags { EvenTags }
-    ensures packed { PackedComesBack }
+    ensures packed { PackedRoundTrip }
 {}
 
 /// Each field that is read from words is below 2 to the power of its width, whatever the words are.

@@ -3,11 +3,11 @@ use Rattle.std.proofs.Common.{ℕ, ◌≡◌, ◌+◌, ◌<◌, ◌≤◌, Bool,
 use Rattle.std.specs.Prelude.{not, count_by}
 use Rattle.std.proofs.lemmas.Bool.{leb-false, not-false}
 use Rattle.std.proofs.lemmas.List.Sums.{sum_by-append, sum_by-cons}
-use Rattle.m36_text.specs.Lines.{first_met, first_reported, last_of, those_read}
+use Rattle.m36_text.specs.Lines.{first_true_case, first_present, last_of, present_values}
 use Rattle.m36_dir.specs.declared.boot_line.BootLine.{BootLine}
 use Rattle.m36_dir.specs.declared.boot_line.BootLine.TheVariants as line
 use Rattle.m36_dir.specs.declared.boot_code.BootCode.TheVariants.{D1, D2, D3, D4, D5}
-use Rattle.m36_dir.specs.BootOrder.{is_segment, is_library, is_in_order_after, is_repeated, names_no_directory, has_wrong_brackets, is_too_many, code_of, code_at_end, codes_from, names_at_end, names_with, has_directory}
+use Rattle.m36_dir.specs.BootOrder.{is_segment, is_library, is_in_order_after, is_repeated, names_no_directory, has_wrong_brackets, is_too_many, code_of, code_at_end, codes_from, name_count_at_end, name_count_after, has_directory}
 use Rattle.m36_dir.specs.Catalog.{names_after}
 
 -- ---- none has a code
@@ -16,14 +16,14 @@ abbrev pub Clean : List BootLine → List BootLine → List BootLine → Type 0
 Clean all above [] = code_at_end (last_of above) ≡ None
 Clean all above (l ∷ lines) = (code_of all above l ≡ None) × Clean all (above ++ l ∷ []) lines
 
-told_none : {A : Type 0} (n : ℕ) (c : Option A) (cs : List (Option A)) → first_reported n (c ∷ cs) ≡ None
-    → (c ≡ None) × (first_reported (n + 1) cs ≡ None)
-unfolding first_reported
+told_none : {A : Type 0} (n : ℕ) (c : Option A) (cs : List (Option A)) → first_present n (c ∷ cs) ≡ None
+    → (c ≡ None) × (first_present (n + 1) cs ≡ None)
+unfolding first_present
 told_none n None cs e = (refl, e)
 told_none n (Some x) cs e = absurd (cc)
 
 pub clean_from : (all above : List BootLine) (given : List (Option BootLine)) (n : ℕ)
-    → first_reported n (codes_from all above given) ≡ None → Clean all above (those_read given)
+    → first_present n (codes_from all above given) ≡ None → Clean all above (present_values given)
 unfolding codes_from
 clean_from all above [] n e = (told_none n (code_at_end (last_of above)) [] e).0
 clean_from all above (None ∷ more) n e = let h = told_none n (Some D1) (codes_from all above more) e in absurd (cc)
@@ -40,8 +40,8 @@ pub record Passed (follows twice astray wrong many : Bool) : Type 0 where
   pub brackets : wrong ≡ false
   pub few : many ≡ false
 
-met_none : (a b c d e : Bool) → first_met ((not a, D1) ∷ (b, D2) ∷ (c, D3) ∷ (d, D4) ∷ (e, D5) ∷ []) ≡ None → Passed a b c d e
-unfolding first_met
+met_none : (a b c d e : Bool) → first_true_case ((not a, D1) ∷ (b, D2) ∷ (c, D3) ∷ (d, D4) ∷ (e, D5) ∷ []) ≡ None → Passed a b c d e
+unfolding first_true_case
 met_none false b c d e h = absurd (cc)
 met_none true true c d e h = absurd (cc)
 met_none true false true d e h = absurd (cc)
@@ -111,19 +111,19 @@ libraries_counted lines clean =
 
 -- ---- names
 
-pub names_snoc : (n : ℕ) (above : List BootLine) (l : BootLine) → names_at_end n (above ++ l ∷ []) ≡ names_with (names_at_end n above) l
-unfolding names_at_end
+pub names_snoc : (n : ℕ) (above : List BootLine) (l : BootLine) → name_count_at_end n (above ++ l ∷ []) ≡ name_count_after (name_count_at_end n above) l
+unfolding name_count_at_end
 names_snoc n [] l = refl
-names_snoc n (x ∷ above) l = names_snoc (names_with n x) above l
+names_snoc n (x ∷ above) l = names_snoc (name_count_after n x) above l
 
-pub names_few : (all above lines : List BootLine) → Clean all above lines → names_at_end 0 above ≤ 7
-    → names_at_end 0 above + length (names_after lines) ≤ 7
+pub names_few : (all above lines : List BootLine) → Clean all above lines → name_count_at_end 0 above ≤ 7
+    → name_count_at_end 0 above + length (names_after lines) ≤ 7
 unfolding names_after
 names_few all above [] clean few = omega arith
 names_few all above (line.Name name ∷ lines) clean few =
-    let room : names_at_end 0 above < 7 = leb-false 7 (names_at_end 0 above) (passed all above (line.Name name) clean.0).few in
+    let room : name_count_at_end 0 above < 7 = leb-false 7 (name_count_at_end 0 above) (passed all above (line.Name name) clean.0).few in
     let e = names_snoc 0 above (line.Name name) in
-    let here : names_at_end 0 (above ++ line.Name name ∷ []) ≤ 7 = omega (arith, e, room) in
+    let here : name_count_at_end 0 (above ++ line.Name name ∷ []) ≤ 7 = omega (arith, e, room) in
     let more = names_few all (above ++ line.Name name ∷ []) lines clean.1 here in
     omega (arith, more, e)
 names_few all above (line.Frames n ∷ lines) clean few = omega arith

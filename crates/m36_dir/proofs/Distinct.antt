@@ -5,7 +5,7 @@ use Rattle.std.proofs.lemmas.Bool.{and_parts, and_from, not-true, or_parts, or_f
 use Rattle.std.proofs.lemmas.Cmp.{nat_list_eq_equiv}
 use Rattle.std.proofs.lemmas.List.Folds.{list_any-append}
 use Rattle.m36_text.specs.Once.{are_distinct_by}
-use Rattle.m36_dir.specs.BootOrder.{Entry, is_entry}
+use Rattle.m36_dir.specs.BootOrder.{Entry, is_same_entry}
 
 -- one more at the end, which is the same as none of them
 pub distinct_more : {A : Type 0} (same : A → A → Bool) → ((x y : A) → same x y ≡ same y x) → (xs : List A) (x : A)
@@ -22,5 +22,5 @@ distinct_more same symm (first ∷ xs) x once none =
     (distinct_more same symm xs x parts.1 others.1)
 
 -- equality of names in directories is symmetric
-pub entry_symm : (a b : Entry) → is_entry a b ≡ is_entry b a
+pub entry_symm : (a b : Entry) → is_same_entry a b ≡ is_same_entry b a
 entry_symm a b = λ i. nat_list_eq_equiv.symm b.dir a.dir i && nat_list_eq_equiv.symm b.name a.name i

@@ -11,8 +11,8 @@ use Rattle.m36_dir.specs.declared.boot_code.BootCode.{BootCode}
 use Rattle.m36_dir.specs.declared.boot_line.BootLine.{BootLine}
 use Rattle.m36_dir.specs.declared.boot_line.BootLine.TheVariants as line
 use Rattle.m36_dir.specs.Fields.{SegmentLineFields}
-use Rattle.m36_dir.specs.BootOrder.{is_segment, is_library, is_in_directory, has_directory, brackets_in_order, is_no_gate, code_of, parsed_lines, all_lines, first_code}
-use Rattle.m36_dir.specs.Catalog.{CatalogFields, with_directory, with_directory_of, directories_from, number_in, names_after, segment_with, segments_in, libraries_in, frames_of, work_of, catalog_in, catalog_by, catalog_of}
+use Rattle.m36_dir.specs.BootOrder.{is_segment, is_library, is_in_directory, has_directory, brackets_in_order, is_no_gate, code_of, parsed_lines, well_formed_lines, first_code}
+use Rattle.m36_dir.specs.Catalog.{CatalogFields, with_directory, with_directory_of, directories_from, directory_number_in, names_after, segment_with, segments_in, libraries_in, frames_of, working_directory_of, catalog_in, catalog_or_fault, catalog_of}
 use Rattle.m36_dir.specs.IsCatalog.{IsSegment, IsCatalog, ReadsIntoCatalogs}
 use Rattle.m36_dir.proofs.CleanLines.{Clean, clean_from, passed, segments_counted, libraries_counted, names_snoc, names_few, count_cons, Begins, clean_begins}
 use Rattle.m36_dir.proofs.LineBounds.{EachLine, each_line}
@@ -119,17 +119,17 @@ place_inside p (x ∷ xs) e =
     let here = place_if (p x) (position_or_len p xs) (length xs) (λ no. place_inside p xs (or_second (p x) (list_any p xs) e no)) in
     omega (arith, here)
 
-pub number_is : (dirs : List (List ℕ)) (dir : List ℕ) → list_any (is_text dir) dirs ≡ true → number_in dirs dir ≡ position_or_len (is_text dir) dirs
-unfolding number_in
+pub number_is : (dirs : List (List ℕ)) (dir : List ℕ) → list_any (is_text dir) dirs ≡ true → directory_number_in dirs dir ≡ position_or_len (is_text dir) dirs
+unfolding directory_number_in
 number_is dirs dir has =
     ap (λ b. unwrap_or (cond b (Some (position_or_len (is_text dir) dirs)) None) 0)
     (lt-ltb (position_or_len (is_text dir) dirs) (length dirs) (place_inside (is_text dir) dirs has))
 
-number_inside : (dirs : List (List ℕ)) (dir : List ℕ) → list_any (is_text dir) dirs ≡ true → number_in dirs dir < length dirs
+number_inside : (dirs : List (List ℕ)) (dir : List ℕ) → list_any (is_text dir) dirs ≡ true → directory_number_in dirs dir < length dirs
 number_inside dirs dir has = omega (arith, number_is dirs dir has, place_inside (is_text dir) dirs has)
 
 directory_inside : (lines : List BootLine) (dir : List ℕ) → has_directory lines dir ≡ true
-    → number_in (directories_from [] lines) dir < length (directories_from [] lines)
+    → directory_number_in (directories_from [] lines) dir < length (directories_from [] lines)
 unfolding has_directory
 directory_inside lines dir e = number_inside (directories_from [] lines) dir (has_in dir [] lines e)
 
@@ -231,12 +231,12 @@ libraries_length dirs (line.Start start ∷ lines) =
 -- ---- libraries
 
 each_library : (all above lines : List BootLine) (dirs : List (List ℕ)) → Clean all above lines
-    → ((dir : List ℕ) → has_directory all dir ≡ true → number_in dirs dir < length dirs)
+    → ((dir : List ℕ) → has_directory all dir ≡ true → directory_number_in dirs dir < length dirs)
     → All (λ d. d < length dirs) (libraries_in dirs lines)
 unfolding libraries_in
 each_library all above [] dirs clean inside = All-nil (λ d. d < length dirs)
 each_library all above (line.Library dir ∷ lines) dirs clean inside =
-    All-cons (λ d. d < length dirs) (number_in dirs dir) (libraries_in dirs lines)
+    All-cons (λ d. d < length dirs) (directory_number_in dirs dir) (libraries_in dirs lines)
     (inside dir (not-false (has_directory all dir) (passed all above (line.Library dir) clean.0).directory))
     (each_library all (above ++ line.Library dir ∷ []) lines dirs clean.1 inside)
 each_library all above (line.Frames n ∷ lines) dirs clean inside = each_library all (above ++ line.Frames n ∷ []) lines dirs clean.1 inside
@@ -287,9 +287,9 @@ catalog_kept lines clean each =
     let dirs : List (List ℕ) = directories_from [] lines in
     let first : EachLine (line.Frames begin.frames ∷ line.Work begin.dir ∷ begin.rest) = subst EachLine begin.are each in
     let frames : frames_of (slice_get lines 0) ≡ begin.frames = ap (λ (ls : List BootLine). frames_of (slice_get ls 0)) begin.are in
-    let work : work_of (slice_get lines 1) ≡ begin.dir = ap (λ (ls : List BootLine). work_of (slice_get ls 1)) begin.are in
-    let number : number_in dirs (work_of (slice_get lines 1)) ≡ number_in dirs begin.dir = ap (number_in dirs) work in
-    let inside : number_in dirs begin.dir < length dirs = directory_inside lines begin.dir begin.has in
+    let work : working_directory_of (slice_get lines 1) ≡ begin.dir = ap (λ (ls : List BootLine). working_directory_of (slice_get ls 1)) begin.are in
+    let number : directory_number_in dirs (working_directory_of (slice_get lines 1)) ≡ directory_number_in dirs begin.dir = ap (directory_number_in dirs) work in
+    let inside : directory_number_in dirs begin.dir < length dirs = directory_inside lines begin.dir begin.has in
     let counted : length (segments_in dirs lines) ≡ count_by is_segment lines = segments_length dirs lines in
     let shelves : length (libraries_in dirs lines) ≡ count_by is_library lines = libraries_length dirs lines in
     let few : count_by is_segment lines ≤ 512 = segments_counted lines clean in
@@ -308,22 +308,22 @@ catalog_kept lines clean each =
       each_segment = each_segment lines [] lines dirs clean (each_in [] lines);
     }
 
-pub kept : (text : List ℕ) → first_code text ≡ None → IsCatalog (catalog_in (all_lines text))
-unfolding first_code all_lines parsed_lines
+pub kept : (text : List ℕ) → first_code text ≡ None → IsCatalog (catalog_in (well_formed_lines text))
+unfolding first_code well_formed_lines parsed_lines
 kept text none =
-    catalog_kept (all_lines text) (clean_from (all_lines text) [] (parsed_lines text) 1 none) (each_line (lines_of text))
+    catalog_kept (well_formed_lines text) (clean_from (well_formed_lines text) [] (parsed_lines text) 1 none) (each_line (lines_of text))
 
-pub kept_as : (text : List ℕ) (lines : List BootLine) → lines ≡ all_lines text → first_code text ≡ None → IsCatalog (catalog_in lines)
+pub kept_as : (text : List ℕ) (lines : List BootLine) → lines ≡ well_formed_lines text → first_code text ≡ None → IsCatalog (catalog_in lines)
 kept_as text lines all none =
     let P : List BootLine → Type 0 = λ ls. IsCatalog (catalog_in ls) in
     subst P (sym all) (kept text none)
 
-pub read_by : (told : Option (ℕ × BootCode)) (made c : CatalogFields) → catalog_by told made ≡ Ok c → (told ≡ None) × (made ≡ c)
+pub read_by : (told : Option (ℕ × BootCode)) (made c : CatalogFields) → catalog_or_fault told made ≡ Ok c → (told ≡ None) × (made ≡ c)
 read_by None made c e = (refl, cc)
 read_by (Some first) made c e = absurd (cc)
 
 pub reads_into_catalogs : ReadsIntoCatalogs
 unfolding catalog_of
 reads_into_catalogs text c e =
-    let read = read_by (first_code text) (catalog_in (all_lines text)) c e in
+    let read = read_by (first_code text) (catalog_in (well_formed_lines text)) c e in
     subst IsCatalog read.1 (kept text read.0)

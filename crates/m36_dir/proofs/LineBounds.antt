@@ -5,7 +5,7 @@ use Rattle.std.specs.List.{position}
 use Rattle.std.specs.Result.{result_ok}
 use Rattle.std.proofs.lemmas.Bool.{leb-true}
 use Rattle.m36_text.specs.Texts.{is_text}
-use Rattle.m36_text.specs.Lines.{words_of, those_read}
+use Rattle.m36_text.specs.Lines.{words_of, present_values}
 use Rattle.m36_text.specs.Reading.{number_read, parsed_number, first_non_digit, number_of}
 use Rattle.m36_text.specs.Numbers.{octal_in, decimal_in, at_least}
 use Rattle.m36_text.specs.declared.reading.NumberFault.{NumberFault}
@@ -205,10 +205,10 @@ EachLine [] = Unit {0}
 EachLine (l ∷ lines) = IsLine l × EachLine lines
 
 each_step : (given : Option BootLine) (more : List (Option BootLine)) → ((l : BootLine) → given ≡ Some l → IsLine l)
-    → EachLine (those_read more) → EachLine (those_read (given ∷ more))
+    → EachLine (present_values more) → EachLine (present_values (given ∷ more))
 each_step None more is rest = rest
 each_step (Some l) more is rest = (is l refl, rest)
 
-pub each_line : (texts : List (Option (List ℕ))) → EachLine (those_read (map parsed_line texts))
+pub each_line : (texts : List (Option (List ℕ))) → EachLine (present_values (map parsed_line texts))
 each_line [] = tt
 each_line (text ∷ texts) = each_step (parsed_line text) (map parsed_line texts) (λ l e. given_in text l e) (each_line texts)

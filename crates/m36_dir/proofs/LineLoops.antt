@@ -8,7 +8,7 @@ use Rattle.std.proofs.lemmas.List.Folds.{list_any-append}
 use Rattle.m36_dir.specs.declared.boot_line.BootLine.{BootLine}
 use Rattle.m36_dir.specs.declared.boot_line.BootLine.TheVariants as line
 use Rattle.m36_dir.specs.Fields.{SegmentFields}
-use Rattle.m36_dir.specs.BootOrder.{directory_at_end, directory_after, names_at_end, names_with, entries_from, entries_of_line, is_entry, Entry}
+use Rattle.m36_dir.specs.BootOrder.{directory_at_end, directory_after, name_count_at_end, name_count_after, entries_from, entries_of_line, is_same_entry, Entry}
 use Rattle.m36_dir.specs.Catalog.{directories_from, with_directory_of, names_after, segments_in, segment_of, libraries_in, library_of}
 
 -- A fold over a list, taken up at any step, gives the same result.
@@ -43,62 +43,62 @@ directory_all dir total lines i le so_far =
 
 -- ---- the number of names at the end
 
-names_law : (n : ℕ) (l : BootLine) (lines : List BootLine) → names_at_end n (l ∷ lines) ≡ names_at_end (names_with n l) lines
-unfolding names_at_end
+names_law : (n : ℕ) (l : BootLine) (lines : List BootLine) → name_count_at_end n (l ∷ lines) ≡ name_count_at_end (name_count_after n l) lines
+unfolding name_count_at_end
 names_law n l lines = refl
 
 pub names_more : (n next total : ℕ) (lines : List BootLine) (i : ℕ) (l : BootLine)
-    → i < length lines → l ≡ get_or lines i l → next ≡ names_with n l
-    → names_at_end n (drop i lines) ≡ total → names_at_end next (drop (i + 1) lines) ≡ total
+    → i < length lines → l ≡ get_or lines i l → next ≡ name_count_after n l
+    → name_count_at_end n (drop i lines) ≡ total → name_count_at_end next (drop (i + 1) lines) ≡ total
 names_more n next total lines i l lt is e so_far =
-    gone_on names_at_end names_with names_law n next lines i l total lt is e so_far
+    gone_on name_count_at_end name_count_after names_law n next lines i l total lt is e so_far
 
 pub names_all : (n total : ℕ) (lines : List BootLine) (i : ℕ) → length lines ≤ i
-    → names_at_end n (drop i lines) ≡ total → n ≡ total
-unfolding names_at_end
+    → name_count_at_end n (drop i lines) ≡ total → n ≡ total
+unfolding name_count_at_end
 names_all n total lines i le so_far =
-    sym (at_drop_all (λ (ls : List BootLine). names_at_end n ls) lines i le) ∙ so_far
+    sym (at_drop_all (λ (ls : List BootLine). name_count_at_end n ls) lines i le) ∙ so_far
 
 -- ---- an entry among those that lines put into directories
 
 entry_law : (e : Entry) (dir : List ℕ) (l : BootLine) (lines : List BootLine)
-    → list_any (is_entry e) (entries_from dir (l ∷ lines))
-    ≡ (list_any (is_entry e) (entries_of_line dir l) || list_any (is_entry e) (entries_from (directory_after dir l) lines))
+    → list_any (is_same_entry e) (entries_from dir (l ∷ lines))
+    ≡ (list_any (is_same_entry e) (entries_of_line dir l) || list_any (is_same_entry e) (entries_from (directory_after dir l) lines))
 unfolding entries_from
 entry_law e dir l lines =
-    list_any-append (is_entry e) (entries_of_line dir l) (entries_from (directory_after dir l) lines)
+    list_any-append (is_same_entry e) (entries_of_line dir l) (entries_from (directory_after dir l) lines)
 
 entry_here : (e : Entry) (dir : List ℕ) (lines : List BootLine) (i : ℕ) (l : BootLine)
     → i < length lines → l ≡ get_or lines i l
-    → list_any (is_entry e) (entries_from dir (drop i lines))
-    ≡ (list_any (is_entry e) (entries_of_line dir l) || list_any (is_entry e) (entries_from (directory_after dir l) (drop (i + 1) lines)))
+    → list_any (is_same_entry e) (entries_from dir (drop i lines))
+    ≡ (list_any (is_same_entry e) (entries_of_line dir l) || list_any (is_same_entry e) (entries_from (directory_after dir l) (drop (i + 1) lines)))
 entry_here e dir lines i l lt is =
-    at_drop_more (λ (ls : List BootLine). list_any (is_entry e) (entries_from dir ls)) lines i l lt
-    ∙ ap (λ (y : BootLine). list_any (is_entry e) (entries_from dir (y ∷ drop (i + 1) lines))) (sym is)
+    at_drop_more (λ (ls : List BootLine). list_any (is_same_entry e) (entries_from dir ls)) lines i l lt
+    ∙ ap (λ (y : BootLine). list_any (is_same_entry e) (entries_from dir (y ∷ drop (i + 1) lines))) (sym is)
     ∙ entry_law e dir l (drop (i + 1) lines)
 
 pub entry_found : (e : Entry) (dir : List ℕ) (total : Bool) (lines : List BootLine) (i : ℕ) (l : BootLine)
-    → i < length lines → l ≡ get_or lines i l → true ≡ list_any (is_entry e) (entries_of_line dir l)
-    → list_any (is_entry e) (entries_from dir (drop i lines)) ≡ total → true ≡ total
+    → i < length lines → l ≡ get_or lines i l → true ≡ list_any (is_same_entry e) (entries_of_line dir l)
+    → list_any (is_same_entry e) (entries_from dir (drop i lines)) ≡ total → true ≡ total
 entry_found e dir total lines i l lt is puts so_far =
-    ap (λ (b : Bool). (b || list_any (is_entry e) (entries_from (directory_after dir l) (drop (i + 1) lines)))) puts
+    ap (λ (b : Bool). (b || list_any (is_same_entry e) (entries_from (directory_after dir l) (drop (i + 1) lines)))) puts
     ∙ sym (entry_here e dir lines i l lt is) ∙ so_far
 
 pub entry_more : (e : Entry) (dir next : List ℕ) (total : Bool) (lines : List BootLine) (i : ℕ) (l : BootLine)
-    → i < length lines → l ≡ get_or lines i l → false ≡ list_any (is_entry e) (entries_of_line dir l)
+    → i < length lines → l ≡ get_or lines i l → false ≡ list_any (is_same_entry e) (entries_of_line dir l)
     → next ≡ directory_after dir l
-    → list_any (is_entry e) (entries_from dir (drop i lines)) ≡ total
-    → list_any (is_entry e) (entries_from next (drop (i + 1) lines)) ≡ total
+    → list_any (is_same_entry e) (entries_from dir (drop i lines)) ≡ total
+    → list_any (is_same_entry e) (entries_from next (drop (i + 1) lines)) ≡ total
 entry_more e dir next total lines i l lt is puts behind so_far =
-    ap (λ (d : List ℕ). list_any (is_entry e) (entries_from d (drop (i + 1) lines))) behind
-    ∙ ap (λ (b : Bool). (b || list_any (is_entry e) (entries_from (directory_after dir l) (drop (i + 1) lines)))) puts
+    ap (λ (d : List ℕ). list_any (is_same_entry e) (entries_from d (drop (i + 1) lines))) behind
+    ∙ ap (λ (b : Bool). (b || list_any (is_same_entry e) (entries_from (directory_after dir l) (drop (i + 1) lines)))) puts
     ∙ sym (entry_here e dir lines i l lt is) ∙ so_far
 
 pub entry_all : (e : Entry) (dir : List ℕ) (total : Bool) (lines : List BootLine) (i : ℕ) → length lines ≤ i
-    → list_any (is_entry e) (entries_from dir (drop i lines)) ≡ total → false ≡ total
+    → list_any (is_same_entry e) (entries_from dir (drop i lines)) ≡ total → false ≡ total
 unfolding entries_from
 entry_all e dir total lines i le so_far =
-    sym (at_drop_all (λ (ls : List BootLine). list_any (is_entry e) (entries_from dir ls)) lines i le) ∙ so_far
+    sym (at_drop_all (λ (ls : List BootLine). list_any (is_same_entry e) (entries_from dir ls)) lines i le) ∙ so_far
 
 -- ---- directories
 

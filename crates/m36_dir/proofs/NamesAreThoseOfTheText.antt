@@ -7,8 +7,8 @@ use Rattle.m36_text.specs.Texts.{is_text}
 use Rattle.m36_text.specs.Lines.{last_of}
 use Rattle.m36_dir.specs.declared.boot_line.BootLine.{BootLine}
 use Rattle.m36_dir.specs.declared.boot_line.BootLine.TheVariants as line
-use Rattle.m36_dir.specs.BootOrder.{Entry, entry, entries_from, is_segment_or_name, is_in_order_after, parsed_lines, all_lines, first_code}
-use Rattle.m36_dir.specs.Catalog.{CatalogFields, directories_from, number_in, names_after, segments_in, catalog_in, catalog_of}
+use Rattle.m36_dir.specs.BootOrder.{Entry, entry, entries_from, is_segment_or_name, is_in_order_after, parsed_lines, well_formed_lines, first_code}
+use Rattle.m36_dir.specs.Catalog.{CatalogFields, directories_from, directory_number_in, names_after, segments_in, catalog_in, catalog_of}
 use Rattle.m36_dir.specs.IsCatalog.{entries_in, NamesAreThoseOfTheText}
 use Rattle.m36_dir.proofs.CleanLines.{Clean, clean_from, passed, clean_begins}
 use Rattle.m36_dir.proofs.Kept.{same_text, EachInDirectories, each_in, or_second, number_is, read_by}
@@ -27,7 +27,7 @@ first_same (d ∷ dirs) dir e =
     (λ other. first_same dirs dir (or_second (is_text dir d) (list_any (is_text dir) dirs) e other))
 
 own_directory : (dirs : List (List ℕ)) (dir : List ℕ) → list_any (is_text dir) dirs ≡ true
-    → unwrap_or (slice_get dirs (number_in dirs dir)) [] ≡ dir
+    → unwrap_or (slice_get dirs (directory_number_in dirs dir)) [] ≡ dir
 own_directory dirs dir has =
     ap (λ (n : ℕ). unwrap_or (slice_get dirs n) []) (number_is dirs dir has)
     ∙ ap (λ (o : Option (List ℕ)). unwrap_or o []) (sym (find_at (is_text dir) dirs))
@@ -102,15 +102,15 @@ names_of_lines lines clean =
     ∙ each_name lines [] lines dirs [] clean (each_in [] lines)
 
 abbrev StandIn : List ℕ → CatalogFields → Type 0
-StandIn text c = entries_in c.directories c.segments ≡ entries_from [] (all_lines text)
+StandIn text c = entries_in c.directories c.segments ≡ entries_from [] (well_formed_lines text)
 
-names_of_text : (text : List ℕ) → first_code text ≡ None → StandIn text (catalog_in (all_lines text))
-unfolding first_code all_lines parsed_lines catalog_in
+names_of_text : (text : List ℕ) → first_code text ≡ None → StandIn text (catalog_in (well_formed_lines text))
+unfolding first_code well_formed_lines parsed_lines catalog_in
 names_of_text text none =
-    names_of_lines (all_lines text) (clean_from (all_lines text) [] (parsed_lines text) 1 none)
+    names_of_lines (well_formed_lines text) (clean_from (well_formed_lines text) [] (parsed_lines text) 1 none)
 
 pub names_stand : NamesAreThoseOfTheText
 unfolding catalog_of
 names_stand text c e =
-    let read = read_by (first_code text) (catalog_in (all_lines text)) c e in
+    let read = read_by (first_code text) (catalog_in (well_formed_lines text)) c e in
     subst (StandIn text) read.1 (names_of_text text read.0)

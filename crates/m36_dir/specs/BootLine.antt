@@ -15,7 +15,7 @@ use Rattle.std.specs.Prelude.{take, drop, codes, Option, Some, None, option_map}
 use Rattle.std.specs.List.{position}
 use Rattle.m36_text.specs.Texts.{is_text, is_name_character, is_run_of, is_file_name}
 use Rattle.m36_text.specs.Numbers.{octal_in, decimal_in}
-use Rattle.m36_text.specs.Lines.{by_words, by_first_word}
+use Rattle.m36_text.specs.Lines.{line_meaning, words_meaning}
 use Rattle.m36_dir.specs.declared.segment.SegKind.{SegKind}
 use Rattle.m36_dir.specs.declared.segment.SegKind.TheVariants.{Object, Gate, Plain}
 use Rattle.m36_dir.specs.declared.segment.Mode.{Mode}
@@ -60,25 +60,25 @@ pub record StrippedLetter : Type 0 where
   pub rest : List ℕ
 
 -- the letters without this one at the beginning, and whether it was there
-abbrev pub taken : ℕ → List ℕ → StrippedLetter
-taken letter [] = record { stands = false; rest = [] }
-taken letter (c ∷ letters) =
+abbrev pub strip_letter : ℕ → List ℕ → StrippedLetter
+strip_letter letter [] = record { stands = false; rest = [] }
+strip_letter letter (c ∷ letters) =
     if c == letter then record { stands = true; rest = letters }
     else record { stands = false; rest = c ∷ letters }
 
 -- the mode, if no letter is left
-abbrev pub whole : Mode → List ℕ → Option Mode
-whole mode [] = Some mode
-whole mode (c ∷ letters) = None
+abbrev pub mode_if_no_letters : Mode → List ℕ → Option Mode
+mode_if_no_letters mode [] = Some mode
+mode_if_no_letters mode (c ∷ letters) = None
 
 -- The mode that letters spell: some of r, e, w and p, in this order.
 abbrev pub mode_of_letters : List ℕ → Option Mode
 mode_of_letters letters =
-    let r = taken 114 letters in
-    let e = taken 101 r.rest in
-    let w = taken 119 e.rest in
-    let p = taken 112 w.rest in
-    whole (record {
+    let r = strip_letter 114 letters in
+    let e = strip_letter 101 r.rest in
+    let w = strip_letter 119 e.rest in
+    let p = strip_letter 112 w.rest in
+    mode_if_no_letters (record {
       readable = r.stands;
       executable = e.stands;
       writable = w.stands;
@@ -188,8 +188,8 @@ line_named word given =
 
 -- the line with these words; None if it has no form
 abbrev pub line_of_words : List (List ℕ) → Option BootLine
-line_of_words words = by_first_word line_named words
+line_of_words words = words_meaning line_named words
 
 -- a line parsed by itself; None if it has no form or lacks its line feed
 unfoldable pub parsed_line : Option (List ℕ) → Option BootLine
-parsed_line line = by_words line_of_words None line
+parsed_line line = line_meaning line_of_words None line

@@ -14,7 +14,7 @@ use Rattle.std.specs.Prelude.{if◌then◌else◌, List, [], ◌∷◌, ◌++◌
 use Rattle.std.specs.Prelude.{map, Option, Some, None, Result, Ok, Err}
 use Rattle.std.specs.List.{list_any}
 use Rattle.m36_text.specs.Texts.{is_text}
-use Rattle.m36_text.specs.Lines.{lines_of, those_read, last_of, first_met, first_reported}
+use Rattle.m36_text.specs.Lines.{lines_of, present_values, last_of, first_true_case, first_present}
 use Rattle.m36_desc.specs.Access.{are_in_order}
 use Rattle.m36_dir.specs.declared.segment.SegKind.{SegKind}
 use Rattle.m36_dir.specs.declared.segment.SegKind.TheVariants.{Gate}
@@ -88,8 +88,8 @@ abbrev pub entry : List ℕ → List ℕ → Entry
 entry dir name = record { dir = dir; name = name }
 
 -- two entries have the same directory and name
-abbrev pub is_entry : Entry → Entry → Bool
-is_entry a b = is_text a.dir b.dir && is_text a.name b.name
+abbrev pub is_same_entry : Entry → Entry → Bool
+is_same_entry a b = is_text a.dir b.dir && is_text a.name b.name
 
 -- the directory of the last segment line, to which a further name belongs: after one more line, if
 -- `dir` was that before it
@@ -116,7 +116,7 @@ entries_from dir (next ∷ lines) =
 
 -- whether lines put a name into a directory
 unfoldable pub has_entry : List BootLine → List ℕ → List ℕ → Bool
-has_entry lines dir name = list_any (is_entry (entry dir name)) (entries_from [] lines)
+has_entry lines dir name = list_any (is_same_entry (entry dir name)) (entries_from [] lines)
 
 -- whether a line puts a name into a directory that has it already
 abbrev pub is_repeated : List BootLine → BootLine → Bool
@@ -132,9 +132,9 @@ is_in_directory dir (line.Segment given) = is_text dir given.dir
 is_in_directory dir _ = false
 
 -- whether a line has a form and puts a segment into a directory
-abbrev pub is_given_in_directory : List ℕ → Option BootLine → Bool
-is_given_in_directory dir (Some next) = is_in_directory dir next
-is_given_in_directory dir None = false
+abbrev pub is_parsed_line_in_directory : List ℕ → Option BootLine → Bool
+is_parsed_line_in_directory dir (Some next) = is_in_directory dir next
+is_parsed_line_in_directory dir None = false
 
 -- whether lines put a segment into a directory
 unfoldable pub has_directory : List BootLine → List ℕ → Bool
@@ -167,14 +167,14 @@ has_wrong_brackets _ = false
 -- ---- counts: D5
 
 -- the number of `name` lines at the end of lines after one more line, if there were n before it
-abbrev pub names_with : ℕ → BootLine → ℕ
-names_with n (line.Name name) = n + 1
-names_with n _ = 0
+abbrev pub name_count_after : ℕ → BootLine → ℕ
+name_count_after n (line.Name name) = n + 1
+name_count_after n _ = 0
 
 -- the number of `name` lines at the end of these lines, if n `name` lines are directly above them
-unfoldable pub names_at_end : ℕ → List BootLine → ℕ
-names_at_end n [] = n
-names_at_end n (next ∷ lines) = names_at_end (names_with n next) lines
+unfoldable pub name_count_at_end : ℕ → List BootLine → ℕ
+name_count_at_end n [] = n
+name_count_at_end n (next ∷ lines) = name_count_at_end (name_count_after n next) lines
 
 -- the maximum number of segments
 abbrev pub most_segments : ℕ
@@ -192,7 +192,7 @@ most_libraries = 16
 -- counted for each segment
 abbrev pub is_too_many : List BootLine → BootLine → Bool
 is_too_many above (line.Segment given) = nat_le most_segments (count_by is_segment above)
-is_too_many above (line.Name name) = nat_le (most_names - 1) (names_at_end 0 above)
+is_too_many above (line.Name name) = nat_le (most_names - 1) (name_count_at_end 0 above)
 is_too_many above (line.Library dir) = nat_le most_libraries (count_by is_library above)
 is_too_many above _ = false
 
@@ -201,7 +201,7 @@ is_too_many above _ = false
 -- The code of a line, by all lines of the text that are of a form (for D3), and by the lines above.
 unfoldable pub code_of : List BootLine → List BootLine → BootLine → Option BootCode
 code_of all above next =
-    first_met (
+    first_true_case (
     (not (is_in_order_after (last_of above) next), D1)
     ∷ (is_repeated above next, D2)
     ∷ (names_no_directory all next, D3)
@@ -211,9 +211,9 @@ code_of all above next =
     )
 
 -- the code of a line: D1 if it has no form
-abbrev pub code_given : List BootLine → List BootLine → Option BootLine → Option BootCode
-code_given all above None = Some D1
-code_given all above (Some next) = code_of all above next
+abbrev pub code_of_parsed_line : List BootLine → List BootLine → Option BootLine → Option BootCode
+code_of_parsed_line all above None = Some D1
+code_of_parsed_line all above (Some next) = code_of all above next
 
 -- the lines above, with one more, if it has a form
 abbrev pub with_line : List BootLine → Option BootLine → List BootLine
@@ -238,14 +238,14 @@ code_of_rest above (c ∷ rest) = Some D1
 abbrev pub ChecksLine : List BootLine → List BootLine → Option BootLine → Result BootLine BootCode
     → Type 0
 ChecksLine all above given (Ok next) = (given ≡ Some next) × (code_of all above next ≡ None)
-ChecksLine all above given (Err code) = code_given all above given ≡ Some code
+ChecksLine all above given (Err code) = code_of_parsed_line all above given ≡ Some code
 
 -- the code of each line, if it has one, and at last that of the end of the text
 unfoldable pub codes_from : List BootLine → List BootLine → List (Option BootLine)
     → List (Option BootCode)
 codes_from all above [] = code_at_end (last_of above) ∷ []
 codes_from all above (next ∷ lines) =
-    code_given all above next ∷ codes_from all (with_line above next) lines
+    code_of_parsed_line all above next ∷ codes_from all (with_line above next) lines
 
 -- ---- the text
 
@@ -254,9 +254,9 @@ unfoldable pub parsed_lines : List ℕ → List (Option BootLine)
 parsed_lines text = map parsed_line (lines_of text)
 
 -- the lines that have a form
-unfoldable pub all_lines : List ℕ → List BootLine
-all_lines text = those_read (parsed_lines text)
+unfoldable pub well_formed_lines : List ℕ → List BootLine
+well_formed_lines text = present_values (parsed_lines text)
 
 -- the first line that has a code, counted from 1, with its code
 unfoldable pub first_code : List ℕ → Option (ℕ × BootCode)
-first_code text = first_reported 1 (codes_from (all_lines text) [] (parsed_lines text))
+first_code text = first_present 1 (codes_from (well_formed_lines text) [] (parsed_lines text))

@@ -4,8 +4,8 @@ use Rattle.std.specs.Prelude.{position, slice_get, slice_set, Option, Some, unwr
 use Rattle.std.specs.Prelude.{Ok, Err, IfSome}
 use Rattle.std.specs.List.{list_any}
 use Rattle.m36_text.specs.Texts.{is_text}
-use Rattle.m36_text.specs.Once.{with_once}
-use Rattle.m36_text.specs.Results.{unless}
+use Rattle.m36_text.specs.Once.{appended_if_new}
+use Rattle.m36_text.specs.Results.{value_unless}
 use Rattle.m36_dir.specs.declared.fault.CatalogFault.{CatalogFault}
 use Rattle.m36_dir.specs.declared.fault.CatalogFault.TheVariants as fault
 use Rattle.m36_dir.specs.declared.boot_line.BootLine.{BootLine}
@@ -14,7 +14,7 @@ use Rattle.m36_dir.specs.declared.boot_code.BootCode.{BootCode}
 use Rattle.m36_dir.specs.declared.boot_code.BootCode.TheVariants.{D1, D2, D3, D4, D5, D6}
 use Rattle.m36_dir.specs.Fields.{SegmentFields, SegmentLineFields}
 use Rattle.m36_dir.specs.StartFields.{StartFields}
-use Rattle.m36_dir.specs.BootOrder.{all_lines, first_code}
+use Rattle.m36_dir.specs.BootOrder.{well_formed_lines, first_code}
 use Rattle.m36_text.specs.Lines.{last_of}
 
 -- A catalog. Directories are referred to by their numbers, counted from 0.
@@ -30,7 +30,7 @@ pub record CatalogFields : Type 0 where
 
 -- directories with one more, unless they have it
 abbrev pub with_directory : List (List ℕ) → List ℕ → List (List ℕ)
-with_directory dirs dir = with_once (is_text dir) dirs dir
+with_directory dirs dir = appended_if_new (is_text dir) dirs dir
 
 -- directories with that of a line, if it is a segment line
 abbrev pub with_directory_of : List (List ℕ) → BootLine → List (List ℕ)
@@ -43,8 +43,8 @@ directories_from dirs [] = dirs
 directories_from dirs (next ∷ lines) = directories_from (with_directory_of dirs next) lines
 
 -- the number of a directory, counted from 0; also 0 if it is not in the list
-unfoldable pub number_in : List (List ℕ) → List ℕ → ℕ
-number_in dirs dir = unwrap_or (position (is_text dir) dirs) 0
+unfoldable pub directory_number_in : List (List ℕ) → List ℕ → ℕ
+directory_number_in dirs dir = unwrap_or (position (is_text dir) dirs) 0
 
 -- the name of the directory of a segment
 abbrev pub directory_in : List (List ℕ) → SegmentFields → List ℕ
@@ -63,7 +63,7 @@ segment_with dirs given names =
     record {
       names = given.name ∷ names;
       file = given.file;
-      dir = number_in dirs given.dir;
+      dir = directory_number_in dirs given.dir;
       kind = given.kind;
       mode = given.mode;
       r1 = given.r1;
@@ -85,7 +85,7 @@ segments_in dirs (next ∷ lines) = segment_of dirs next lines ++ segments_in di
 
 -- the directory number of a library line
 abbrev pub library_of : List (List ℕ) → BootLine → List ℕ
-library_of dirs (line.Library dir) = number_in dirs dir ∷ []
+library_of dirs (line.Library dir) = directory_number_in dirs dir ∷ []
 library_of dirs _ = []
 
 -- the directory numbers of the library lines, in order
@@ -99,9 +99,9 @@ frames_of (Some (line.Frames n)) = n
 frames_of _ = 0
 
 -- the working directory, from the second line
-abbrev pub work_of : Option BootLine → List ℕ
-work_of (Some (line.Work dir)) = dir
-work_of _ = []
+abbrev pub working_directory_of : Option BootLine → List ℕ
+working_directory_of (Some (line.Work dir)) = dir
+working_directory_of _ = []
 
 -- the start for lines that do not end with a `start` line; such lines give no catalog
 abbrev pub no_start : StartFields
@@ -119,7 +119,7 @@ catalog_in lines =
     record {
       frames = frames_of (slice_get lines 0);
       directories = dirs;
-      work = number_in dirs (work_of (slice_get lines 1));
+      work = directory_number_in dirs (working_directory_of (slice_get lines 1));
       libraries = libraries_in dirs lines;
       segments = segments_in dirs lines;
       start = start_of (last_of lines);
@@ -137,13 +137,13 @@ fault_at n D5 = fault.D5 n
 fault_at n D6 = fault.D6 n
 
 -- the catalog, or the fault of the first line with a code if there is one (`told`)
-abbrev pub catalog_by : Option (ℕ × BootCode) → CatalogFields → Result CatalogFields CatalogFault
-catalog_by told catalog =
-    unless (option_map (λ (first : ℕ × BootCode). fault_at first.0 first.1) told) catalog
+abbrev pub catalog_or_fault : Option (ℕ × BootCode) → CatalogFields → Result CatalogFields CatalogFault
+catalog_or_fault told catalog =
+    value_unless (option_map (λ (first : ℕ × BootCode). fault_at first.0 first.1) told) catalog
 
 -- the catalog that a text describes, or the fault of the text
 unfoldable pub catalog_of : List ℕ → Result CatalogFields CatalogFault
-catalog_of text = catalog_by (first_code text) (catalog_in (all_lines text))
+catalog_of text = catalog_or_fault (first_code text) (catalog_in (well_formed_lines text))
 
 -- The fault of a call is that of the definition, or it is NoMemory, which is allowed for every
 -- text.

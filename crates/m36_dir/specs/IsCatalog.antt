@@ -4,7 +4,7 @@ use Rattle.std.specs.List.{flat_map}
 use Rattle.m36_text.specs.Once.{are_distinct_by}
 use Rattle.m36_dir.specs.Fields.{SegmentFields}
 use Rattle.m36_dir.specs.BootLine.{most_frames}
-use Rattle.m36_dir.specs.BootOrder.{Entry, entry, is_entry, entries_from, all_lines}
+use Rattle.m36_dir.specs.BootOrder.{Entry, entry, is_same_entry, entries_from, well_formed_lines}
 use Rattle.m36_dir.specs.BootOrder.{most_segments, most_names, most_libraries}
 use Rattle.m36_dir.specs.Catalog.{CatalogFields, directory_in, catalog_of}
 
@@ -42,10 +42,10 @@ entries_in dirs segments =
 abbrev pub NamesAreThoseOfTheText : Type 0
 NamesAreThoseOfTheText =
     (text : List ℕ) (c : CatalogFields) → catalog_of text ≡ Ok c
-    → entries_in c.directories c.segments ≡ entries_from [] (all_lines text)
+    → entries_in c.directories c.segments ≡ entries_from [] (well_formed_lines text)
 
 -- No name of a catalog that was read occurs twice in a directory.
 abbrev pub NamesOnce : Type 0
 NamesOnce =
     (text : List ℕ) (c : CatalogFields) → catalog_of text ≡ Ok c
-    → are_distinct_by is_entry (entries_in c.directories c.segments) ≡ true
+    → are_distinct_by is_same_entry (entries_in c.directories c.segments) ≡ true

@@ -4,7 +4,7 @@ ghost use Rattle.std.specs.Prelude.{ℕ, ◌≡◌, ◌+◌, ◌≤◌, ◌<◌,
 ghost use Rattle.std.specs.List.{list_any, position};
 ghost use Rattle.m36_text.specs.Texts.{is_text};
 ghost use Rattle.m36_text.specs.Lines.{last_of};
-ghost use Rattle.m36_dir.specs.Catalog.{with_directory, with_directory_of, directories_from, number_in, names_after, segment_with, segment_of, segments_in, library_of, libraries_in, frames_of, work_of, no_start, start_of};
+ghost use Rattle.m36_dir.specs.Catalog.{with_directory, with_directory_of, directories_from, directory_number_in, names_after, segment_with, segment_of, segments_in, library_of, libraries_in, frames_of, working_directory_of, no_start, start_of};
 ghost use Rattle.m36_dir.specs.BootOrder.{most_segments};
 
 use crate::boot_line::{BootLine, SegmentLine};
@@ -59,10 +59,10 @@ fn place_of(dirs: &[Directory], dir: &[u8]) -> Option<usize>
 }
 
 /// The number of a directory, counted from 0; also 0 if it is not in the list.
-#[tactic(auto, unfolding(crate::specs::Catalog::number_in))]
-pub(crate) fn number_in(dirs: &[Directory], dir: &[u8]) -> u16
+#[tactic(auto, unfolding(crate::specs::Catalog::directory_number_in))]
+pub(crate) fn directory_number_in(dirs: &[Directory], dir: &[u8]) -> u16
     requires { length dirs.now ≤ most_segments }
-    ensures { result ≡ number_in dirs.now dir.now }
+    ensures { result ≡ directory_number_in dirs.now dir.now }
 {
     match place_of(dirs, dir) {
         Some(place) => place as u16,
@@ -101,7 +101,7 @@ fn segment_with(
     Ok(Segment {
         names,
         file: given.file.copied(),
-        dir: number_in(dirs, given.dir.bytes()),
+        dir: directory_number_in(dirs, given.dir.bytes()),
         kind: given.kind,
         mode: given.mode,
         r1: given.r1,
@@ -170,7 +170,7 @@ fn add_library(
 {
     match line {
         BootLine::Library(dir) => {
-            libraries.push(number_in(dirs, dir.bytes()))?;
+            libraries.push(directory_number_in(dirs, dir.bytes()))?;
             Ok(())
         }
         _ => Ok(()),
@@ -204,8 +204,8 @@ pub(crate) fn frames_of(line: Option<&BootLine>) -> u32
 }
 
 /// The working directory, which is in the second line.
-pub(crate) fn work_of(lines: &[BootLine]) -> &[u8]
-    ensures { result.now ≡ work_of (slice_get lines.now 1) }
+pub(crate) fn working_directory_of(lines: &[BootLine]) -> &[u8]
+    ensures { result.now ≡ working_directory_of (slice_get lines.now 1) }
 {
     match lines.get(1) {
         Some(BootLine::Work(dir)) => dir.bytes(),

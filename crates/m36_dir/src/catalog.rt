@@ -10,7 +10,7 @@ ghost use Rattle.m36_dir.specs.BootOrder.{most_segments, most_libraries};
 
 use crate::boot_line::BootLine;
 use crate::building::{
-    directories_in, frames_of, libraries_in, number_in, segments_in, start_of, work_of,
+    directories_in, frames_of, libraries_in, directory_number_in, segments_in, start_of, working_directory_of,
 };
 use crate::directory::Directory;
 use crate::fault::CatalogFault;
@@ -58,7 +58,7 @@ fn catalog_in(alloc: Global, seed: HashSeed, lines: &[BootLine]) -> Result<Catal
     let directories = directories_in(alloc, lines)?;
     let libraries = libraries_in(alloc, &directories, lines)?;
     let segments = segments_in(alloc, &directories, lines)?;
-    let work = number_in(&directories, work_of(lines));
+    let work = directory_number_in(&directories, working_directory_of(lines));
     Ok(Catalog {
         directories,
         libraries,
@@ -82,7 +82,7 @@ fn has_name(name: &[u8], segment: &Segment) -> bool
 }
 
 // Whether a segment is in a directory and has a name.
-fn is_at(segment: &Segment, dir: u16, name: &[u8]) -> bool
+fn is_segment_named_in(segment: &Segment, dir: u16, name: &[u8]) -> bool
     ensures { result ≡ has_entry_named dir name.now segment.now }
 {
     segment.dir == dir && has_name(name, segment)
@@ -132,7 +132,7 @@ impl Catalog {
     {
         self.segments
             .iter()
-            .position(|segment| is_at(segment, dir, name))
+            .position(|segment| is_segment_named_in(segment, dir, name))
     }
 
     /// The name of a directory, by its number.

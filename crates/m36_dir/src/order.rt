@@ -4,8 +4,8 @@
 ghost use Rattle.std.specs.Prelude.{ℕ, ◌≡◌, ◌+◌, ◌<◌, ◌≤◌, ◌^◌, [], Some, count_by};
 ghost use Rattle.std.specs.List.{list_any};
 ghost use Rattle.m36_dir.specs.BootLine.{parsed_line};
-ghost use Rattle.m36_dir.specs.BootOrder.{is_frames, is_start, is_library, is_segment, is_work_or_library, is_segment_or_name, may_follow, is_in_order_after, is_entry, entry, directory_after, directory_at_end, entries_of_line, entries_from, has_entry, is_repeated, is_in_directory, is_given_in_directory, has_directory, names_no_directory, is_no_gate, brackets_in_order, has_wrong_brackets, names_with, names_at_end, is_too_many, code_of, ends, parsed_lines, all_lines};
-ghost use Rattle.m36_text.specs.Lines.{those_read, last_of};
+ghost use Rattle.m36_dir.specs.BootOrder.{is_frames, is_start, is_library, is_segment, is_work_or_library, is_segment_or_name, may_follow, is_in_order_after, is_same_entry, entry, directory_after, directory_at_end, entries_of_line, entries_from, has_entry, is_repeated, is_in_directory, is_parsed_line_in_directory, has_directory, names_no_directory, is_no_gate, brackets_in_order, has_wrong_brackets, name_count_after, name_count_at_end, is_too_many, code_of, ends, parsed_lines, well_formed_lines};
+ghost use Rattle.m36_text.specs.Lines.{present_values, last_of};
 
 use crate::boot_code::BootCode;
 use crate::boot_line::{BootLine, SegmentLine};
@@ -106,7 +106,7 @@ fn last_directory(lines: &[BootLine]) -> &[u8]
 // Whether a line puts this name into this directory. `behind` is the directory of the last segment
 // line above it.
 fn puts(behind: &[u8], line: &BootLine, dir: &[u8], name: &[u8]) -> bool
-    ensures { result ≡ list_any (is_entry (entry dir.now name.now))
+    ensures { result ≡ list_any (is_same_entry (entry dir.now name.now))
         (entries_of_line behind.now line.now) }
 {
     match line {
@@ -154,7 +154,7 @@ fn is_in_directory(dir: &[u8], line: &BootLine) -> bool
 
 // Whether a line is a segment line of a directory.
 fn is_line_in_directory(dir: &[u8], line: &[u8]) -> bool
-    ensures { result ≡ is_given_in_directory dir.now (parsed_line (Some line.now)) }
+    ensures { result ≡ is_parsed_line_in_directory dir.now (parsed_line (Some line.now)) }
 {
     match read_line(line) {
         Some(line) => is_in_directory(dir, &line),
@@ -165,7 +165,7 @@ fn is_line_in_directory(dir: &[u8], line: &[u8]) -> bool
 // Whether a segment line of the text has this directory.
 #[tactic(auto, using(crate::proofs::TextLoops::text_found, crate::proofs::TextLoops::text_more, crate::proofs::TextLoops::text_all))]
 fn has_directory(text: &[u8], dir: &[u8]) -> bool
-    ensures { result ≡ has_directory (all_lines text.now) dir.now }
+    ensures { result ≡ has_directory (well_formed_lines text.now) dir.now }
 {
     let mut rest = text;
     while let Some((line, behind)) = first_line(rest) {
@@ -179,7 +179,7 @@ fn has_directory(text: &[u8], dir: &[u8]) -> bool
 
 // D3: whether a `work` or `library` line names a directory that has no segment in the whole text.
 fn names_no_directory(text: &[u8], line: &BootLine) -> bool
-    ensures { result ≡ names_no_directory (all_lines text.now) line.now }
+    ensures { result ≡ names_no_directory (well_formed_lines text.now) line.now }
 {
     match line {
         BootLine::Work(dir) => !has_directory(text, dir.bytes()),
@@ -217,9 +217,9 @@ fn has_wrong_brackets(line: &BootLine) -> bool
 }
 
 // The number of `name` lines at the end after one more line, if there were `names` before it.
-fn names_with(names: usize, line: &BootLine) -> usize
+fn name_count_after(names: usize, line: &BootLine) -> usize
     requires { names < 2 ^ 63 }
-    ensures value { result ≡ names_with names line.now }
+    ensures value { result ≡ name_count_after names line.now }
     ensures bound { result ≤ names + 1 }
 {
     match line {
@@ -230,12 +230,12 @@ fn names_with(names: usize, line: &BootLine) -> usize
 
 // The number of `name` lines at the end of these lines.
 #[tactic(auto, using(crate::proofs::LineLoops::names_more, crate::proofs::LineLoops::names_all))]
-fn names_at_end(lines: &[BootLine]) -> usize
-    ensures { result ≡ names_at_end 0 lines.now }
+fn name_count_at_end(lines: &[BootLine]) -> usize
+    ensures { result ≡ name_count_at_end 0 lines.now }
 {
     let mut names = 0;
     for line in lines {
-        names = names_with(names, line);
+        names = name_count_after(names, line);
     }
     names
 }
@@ -261,16 +261,16 @@ fn is_too_many(above: &[BootLine], line: &BootLine) -> bool
 {
     match line {
         BootLine::Segment(_) => count_segments(above) >= MOST_SEGMENTS,
-        BootLine::Name(_) => names_at_end(above) >= MOST_FURTHER_NAMES,
+        BootLine::Name(_) => name_count_at_end(above) >= MOST_FURTHER_NAMES,
         BootLine::Library(_) => count_libraries(above) >= MOST_LIBRARIES,
         _ => false,
     }
 }
 
 /// The code of a line of a text, which depends on the lines above it. None if it has none.
-#[tactic(auto, unfolding(crate::specs::BootOrder::code_of, m36_text::specs::Lines::first_met))]
+#[tactic(auto, unfolding(crate::specs::BootOrder::code_of, m36_text::specs::Lines::first_true_case))]
 pub(crate) fn code_of(text: &[u8], above: &[BootLine], line: &BootLine) -> Option<BootCode>
-    ensures { result ≡ code_of (all_lines text.now) above.now line.now }
+    ensures { result ≡ code_of (well_formed_lines text.now) above.now line.now }
 {
     if !is_in_order(above, line) {
         return Some(BootCode::D1);
@@ -291,7 +291,7 @@ pub(crate) fn code_of(text: &[u8], above: &[BootLine], line: &BootLine) -> Optio
 }
 
 /// Whether the last line is the start line.
-pub(crate) fn is_started(lines: &[BootLine]) -> bool
+pub(crate) fn has_start_line_at_end(lines: &[BootLine]) -> bool
     ensures { result ≡ ends (last_of lines.now) }
 {
     match lines.last() {

@@ -2,7 +2,7 @@
 
 ghost use Rattle.std.specs.Prelude.{◌≡◌, ◌<◌, ◌^◌, [], ◌∷◌, ◌++◌, length, Some, None, IfOk, IfErr, OnOk};
 ghost use Rattle.m36_dir.specs.BootLine.{parsed_line};
-ghost use Rattle.m36_dir.specs.BootOrder.{code_at_end, code_of_rest, ChecksLine, all_lines, first_code};
+ghost use Rattle.m36_dir.specs.BootOrder.{code_at_end, code_of_rest, ChecksLine, well_formed_lines, first_code};
 ghost use Rattle.m36_dir.specs.Catalog.{catalog_in, catalog_of, RefusesWith};
 ghost use Rattle.m36_dir.specs.IsCatalog.{IsCatalog};
 
@@ -10,14 +10,14 @@ use crate::boot_code::{BootCode, fault_at};
 use crate::boot_line::BootLine;
 use crate::fault::CatalogFault;
 use crate::forms::read_line;
-use crate::order::{code_of, is_started};
+use crate::order::{code_of, has_start_line_at_end};
 use m36_text::first_line;
 use m36_word::NoMemory;
 use std::alloc::Global;
 
 // The parsed line, or its code.
 fn check_line(text: &[u8], above: &[BootLine], line: &[u8]) -> Result<BootLine, BootCode>
-    ensures { ChecksLine (all_lines text.now) above.now (parsed_line (Some line.now)) result }
+    ensures { ChecksLine (well_formed_lines text.now) above.now (parsed_line (Some line.now)) result }
 {
     let Some(line) = read_line(line) else {
         return Err(BootCode::D1);
@@ -36,7 +36,7 @@ fn code_of_rest(above: &[BootLine], rest: &[u8]) -> Option<BootCode>
     if !rest.is_empty() {
         return Some(BootCode::D1);
     }
-    if is_started(above) {
+    if has_start_line_at_end(above) {
         None
     } else {
         Some(BootCode::D6)
@@ -55,7 +55,7 @@ fn add(lines: &mut Vec<BootLine>, line: BootLine) -> Result<(), NoMemory>
 /// code, or `NoMemory`.
 pub(crate) fn lines_of(alloc: Global, text: &[u8]) -> Result<Vec<BootLine>, CatalogFault>
     requires { length text.now < 2 ^ 32 }
-    ensures lines { IfOk result (λ lines. lines.items ≡ all_lines text.now) }
+    ensures lines { IfOk result (λ lines. lines.items ≡ well_formed_lines text.now) }
     ensures none { IfOk result (λ lines. first_code text.now ≡ None) }
     ensures kept { IfOk result (λ lines. IsCatalog (catalog_in lines.items)) }
     ensures told { IfErr result (λ told. RefusesWith told (catalog_of text.now)) }

@@ -2,7 +2,7 @@
 
 ghost use Rattle.std.specs.Prelude.{◌≡◌, ◌≤◌, true, length};
 ghost use Rattle.std.specs.List.{list_all};
-ghost use Rattle.m36_dir.specs.BootLine.{is_directory_character, is_directory, directory_of, name_of, kind_of, taken, mode_of_letters, mode_of, directory_limit};
+ghost use Rattle.m36_dir.specs.BootLine.{is_directory_character, is_directory, directory_of, name_of, kind_of, strip_letter, mode_of_letters, mode_of, directory_limit};
 
 use crate::directory::Directory;
 use crate::segment::{Mode, SegKind};
@@ -75,9 +75,9 @@ pub(crate) fn kind_of(word: &[u8]) -> Option<SegKind>
 }
 
 // Whether the letters begin with this one, and the letters after it; if they do not, all of them.
-fn taken(letter: u8, letters: &[u8]) -> (bool, &[u8])
-    ensures stands { result.0 ≡ (taken letter letters.now).stands }
-    ensures rest { result.1.now ≡ (taken letter letters.now).rest }
+fn strip_letter(letter: u8, letters: &[u8]) -> (bool, &[u8])
+    ensures stands { result.0 ≡ (strip_letter letter letters.now).stands }
+    ensures rest { result.1.now ≡ (strip_letter letter letters.now).rest }
 {
     match letters {
         [first, rest @ ..] if *first == letter => (true, rest),
@@ -89,10 +89,10 @@ fn taken(letter: u8, letters: &[u8]) -> (bool, &[u8])
 fn mode_of_letters(letters: &[u8]) -> Option<Mode>
     ensures { result ≡ mode_of_letters letters.now }
 {
-    let (readable, rest) = taken(b'r', letters);
-    let (executable, rest) = taken(b'e', rest);
-    let (writable, rest) = taken(b'w', rest);
-    let (privileged, rest) = taken(b'p', rest);
+    let (readable, rest) = strip_letter(b'r', letters);
+    let (executable, rest) = strip_letter(b'e', rest);
+    let (writable, rest) = strip_letter(b'w', rest);
+    let (privileged, rest) = strip_letter(b'p', rest);
     if !rest.is_empty() {
         return None;
     }

@@ -3,7 +3,7 @@ use Rattle.std.specs.Prelude.{ℕ, ◌≡◌, ◌<◌, List, [], ◌∷◌, ◌+
 use Rattle.m36_inst.specs.Fields.{InstFields}
 use Rattle.m36_model.specs.Fields.{FinalFields}
 use Rattle.m36_model.specs.Registers.{RegsFields}
-use Rattle.m36_model.specs.Store.{Midstep, Ran, run}
+use Rattle.m36_model.specs.Store.{Midstep, ProgramResult, run}
 use Rattle.m36_model.specs.Core.{core_store}
 use Rattle.m36_model.specs.Chain.{ChainEnd, chain_end_fields, claimed_by}
 use Rattle.m36_model.specs.Step.{formation}
@@ -12,29 +12,29 @@ use Rattle.m36_model.specs.declared.effects.Tally.{Tally}
 use Rattle.m36_model.specs.declared.outcome.Halt.{Halt}
 use Rattle.m36_model.specs.declared.place.Reference.{Reference}
 use Rattle.m36_model.specs.declared.place.Kind.TheVariants as reference
-use Rattle.m36_walk.specs.Served.{standing}
+use Rattle.m36_walk.specs.Served.{midstep_with}
 
 -- the program that forms the address of an instruction, run over core, in a step that has
 -- completed these references and claimed no write
-abbrev pub formed_from :
-    RegsFields → InstFields → List ℕ → List Reference → Ran (Result ChainEnd Halt) (List ℕ)
-formed_from g i core refs = run core_store g (formation g i) (standing core [] refs)
+abbrev pub run_formation :
+    RegsFields → InstFields → List ℕ → List Reference → ProgramResult (Result ChainEnd Halt) (List ℕ)
+run_formation g i core refs = run core_store g (formation g i) (midstep_with core [] refs)
 
 -- the state of a step that has claimed only the tally word of its address, if there is one
-abbrev pub formed_mid : List ℕ → Formed → List Reference → Midstep (List ℕ)
-formed_mid core f refs = standing core (claimed_by f.tally f.place) refs
+abbrev pub midstep_after_address : List ℕ → Formed → List Reference → Midstep (List ℕ)
+midstep_after_address core f refs = midstep_with core (claimed_by f.tally f.place) refs
 
--- The end of the run of `formed_from`, by the result of the code: with the address, the place of
+-- The end of the run of `run_formation`, by the result of the code: with the address, the place of
 -- the tally word, if there is one, as the step's first claim, and with this core and these
 -- references.
 abbrev pub ended :
-    List ℕ → List Reference → Result Formed Halt → Ran (Result ChainEnd Halt) (List ℕ)
-ended core refs (Ok f) = record { value = Ok (chain_end_fields f); mid = formed_mid core f refs }
-ended core refs (Err h) = record { value = Err h; mid = standing core [] refs }
+    List ℕ → List Reference → Result Formed Halt → ProgramResult (Result ChainEnd Halt) (List ℕ)
+ended core refs (Ok f) = record { value = Ok (chain_end_fields f); mid = midstep_after_address core f refs }
+ended core refs (Err h) = record { value = Err h; mid = midstep_with core [] refs }
 
 -- an address without a tally word
-abbrev pub plain : FinalFields → Formed
-plain last = record { last = last; tally = None; place = 0 }
+abbrev pub without_tally : FinalFields → Formed
+without_tally last = record { last = last; tally = None; place = 0 }
 
 -- `r` is the last of the references
 abbrev pub EndsIn : List Reference → Reference → Type 0

@@ -6,11 +6,11 @@ ghost use Rattle.m36_model.specs.Step.{indirect_words};
 ghost use Rattle.m36_model.specs.Store.{changes};
 ghost use Rattle.m36_model.specs.declared.place.Reference.{Reference};
 ghost use Rattle.m36_walk.specs.Words.{pending_changes};
-ghost use Rattle.m36_ea.specs.Formed.{formed_from, ended, plain, HasTally};
+ghost use Rattle.m36_ea.specs.Formed.{run_formation, ended, without_tally, HasTally};
 
 use crate::indirect::{count, follow, formed};
 use crate::modification::{Action, action_of, end_by_register, end_unmodified, fault};
-use crate::temporary::{Tpr, first};
+use crate::temporary::{Tpr, initial_point};
 use m36_inst::Inst;
 use m36_model::{Final, Formed, Halt, Refs, Regs};
 use m36_walk::{Pending, Walk};
@@ -33,10 +33,10 @@ fn lockup(tpr: &Tpr, word: u32) -> Halt
 /// a stop core is unchanged, except for marks. A tally word that was counted is not written yet:
 /// the result has its new value and its place in core, and its Write is the last of the
 /// references.
-pub fn effective(walk: &mut Walk, regs: &Regs, inst: &Inst, refs: &mut Refs) -> Result<Formed, Halt>
+pub fn form_address(walk: &mut Walk, regs: &Regs, inst: &Inst, refs: &mut Refs) -> Result<Formed, Halt>
     requires dbr { walk.old.dbr ≡ regs.now.dbr }
     requires room { length refs.old.items ≤ 4 }
-    ensures forms { formed_from regs.now inst.now walk.old.core refs.old.items
+    ensures forms { run_formation regs.now inst.now walk.old.core refs.old.items
         ≡ ended walk.new.core refs.new.items result }
     ensures tally { IfOk result
         (λ f. HasTally f.tally f.place (length walk.new.core) refs.new.items) }
@@ -44,7 +44,7 @@ pub fn effective(walk: &mut Walk, regs: &Regs, inst: &Inst, refs: &mut Refs) -> 
     ensures len { length walk.new.core ≡ length walk.old.core }
     ensures count { length refs.new.items ≤ length refs.old.items + (indirect_words + 1) }
 {
-    let mut tpr = first(regs, inst);
+    let mut tpr = initial_point(regs, inst);
     let mut left = INDIRECT_WORDS;
     loop {
         match action_of(regs, &tpr) {
@@ -74,15 +74,15 @@ pub fn effective(walk: &mut Walk, regs: &Regs, inst: &Inst, refs: &mut Refs) -> 
 }
 
 /// The address of an instruction whose tag is one of register modification. Such an address makes
-/// no reference and cannot be refused. None: the tag is another one, and `effective` has to form
+/// no reference and cannot be refused. None: the tag is another one, and `form_address` has to form
 /// the address.
 #[inline(always)]
 pub fn plain_address(regs: &Regs, inst: &Inst) -> Option<Final>
     ensures forms { IfSome result (λ last. (core : List ℕ) (refs : List Reference)
-        → formed_from regs.now inst.now core refs ≡ ended core refs (Ok (plain last))) }
+        → run_formation regs.now inst.now core refs ≡ ended core refs (Ok (without_tally last))) }
     ensures none { IfNone result (16 ≤ inst.now.tag) }
 {
-    let tpr = first(regs, inst);
+    let tpr = initial_point(regs, inst);
     if tpr.tag == 0 {
         return Some(end_unmodified(&tpr));
     }
@@ -95,7 +95,7 @@ pub fn plain_address(regs: &Regs, inst: &Inst) -> Option<Final>
 /// The tally word of an address, for the references of the operand, which have to see its new
 /// value.
 #[tactic(auto, unfolding(m36_model::specs::Store::changes))]
-pub fn pending(formed: &Formed) -> Option<Pending>
+pub fn pending_tally(formed: &Formed) -> Option<Pending>
     ensures value { result
         ≡ option_map (λ t. record { word = t.word; place = formed.now.place }) formed.now.tally }
     ensures changes { changes (claimed_by formed.now.tally formed.now.place)

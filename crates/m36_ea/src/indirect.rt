@@ -4,8 +4,8 @@ ghost use Rattle.std.specs.Prelude.{◌≡◌, ◌+◌, ◌<◌, ◌≤◌, ◌^
 ghost use Rattle.std.specs.Prelude.{length};
 ghost use Rattle.m36_model.specs.Chain.{found};
 ghost use Rattle.m36_walk.specs.Served.{sdw_in, ok_map};
-ghost use Rattle.m36_ea.specs.Formed.{plain, HasTally};
-ghost use Rattle.m36_ea.specs.Points.{found_is, FollowsEven, ServesIndirect, ServesOdd, Follows};
+ghost use Rattle.m36_ea.specs.Formed.{without_tally, HasTally};
+ghost use Rattle.m36_ea.specs.Points.{found_of_format, FollowsEven, ServesIndirect, ServesOdd, Follows};
 ghost use Rattle.m36_ea.specs.Points.{CountsTally};
 
 use crate::registers::procedure_segment;
@@ -32,7 +32,7 @@ pub(crate) enum Format {
 #[tactic(auto, unfolding(m36_model::specs::Chain::found))]
 #[inline(always)]
 pub(crate) fn format_of(word: u32, w: Word) -> Format
-    ensures found { found_is result ≡ found word w }
+    ensures found { found_of_format result ≡ found word w }
     ensures even { FollowsEven word result }
 {
     if word % 2 != 0 {
@@ -47,7 +47,7 @@ pub(crate) fn format_of(word: u32, w: Word) -> Format
 
 /// Appends a completed reference to `count` words from `at` on.
 #[inline(always)]
-pub fn complete(refs: &mut Refs, kind: Kind, at: At, count: u8)
+pub fn add_reference(refs: &mut Refs, kind: Kind, at: At, count: u8)
     requires { length refs.old.items < 40 }
     ensures items { refs.new.items
         ≡ refs.old.items ++ record { kind = kind; at = at; count = count } ∷ [] }
@@ -91,11 +91,11 @@ fn odd_word(
 {
     match walk.odd(tpr.at(word + 1), procedure_segment(regs)) {
         Ok(odd) => {
-            complete(refs, Kind::Indirect, tpr.at(word), 2);
+            add_reference(refs, Kind::Indirect, tpr.at(word), 2);
             Ok(odd)
         }
         Err(fault) => {
-            complete(refs, Kind::Indirect, tpr.at(word), 1);
+            add_reference(refs, Kind::Indirect, tpr.at(word), 1);
             Err(fault)
         }
     }
@@ -124,7 +124,7 @@ pub(crate) fn follow(
     let (even, r1) = indirect_word(walk, regs, tpr, word)?;
     match format_of(word, even) {
         Format::Plain => {
-            complete(refs, Kind::Indirect, tpr.at(word), 1);
+            add_reference(refs, Kind::Indirect, tpr.at(word), 1);
             Ok(tpr.after_plain(word, held, even, r1))
         }
         Format::Its => {
@@ -140,7 +140,7 @@ pub(crate) fn follow(
 
 /// The formed address for a chain that ends here without a tally word.
 pub(crate) fn formed(last: Final) -> Formed
-    ensures { result ≡ plain last }
+    ensures { result ≡ without_tally last }
 {
     Formed {
         last,
@@ -171,12 +171,12 @@ pub(crate) fn count(
     let td = tpr.tag % 16;
     let (word, _) = indirect_word(walk, regs, tpr, y)?;
     let at = tpr.at(y);
-    complete(refs, Kind::Indirect, at, 1);
+    add_reference(refs, Kind::Indirect, at, 1);
     if td == INDIRECT_ONLY {
         return Ok(formed(tpr.end_at(address(word))));
     }
     let place = walk.hold(at, 1)?;
-    complete(refs, Kind::Write, at, 1);
+    add_reference(refs, Kind::Write, at, 1);
     let counted = tally(td, word);
     Ok(Formed {
         last: tpr.end_at(counted.address),

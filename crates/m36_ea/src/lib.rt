@@ -7,11 +7,11 @@
 //! falls on the way: each pair raises it to the ring that the pair names and to the first ring
 //! bracket of the segment that has the pair.
 //!
-//! By the contract of [`effective`] its result, core and the completed references are those of the
+//! By the contract of [`form_address`] its result, core and the completed references are those of the
 //! address chain over core. It cannot run out of memory. If it counts a tally word, the Write of
 //! this word is checked and marked, but its new value is not written: the instruction writes it
 //! together with everything else that it writes. Until then the references of the operand get it
-//! from [`pending`].
+//! from [`pending_tally`].
 //!
 //! Source: Multics Processor Manual AL39, "Effective address formation", "Address modification
 //! features", "Indirect word formats" and "Indirect then tally (IT) modification".
@@ -25,7 +25,7 @@ mod registers;
 mod tallies;
 mod temporary;
 
-pub use chain::{effective, pending, plain_address};
-pub use indirect::complete;
-pub use quick::{Counting, Through, address_counted, address_through};
+pub use chain::{form_address, pending_tally, plain_address};
+pub use indirect::add_reference;
+pub use quick::{Counting, Through, quick_tally_address, quick_indirect_address};
 pub use registers::{procedure_ring, procedure_segment};

@@ -8,9 +8,9 @@ ghost use Rattle.m36_model.specs.Modification.{move_indirect_then_tally};
 ghost use Rattle.m36_model.specs.Modification.{move_indirect_then_register, move_of_point};
 ghost use Rattle.m36_model.specs.Registers.{RegsFields};
 ghost use Rattle.m36_model.specs.Tally.{indirect_only};
-ghost use Rattle.m36_ea.specs.Points.{move_is, IsInRange};
+ghost use Rattle.m36_ea.specs.Points.{move_of_action, IsInRange};
 
-use crate::registers::index;
+use crate::registers::register_value;
 use crate::tallies::{
     ADD_DELTA, DECREMENT_INCREMENT, INCREMENT_DECREMENT, INDIRECT_ONLY, SUBTRACT_DELTA,
 };
@@ -51,7 +51,7 @@ const ITP: u8 = ITP_TAG % 16;
 const ITS: u8 = ITS_TAG % 16;
 
 /// Whether the low four bits of a tag name a direct operand instead of a register.
-fn names_direct(td: u8) -> bool
+fn is_direct_tag(td: u8) -> bool
     ensures { result ≡ is_direct td }
 {
     td == DIRECT_UPPER || td == DIRECT_LOWER
@@ -65,8 +65,8 @@ pub(crate) fn fault(number: u8, at: At) -> Fault
 }
 
 /// Fault 10, illegal procedure, at the instruction.
-fn illegal(regs: &Regs) -> Action
-    ensures { move_is result ≡ Fails (halt_here illegal_procedure regs.now) }
+fn illegal_procedure_fault(regs: &Regs) -> Action
+    ensures { move_of_action result ≡ Fails (halt_here illegal_procedure regs.now) }
 {
     Action::Fails(Halt::Fault(fault(10, regs.here())))
 }
@@ -83,7 +83,7 @@ fn register(regs: &Regs, tpr: &Tpr, td: u8) -> Final
         None => match td {
             DIRECT_UPPER => tpr.end_direct(Word::low((y as u64) << 18)),
             DIRECT_LOWER => tpr.end_direct(Word::low(y as u64)),
-            _ => tpr.end_at((y + index(regs, td)) % (1 << 18)),
+            _ => tpr.end_at((y + register_value(regs, td)) % (1 << 18)),
         },
     }
 }
@@ -91,14 +91,14 @@ fn register(regs: &Regs, tpr: &Tpr, td: u8) -> Final
 /// Register then indirect: reads the indirect word at y plus a register.
 fn register_then_indirect(regs: &Regs, tpr: &Tpr, td: u8) -> Action
     requires { td < 16 }
-    ensures moves { move_is result ≡ move_register_then_indirect regs.now tpr.now td }
+    ensures moves { move_of_action result ≡ move_register_then_indirect regs.now tpr.now td }
     ensures range { IsInRange result }
 {
-    if names_direct(td) {
-        return illegal(regs);
+    if is_direct_tag(td) {
+        return illegal_procedure_fault(regs);
     }
     Action::Reads {
-        word: (tpr.y + index(regs, td)) % (1 << 18),
+        word: (tpr.y + register_value(regs, td)) % (1 << 18),
         held: tpr.held,
     }
 }
@@ -106,29 +106,29 @@ fn register_then_indirect(regs: &Regs, tpr: &Tpr, td: u8) -> Action
 /// Indirect then register: reads the indirect word at y, and holds the register.
 fn indirect_then_register(regs: &Regs, tpr: &Tpr, td: u8) -> Action
     requires { td < 16 }
-    ensures moves { move_is result ≡ move_indirect_then_register regs.now tpr.now td }
+    ensures moves { move_of_action result ≡ move_indirect_then_register regs.now tpr.now td }
     ensures range { IsInRange result }
 {
-    if names_direct(td) {
-        return illegal(regs);
+    if is_direct_tag(td) {
+        return illegal_procedure_fault(regs);
     }
     Action::Reads {
         word: tpr.y,
-        held: Some(index(regs, td)),
+        held: Some(register_value(regs, td)),
     }
 }
 
 /// Indirect then tally: the fault tags, the tags of pairs where no pair may begin, the tally
 /// words, and the tags that are not supported, which stop the machine.
 fn indirect_then_tally(regs: &Regs, tpr: &Tpr, td: u8) -> Action
-    ensures moves { move_is result ≡ move_indirect_then_tally regs.now tpr.now td }
+    ensures moves { move_of_action result ≡ move_indirect_then_tally regs.now tpr.now td }
     ensures range { IsInRange result }
 {
     match td {
         FAULT_TAG_1 => Action::Fails(Halt::Fault(fault(3, tpr.carrier))),
         FAULT_TAG_2 => Action::Fails(Halt::Fault(fault(24, tpr.carrier))),
         FAULT_TAG_3 => Action::Fails(Halt::Fault(fault(25, tpr.carrier))),
-        ITP | ITS => illegal(regs),
+        ITP | ITS => illegal_procedure_fault(regs),
         SUBTRACT_DELTA | INDIRECT_ONLY | ADD_DELTA | DECREMENT_INCREMENT | INCREMENT_DECREMENT => {
             Action::Counts
         }
@@ -138,7 +138,7 @@ fn indirect_then_tally(regs: &Regs, tpr: &Tpr, td: u8) -> Action
 
 /// The end of the chain, if the tag of the point is 0 and no register is held.
 #[inline(always)]
-#[tactic(auto, unfolding(m36_model::specs::Modification::move_of_point, m36_model::specs::Modification::index_of))]
+#[tactic(auto, unfolding(m36_model::specs::Modification::move_of_point, m36_model::specs::Modification::modifier_value))]
 pub(crate) fn end_unmodified(tpr: &Tpr) -> Final
     requires tag { tpr.now.tag ≡ 0 }
     requires held { tpr.now.held ≡ None }
@@ -165,7 +165,7 @@ pub(crate) fn end_by_register(regs: &Regs, tpr: &Tpr) -> Option<Final>
 /// What the tag of the point does.
 #[tactic(auto, unfolding(m36_model::specs::Modification::move_of_point))]
 pub(crate) fn action_of(regs: &Regs, tpr: &Tpr) -> Action
-    ensures moves { move_is result ≡ move_of_point regs.now tpr.now }
+    ensures moves { move_of_action result ≡ move_of_point regs.now tpr.now }
     ensures range { IsInRange result }
 {
     let td = tpr.tag % 16;
@@ -182,18 +182,18 @@ pub(crate) fn action_of(regs: &Regs, tpr: &Tpr) -> Action
 /// name a direct operand.
 #[inline(always)]
 #[tactic(auto, unfolding(m36_model::specs::Modification::move_of_point))]
-pub(crate) fn reads_word(regs: &Regs, tpr: &Tpr) -> Option<(u32, Option<u32>)>
+pub(crate) fn word_to_read(regs: &Regs, tpr: &Tpr) -> Option<(u32, Option<u32>)>
     ensures moves { IfSome result (λ r. Reads r.0 r.1 ≡ move_of_point regs.now tpr.now) }
     ensures word { IfSome result (λ r. r.0 < 2 ^ 18) }
     ensures held { IfSome result (λ r. IfSome r.1 (λ h. h < 2 ^ 18)) }
 {
     let td = tpr.tag % 16;
-    if names_direct(td) {
+    if is_direct_tag(td) {
         return None;
     }
     match tpr.tag / 16 {
-        1 => Some(((tpr.y + index(regs, td)) % (1 << 18), tpr.held)),
-        3 => Some((tpr.y, Some(index(regs, td)))),
+        1 => Some(((tpr.y + register_value(regs, td)) % (1 << 18), tpr.held)),
+        3 => Some((tpr.y, Some(register_value(regs, td)))),
         _ => None,
     }
 }
@@ -201,7 +201,7 @@ pub(crate) fn reads_word(regs: &Regs, tpr: &Tpr) -> Option<(u32, Option<u32>)>
 /// Whether the tag of a point counts a tally word.
 #[inline(always)]
 #[tactic(auto, unfolding(m36_model::specs::Modification::move_of_point))]
-pub(crate) fn counts_word(regs: &Regs, tpr: &Tpr) -> bool
+pub(crate) fn is_counting_tag(regs: &Regs, tpr: &Tpr) -> bool
     ensures moves { IsTrue result → Counts ≡ move_of_point regs.now tpr.now }
     ensures counts { IsTrue result → (tpr.now.tag % 16 == indirect_only) ≡ false }
 {

@@ -6,13 +6,13 @@ ghost use Rattle.std.specs.Prelude.{ℕ, ◌≡◌, ◌+◌, ◌<◌, ◌^◌, [
 ghost use Rattle.m36_model.specs.declared.place.Kind.TheVariants as reference;
 ghost use Rattle.m36_model.specs.declared.place.Reference.{Reference};
 ghost use Rattle.m36_walk.specs.Served.{sdw_in};
-ghost use Rattle.m36_ea.specs.Formed.{formed_from, ended, plain};
+ghost use Rattle.m36_ea.specs.Formed.{run_formation, ended, without_tally};
 ghost use Rattle.m36_ea.specs.Points.{indirect_reference, ServesIndirect, ServesOdd, Follows};
 
 use crate::indirect::{Format, format_of};
-use crate::modification::{counts_word, end_by_register, reads_word};
+use crate::modification::{is_counting_tag, end_by_register, word_to_read};
 use crate::tallies::tally;
-use crate::temporary::{Tpr, first};
+use crate::temporary::{Tpr, initial_point};
 use m36_inst::Inst;
 use m36_model::{At, Final, Regs, Tally};
 use m36_walk::Walk;
@@ -116,17 +116,17 @@ fn follow_from_front(
 /// Forms an address that reads one indirect word or one ITS pair, and whose next tag is one of
 /// register modification.
 #[inline(always)]
-pub fn address_through(walk: &mut Walk, regs: &Regs, inst: &Inst) -> Option<Through>
+pub fn quick_indirect_address(walk: &mut Walk, regs: &Regs, inst: &Inst) -> Option<Through>
     requires dbr { walk.old.dbr ≡ regs.now.dbr }
     ensures forms { IfSome result (λ t. (refs : List Reference)
-        → formed_from regs.now inst.now walk.old.core refs
+        → run_formation regs.now inst.now walk.old.core refs
         ≡ ended walk.old.core
         (refs ++ record { kind = reference.Indirect; at = t.at; count = t.count } ∷ [])
-        (Ok (plain t.last))) }
+        (Ok (without_tally t.last))) }
     ensures same { walk.new ≡ walk.old }
 {
-    let tpr = first(regs, inst);
-    let (word, held) = match reads_word(regs, &tpr) {
+    let tpr = initial_point(regs, inst);
+    let (word, held) = match word_to_read(regs, &tpr) {
         Some(read) => read,
         None => return None,
     };
@@ -144,10 +144,10 @@ pub fn address_through(walk: &mut Walk, regs: &Regs, inst: &Inst) -> Option<Thro
 
 /// Forms an address that counts a tally word. The new value of that word is not written yet.
 #[inline(always)]
-pub fn address_counted(walk: &mut Walk, regs: &Regs, inst: &Inst) -> Option<Counting>
+pub fn quick_tally_address(walk: &mut Walk, regs: &Regs, inst: &Inst) -> Option<Counting>
     requires dbr { walk.old.dbr ≡ regs.now.dbr }
     ensures forms { IfSome result (λ t. (refs : List Reference)
-        → formed_from regs.now inst.now walk.old.core refs
+        → run_formation regs.now inst.now walk.old.core refs
         ≡ ended walk.old.core
         ((refs ++ record { kind = reference.Indirect; at = t.tally.at; count = 1 } ∷ [])
         ++ record { kind = reference.Write; at = t.tally.at; count = 1 } ∷ [])
@@ -156,8 +156,8 @@ pub fn address_counted(walk: &mut Walk, regs: &Regs, inst: &Inst) -> Option<Coun
     ensures inside { IfSome result (λ t. t.place < length walk.old.core) }
     ensures same { walk.new ≡ walk.old }
 {
-    let tpr = first(regs, inst);
-    if !counts_word(regs, &tpr) {
+    let tpr = initial_point(regs, inst);
+    if !is_counting_tag(regs, &tpr) {
         return None;
     }
     let y = tpr.y;

@@ -2,7 +2,7 @@
 
 ghost use Rattle.std.specs.Prelude.{◌≡◌, ◌<◌, ◌^◌, false};
 ghost use Rattle.m36_word.specs.Field.{field};
-ghost use Rattle.m36_model.specs.Modification.{is_direct, index_of};
+ghost use Rattle.m36_model.specs.Modification.{is_direct, modifier_value};
 
 use m36_model::Regs;
 use m36_word::{Field, Word};
@@ -28,11 +28,11 @@ pub fn procedure_ring(regs: &Regs) -> u8
 /// The value of the register that the low four bits of a tag name, 18 bits; 0 for the tag that
 /// names none. The bits must not name a direct operand.
 #[inline(always)]
-#[tactic(auto, unfolding(m36_model::specs::Modification::index_of))]
-pub(crate) fn index(regs: &Regs, td: u8) -> u32
+#[tactic(auto, unfolding(m36_model::specs::Modification::modifier_value))]
+pub(crate) fn register_value(regs: &Regs, td: u8) -> u32
     requires td { td < 16 }
     requires register { is_direct td ≡ false }
-    ensures value { result ≡ index_of regs.now td }
+    ensures value { result ≡ modifier_value regs.now td }
     ensures bound { result < 2 ^ 18 }
 {
     if td >= 8 {

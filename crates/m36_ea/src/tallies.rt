@@ -59,7 +59,7 @@ fn delta(w: Word) -> u32
 }
 
 /// A tally word with a new address and a new tally; the increment is unchanged.
-fn recounted(w: Word, address: u32, count: u32) -> Word
+fn new_tally_word(w: Word, address: u32, count: u32) -> Word
     requires address { address < 2 ^ 18 }
     requires count { count < 2 ^ 12 }
     ensures { result ≡ tally_word address count (tally_delta w) }
@@ -75,7 +75,7 @@ fn counted_down(w: Word, step: u32) -> Counted
     let address = address(w);
     let count = (Field::<18, 12>::get(w) as u32 + ((1 << 12) - 1)) % (1 << 12);
     Counted {
-        word: recounted(w, (address + step) % (1 << 18), count),
+        word: new_tally_word(w, (address + step) % (1 << 18), count),
         address,
         runs_out: count == 0,
     }
@@ -89,7 +89,7 @@ fn counted_up(w: Word, step: u32) -> Counted
     let address = (address(w) + ((1 << 18) - step)) % (1 << 18);
     let count = (Field::<18, 12>::get(w) as u32 + 1) % (1 << 12);
     Counted {
-        word: recounted(w, address, count),
+        word: new_tally_word(w, address, count),
         address,
         runs_out: count == 0,
     }

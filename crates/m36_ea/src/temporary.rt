@@ -48,7 +48,7 @@ impl Model for Tpr {
 /// The first point: where the instruction itself points.
 #[inline(always)]
 #[tactic(auto, unfolding(m36_model::specs::FirstPoint::first_point))]
-pub(crate) fn first(regs: &Regs, inst: &Inst) -> Tpr
+pub(crate) fn initial_point(regs: &Regs, inst: &Inst) -> Tpr
     ensures value { result ≡ first_point regs.now inst.now }
     ensures held { result.held ≡ None }
     ensures tag { result.tag ≡ inst.now.tag }

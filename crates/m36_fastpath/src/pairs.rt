@@ -9,16 +9,16 @@ ghost use Rattle.m36_model.specs.Effect.{exec};
 ghost use Rattle.m36_model.specs.Fields.{FinalFields};
 ghost use Rattle.m36_model.specs.Loads.{load};
 ghost use Rattle.m36_model.specs.Results.{AQ, with_indicators, with_value};
-ghost use Rattle.m36_model.specs.Results.{tested, zn_carry_overflow};
+ghost use Rattle.m36_model.specs.Results.{with_test_indicators, set_zero_negative_carry_overflow};
 ghost use Rattle.m36_model.specs.Step.{no_operand};
 ghost use Rattle.m36_model.specs.Sums.{into_register};
 ghost use Rattle.m36_inst.specs.Quick.{group_of};
 ghost use Rattle.m36_inst.specs.declared.rows.Group.TheVariants as group;
-ghost use Rattle.m36_fastpath.specs.FastPath.{Gives, IsDone, pair_read};
+ghost use Rattle.m36_fastpath.specs.FastPath.{GivesEffect, IsQuietEffect, operand_of_pair};
 
 use crate::registers::pair;
 use crate::sums::is_withheld;
-use crate::words::{move_on, set_comparison_indicators};
+use crate::words::{advance_counter, set_comparison_indicators};
 use m36_arith::{Sum72, add72, and72, cmp72, or72, sub72, xor72};
 use m36_inst::Effect;
 use m36_model::Regs;
@@ -27,7 +27,7 @@ use m36_word::Pair;
 /// Stores a pair into the accumulator and the quotient register.
 #[inline(always)]
 #[tactic(auto, unfolding(m36_model::specs::Results::with_value))]
-fn take_pair(p: &Pair, regs: &mut Regs)
+fn set_aq(p: &Pair, regs: &mut Regs)
     ensures { regs.new ≡ with_value AQ (number_of p.now) regs.old }
 {
     let _bits = p.odd.value();
@@ -37,9 +37,9 @@ fn take_pair(p: &Pair, regs: &mut Regs)
 
 /// Sets zero and negative for a pair.
 #[inline(always)]
-#[tactic(auto, unfolding(m36_model::specs::Results::zn))]
-fn test_pair(p: &Pair, regs: &mut Regs)
-    ensures { regs.new ≡ tested (2 ^ 71) (number_of p.now) regs.old }
+#[tactic(auto, unfolding(m36_model::specs::Results::set_zero_negative))]
+fn set_pair_indicators(p: &Pair, regs: &mut Regs)
+    ensures { regs.new ≡ with_test_indicators (2 ^ 71) (number_of p.now) regs.old }
 {
     let v = p.value();
     regs.ind.zero = v == 0;
@@ -49,23 +49,23 @@ fn test_pair(p: &Pair, regs: &mut Regs)
 /// Loads a pair into the accumulator and the quotient register, sets zero and negative for it, and
 /// advances the instruction counter.
 #[inline(always)]
-#[tactic(auto, unfolding(m36_model::specs::Loads::load, m36_model::specs::Results::with_value, m36_model::specs::Results::moved_on))]
+#[tactic(auto, unfolding(m36_model::specs::Loads::load, m36_model::specs::Results::with_value, m36_model::specs::Results::advanced))]
 pub(crate) fn load_pair(p: Pair, regs: &mut Regs)
     ensures dbr { regs.new.dbr ≡ regs.old.dbr }
     ensures value { Ok (record { regs = regs.new; put = []; overflow = false })
         ≡ load AQ (number_of p) regs.old }
 {
-    take_pair(&p, regs);
-    test_pair(&p, regs);
-    move_on(regs);
+    set_aq(&p, regs);
+    set_pair_indicators(&p, regs);
+    advance_counter(regs);
 }
 
 /// Sets zero, negative and carry for a sum. Overflow is set if the sum overflows, and otherwise
 /// unchanged.
 #[inline(always)]
-#[tactic(auto, unfolding(m36_model::specs::Results::zn_carry_overflow))]
+#[tactic(auto, unfolding(m36_model::specs::Results::set_zero_negative_carry_overflow))]
 fn set_sum_indicators(s: &Sum72, regs: &mut Regs)
-    ensures value { regs.new ≡ with_indicators (zn_carry_overflow s.now regs.old.ind) regs.old }
+    ensures value { regs.new ≡ with_indicators (set_zero_negative_carry_overflow s.now regs.old.ind) regs.old }
     ensures mask { regs.new.ind.mask ≡ regs.old.ind.mask }
 {
     let before = regs.ind.overflow;
@@ -78,7 +78,7 @@ fn set_sum_indicators(s: &Sum72, regs: &mut Regs)
 /// Loads a sum into the accumulator and the quotient register, and returns whether it overflows.
 /// None, only if `quiet`: the overflow would be a fault, and nothing has changed.
 #[inline(always)]
-#[tactic(auto, unfolding(m36_model::specs::Sums::into_register, m36_model::specs::Results::with_value, m36_model::specs::Results::moved_on))]
+#[tactic(auto, unfolding(m36_model::specs::Sums::into_register, m36_model::specs::Results::with_value, m36_model::specs::Results::advanced))]
 fn try_sum_pair(s: Sum72, quiet: bool, regs: &mut Regs) -> Option<bool>
     ensures done { IfSome result (λ o. Ok (record { regs = regs.new; put = []; overflow = o })
         ≡ into_register AQ s regs.old) }
@@ -90,9 +90,9 @@ fn try_sum_pair(s: Sum72, quiet: bool, regs: &mut Regs) -> Option<bool>
     if is_withheld(s.overflow, quiet, regs) {
         return None;
     }
-    take_pair(&s.value, regs);
+    set_aq(&s.value, regs);
     set_sum_indicators(&s, regs);
-    move_on(regs);
+    advance_counter(regs);
     Some(s.overflow)
 }
 
@@ -103,7 +103,7 @@ fn try_sum_pair(s: Sum72, quiet: bool, regs: &mut Regs) -> Option<bool>
 fn try_read(effect: Effect, regs: &mut Regs, p: Pair, quiet: bool) -> Option<bool>
     requires { group_of effect ≡ group.ReadPair }
     ensures done { IfSome result (λ o. (n : ℕ)
-        → Gives effect n regs.old (pair_words p) regs.new [] o) }
+        → GivesEffect effect n regs.old (pair_words p) regs.new [] o) }
     ensures quiet { IfSome result (λ o. (quiet && (o && not regs.new.ind.mask)) ≡ false) }
     ensures none { IfNone result (regs.new ≡ regs.old) }
     ensures asked { IfNone result (IsTrue quiet) }
@@ -128,7 +128,7 @@ fn try_read(effect: Effect, regs: &mut Regs, p: Pair, quiet: bool) -> Option<boo
 pub fn read_pair(effect: Effect, regs: &mut Regs, p: Pair) -> bool
     requires { group_of effect ≡ group.ReadPair }
     ensures done { IsTrue result → (n : ℕ) (f : FinalFields) (ring : ℕ)
-        → IsDone regs.new [] (exec effect n regs.old f (pair_read p ring)) }
+        → IsQuietEffect regs.new [] (exec effect n regs.old f (operand_of_pair p ring)) }
     ensures not { IsFalse result → regs.new ≡ regs.old }
     ensures dbr { regs.new.dbr ≡ regs.old.dbr }
 {
@@ -141,7 +141,7 @@ pub fn read_pair(effect: Effect, regs: &mut Regs, p: Pair) -> bool
 /// As `read_pair`, but also completes on overflow. Returns whether the instruction overflows.
 pub fn read_pair_with_overflow(effect: Effect, regs: &mut Regs, p: Pair) -> bool
     requires { group_of effect ≡ group.ReadPair }
-    ensures value { (n : ℕ) → Gives effect n regs.old (pair_words p) regs.new [] result }
+    ensures value { (n : ℕ) → GivesEffect effect n regs.old (pair_words p) regs.new [] result }
     ensures dbr { regs.new.dbr ≡ regs.old.dbr }
 {
     match try_read(effect, regs, p, false) {
@@ -163,7 +163,7 @@ pub fn store_pair(effect: Effect, regs: &mut Regs) -> Pair
     match effect {
         Effect::Staq => {
             let stored = pair(regs);
-            move_on(regs);
+            advance_counter(regs);
             stored
         }
         _ => unreachable!(),

@@ -2,7 +2,7 @@
 
 ghost use Rattle.std.specs.Prelude.{ℕ, ◌≡◌, ◌^◌, ◌<◌, false, [], Ok};
 ghost use Rattle.m36_word.specs.Pairs.{number_of};
-ghost use Rattle.m36_arith.specs.ShiftResult.{shifted};
+ghost use Rattle.m36_arith.specs.ShiftResult.{shifted_number};
 ghost use Rattle.m36_model.specs.Effect.{exec};
 ghost use Rattle.m36_model.specs.Shifts.{count_of};
 ghost use Rattle.m36_model.specs.ShiftEffects.{shift_left, with_carry};
@@ -24,7 +24,7 @@ use m36_word::{Pair, Word};
 #[tactic(auto, unfolding(m36_arith::specs::ShiftResult::shift_result))]
 fn shifted_word(op: Shift, w: Word, n: u32) -> Word
     requires { n < 128 }
-    ensures { result ≡ shifted op 36 w n }
+    ensures { result ≡ shifted_number op 36 w n }
 {
     shift36(op, w, n).value
 }
@@ -34,7 +34,7 @@ fn shifted_word(op: Shift, w: Word, n: u32) -> Word
 #[tactic(auto, unfolding(m36_arith::specs::ShiftResult::shift_result))]
 fn shifted_pair(op: Shift, p: Pair, n: u32) -> Pair
     requires { n < 128 }
-    ensures { number_of result ≡ shifted op 72 (number_of p) n }
+    ensures { number_of result ≡ shifted_number op 72 (number_of p) n }
 {
     shift72(op, p, n).value
 }
@@ -58,8 +58,8 @@ fn set_carry(carry: bool, regs: &mut Regs)
 
 /// ALS: shifts the accumulator left.
 #[inline(always)]
-#[tactic(auto, unfolding(m36_arith::specs::ShiftResult::shift_result, m36_model::specs::ShiftEffects::shift_left, m36_model::specs::Loads::load, m36_model::specs::Results::with_value, m36_model::specs::Results::zn, m36_model::specs::Results::moved_on))]
-fn a_left(f: &Final, regs: &mut Regs)
+#[tactic(auto, unfolding(m36_arith::specs::ShiftResult::shift_result, m36_model::specs::ShiftEffects::shift_left, m36_model::specs::Loads::load, m36_model::specs::Results::with_value, m36_model::specs::Results::set_zero_negative, m36_model::specs::Results::advanced))]
+fn shift_a_left(f: &Final, regs: &mut Regs)
     ensures dbr { regs.new.dbr ≡ regs.old.dbr }
     ensures value { Ok (record { regs = regs.new; put = []; overflow = false })
         ≡ shift_left A f.now.at.word regs.old }
@@ -71,8 +71,8 @@ fn a_left(f: &Final, regs: &mut Regs)
 
 /// QLS: shifts the quotient register left.
 #[inline(always)]
-#[tactic(auto, unfolding(m36_arith::specs::ShiftResult::shift_result, m36_model::specs::ShiftEffects::shift_left, m36_model::specs::Loads::load, m36_model::specs::Results::with_value, m36_model::specs::Results::zn, m36_model::specs::Results::moved_on))]
-fn q_left(f: &Final, regs: &mut Regs)
+#[tactic(auto, unfolding(m36_arith::specs::ShiftResult::shift_result, m36_model::specs::ShiftEffects::shift_left, m36_model::specs::Loads::load, m36_model::specs::Results::with_value, m36_model::specs::Results::set_zero_negative, m36_model::specs::Results::advanced))]
+fn shift_q_left(f: &Final, regs: &mut Regs)
     ensures dbr { regs.new.dbr ≡ regs.old.dbr }
     ensures value { Ok (record { regs = regs.new; put = []; overflow = false })
         ≡ shift_left Q f.now.at.word regs.old }
@@ -84,8 +84,8 @@ fn q_left(f: &Final, regs: &mut Regs)
 
 /// LLS: shifts both registers left, as one number of 72 bits.
 #[inline(always)]
-#[tactic(auto, unfolding(m36_arith::specs::ShiftResult::shift_result, m36_model::specs::ShiftEffects::shift_left, m36_model::specs::Loads::load, m36_model::specs::Results::with_value, m36_model::specs::Results::zn, m36_model::specs::Results::moved_on))]
-fn pair_left(f: &Final, regs: &mut Regs)
+#[tactic(auto, unfolding(m36_arith::specs::ShiftResult::shift_result, m36_model::specs::ShiftEffects::shift_left, m36_model::specs::Loads::load, m36_model::specs::Results::with_value, m36_model::specs::Results::set_zero_negative, m36_model::specs::Results::advanced))]
+fn shift_pair_left(f: &Final, regs: &mut Regs)
     ensures dbr { regs.new.dbr ≡ regs.old.dbr }
     ensures value { Ok (record { regs = regs.new; put = []; overflow = false })
         ≡ shift_left AQ f.now.at.word regs.old }
@@ -106,9 +106,9 @@ pub fn shift(effect: Effect, regs: &mut Regs, f: &Final)
 {
     let n = shift_count(f);
     match effect {
-        Effect::Als => a_left(f, regs),
-        Effect::Qls => q_left(f, regs),
-        Effect::Lls => pair_left(f, regs),
+        Effect::Als => shift_a_left(f, regs),
+        Effect::Qls => shift_q_left(f, regs),
+        Effect::Lls => shift_pair_left(f, regs),
         Effect::Ars => load_a(shifted_word(Shift::Right, accumulator(regs), n), regs),
         Effect::Qrs => load_q(shifted_word(Shift::Right, quotient(regs), n), regs),
         Effect::Lrs => load_pair(shifted_pair(Shift::Right, pair(regs), n), regs),

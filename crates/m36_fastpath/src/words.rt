@@ -11,11 +11,11 @@ ghost use Rattle.m36_model.specs.Effect.{exec};
 ghost use Rattle.m36_model.specs.Fields.{FinalFields};
 ghost use Rattle.m36_model.specs.Loads.{load};
 ghost use Rattle.m36_model.specs.Results.{A, Q, X, completes};
-ghost use Rattle.m36_model.specs.Results.{moved_on, with_indicators, tested, compared};
+ghost use Rattle.m36_model.specs.Results.{advanced, with_indicators, with_test_indicators, set_by_comparison};
 ghost use Rattle.m36_model.specs.Step.{no_operand};
 ghost use Rattle.m36_inst.specs.Quick.{group_of};
 ghost use Rattle.m36_inst.specs.declared.rows.Group.TheVariants as group;
-ghost use Rattle.m36_fastpath.specs.FastPath.{Gives, IsDone, word_read};
+ghost use Rattle.m36_fastpath.specs.FastPath.{GivesEffect, IsQuietEffect, operand_of_word};
 
 use crate::registers::{accumulator, quotient};
 use crate::sums::{try_sum_a, try_sum_q, try_sum_word};
@@ -26,9 +26,9 @@ use m36_word::{Field, Word};
 
 /// Advances the instruction counter to the next instruction, modulo 2^18.
 #[inline(always)]
-#[tactic(auto, unfolding(m36_model::specs::Results::moved_on))]
-pub(crate) fn move_on(regs: &mut Regs)
-    ensures value { regs.new ≡ moved_on regs.old }
+#[tactic(auto, unfolding(m36_model::specs::Results::advanced))]
+pub(crate) fn advance_counter(regs: &mut Regs)
+    ensures value { regs.new ≡ advanced regs.old }
     ensures dbr { regs.new.dbr ≡ regs.old.dbr }
 {
     let ic = regs.ppr.ic;
@@ -37,9 +37,9 @@ pub(crate) fn move_on(regs: &mut Regs)
 
 /// Sets zero and negative for a word.
 #[inline(always)]
-#[tactic(auto, unfolding(m36_model::specs::Results::zn))]
-fn test(w: Word, regs: &mut Regs)
-    ensures { regs.new ≡ tested (2 ^ 35) w regs.old }
+#[tactic(auto, unfolding(m36_model::specs::Results::set_zero_negative))]
+fn set_word_indicators(w: Word, regs: &mut Regs)
+    ensures { regs.new ≡ with_test_indicators (2 ^ 35) w regs.old }
 {
     let v = w.value();
     regs.ind.zero = v == 0;
@@ -48,9 +48,9 @@ fn test(w: Word, regs: &mut Regs)
 
 /// Sets zero and negative for the value of an index register.
 #[inline(always)]
-#[tactic(auto, unfolding(m36_model::specs::Results::zn))]
-fn test_index(v: u32, regs: &mut Regs)
-    ensures { regs.new ≡ tested (2 ^ 17) v regs.old }
+#[tactic(auto, unfolding(m36_model::specs::Results::set_zero_negative))]
+fn set_index_indicators(v: u32, regs: &mut Regs)
+    ensures { regs.new ≡ with_test_indicators (2 ^ 17) v regs.old }
 {
     regs.ind.zero = v == 0;
     regs.ind.negative = v >= 1 << 17;
@@ -59,33 +59,33 @@ fn test_index(v: u32, regs: &mut Regs)
 /// Loads a word into the accumulator, sets zero and negative for it, and advances the instruction
 /// counter.
 #[inline(always)]
-#[tactic(auto, unfolding(m36_model::specs::Loads::load, m36_model::specs::Results::with_value, m36_model::specs::Results::moved_on))]
+#[tactic(auto, unfolding(m36_model::specs::Loads::load, m36_model::specs::Results::with_value, m36_model::specs::Results::advanced))]
 pub(crate) fn load_a(w: Word, regs: &mut Regs)
     ensures dbr { regs.new.dbr ≡ regs.old.dbr }
     ensures value { Ok (record { regs = regs.new; put = []; overflow = false })
         ≡ load A w regs.old }
 {
     regs.a = w;
-    test(w, regs);
-    move_on(regs);
+    set_word_indicators(w, regs);
+    advance_counter(regs);
 }
 
 /// As `load_a`, for the quotient register.
 #[inline(always)]
-#[tactic(auto, unfolding(m36_model::specs::Loads::load, m36_model::specs::Results::with_value, m36_model::specs::Results::moved_on))]
+#[tactic(auto, unfolding(m36_model::specs::Loads::load, m36_model::specs::Results::with_value, m36_model::specs::Results::advanced))]
 pub(crate) fn load_q(w: Word, regs: &mut Regs)
     ensures dbr { regs.new.dbr ≡ regs.old.dbr }
     ensures value { Ok (record { regs = regs.new; put = []; overflow = false })
         ≡ load Q w regs.old }
 {
     regs.q = w;
-    test(w, regs);
-    move_on(regs);
+    set_word_indicators(w, regs);
+    advance_counter(regs);
 }
 
 /// As `load_a`, for index register `n` and a number of 18 bits.
 #[inline(always)]
-#[tactic(auto, unfolding(m36_model::specs::Loads::load, m36_model::specs::Results::with_value, m36_model::specs::Results::moved_on))]
+#[tactic(auto, unfolding(m36_model::specs::Loads::load, m36_model::specs::Results::with_value, m36_model::specs::Results::advanced))]
 fn load_index(n: u8, v: u32, regs: &mut Regs)
     requires register { n < 8 }
     requires number { v < 2 ^ 18 }
@@ -94,34 +94,34 @@ fn load_index(n: u8, v: u32, regs: &mut Regs)
         ≡ load (X n) v regs.old }
 {
     regs.x[n as usize] = v;
-    test_index(v, regs);
-    move_on(regs);
+    set_index_indicators(v, regs);
+    advance_counter(regs);
 }
 
 /// Completes a comparison: sets zero, negative and carry, and advances the instruction counter.
 #[inline(always)]
-#[tactic(auto, unfolding(m36_model::specs::Results::compared))]
+#[tactic(auto, unfolding(m36_model::specs::Results::set_by_comparison))]
 pub(crate) fn set_comparison_indicators(c: Compare, regs: &mut Regs)
     ensures dbr { regs.new.dbr ≡ regs.old.dbr }
     ensures value { Ok (record { regs = regs.new; put = []; overflow = false })
-        ≡ completes (with_indicators (compared c regs.old.ind) regs.old) }
+        ≡ completes (with_indicators (set_by_comparison c regs.old.ind) regs.old) }
 {
     regs.ind.zero = c.zero;
     regs.ind.negative = c.negative;
     regs.ind.carry = c.carry;
-    move_on(regs);
+    advance_counter(regs);
 }
 
 /// SZN: sets zero and negative for the word, and advances the instruction counter.
 #[inline(always)]
 #[tactic(auto, unfolding(m36_model::specs::Compares::test_word))]
-fn test_alone(w: Word, regs: &mut Regs)
+fn set_zero_and_negative(w: Word, regs: &mut Regs)
     ensures dbr { regs.new.dbr ≡ regs.old.dbr }
     ensures value { Ok (record { regs = regs.new; put = []; overflow = false })
         ≡ test_word w regs.old }
 {
-    test(w, regs);
-    move_on(regs);
+    set_word_indicators(w, regs);
+    advance_counter(regs);
 }
 
 /// Executes a frequent instruction that reads a word, and returns whether it overflows. None, only
@@ -131,7 +131,7 @@ fn test_alone(w: Word, regs: &mut Regs)
 fn try_read(effect: Effect, reg: u8, regs: &mut Regs, w: Word, quiet: bool) -> Option<bool>
     requires group { group_of effect ≡ group.Read }
     requires reg { reg < 8 }
-    ensures done { IfSome result (λ o. Gives effect reg regs.old (w ∷ []) regs.new [] o) }
+    ensures done { IfSome result (λ o. GivesEffect effect reg regs.old (w ∷ []) regs.new [] o) }
     ensures quiet { IfSome result (λ o. (quiet && (o && not regs.new.ind.mask)) ≡ false) }
     ensures none { IfNone result (regs.new ≡ regs.old) }
     ensures asked { IfNone result (IsTrue quiet) }
@@ -148,7 +148,7 @@ fn try_read(effect: Effect, reg: u8, regs: &mut Regs, w: Word, quiet: bool) -> O
         Effect::Sbq => return try_sum_q(sub36(quotient(regs), w, false), quiet, regs),
         Effect::Cmpa => set_comparison_indicators(cmp36(accumulator(regs), w), regs),
         Effect::Cmpq => set_comparison_indicators(cmp36(quotient(regs), w), regs),
-        Effect::Szn => test_alone(w, regs),
+        Effect::Szn => set_zero_and_negative(w, regs),
         Effect::Ana => load_a(and36(accumulator(regs), w), regs),
         Effect::Anq => load_q(and36(quotient(regs), w), regs),
         Effect::Ora => load_a(or36(accumulator(regs), w), regs),
@@ -167,7 +167,7 @@ pub fn read_word(effect: Effect, reg: u8, regs: &mut Regs, w: Word) -> bool
     requires group { group_of effect ≡ group.Read }
     requires reg { reg < 8 }
     ensures done { IsTrue result → (f : FinalFields)
-        → IsDone regs.new [] (exec effect reg regs.old f (word_read w)) }
+        → IsQuietEffect regs.new [] (exec effect reg regs.old f (operand_of_word w)) }
     ensures not { IsFalse result → regs.new ≡ regs.old }
     ensures dbr { regs.new.dbr ≡ regs.old.dbr }
 {
@@ -181,7 +181,7 @@ pub fn read_word(effect: Effect, reg: u8, regs: &mut Regs, w: Word) -> bool
 pub fn read_word_with_overflow(effect: Effect, reg: u8, regs: &mut Regs, w: Word) -> bool
     requires group { group_of effect ≡ group.Read }
     requires reg { reg < 8 }
-    ensures value { Gives effect reg regs.old (w ∷ []) regs.new [] result }
+    ensures value { GivesEffect effect reg regs.old (w ∷ []) regs.new [] result }
     ensures dbr { regs.new.dbr ≡ regs.old.dbr }
 {
     match try_read(effect, reg, regs, w, false) {
@@ -206,7 +206,7 @@ pub fn store_word(effect: Effect, regs: &mut Regs) -> Word
         Effect::Stz => Word::ZERO,
         _ => unreachable!(),
     };
-    move_on(regs);
+    advance_counter(regs);
     word
 }
 
@@ -227,7 +227,7 @@ pub fn store_half(effect: Effect, reg: u8, regs: &mut Regs) -> Word
         Effect::SxlN => regs.x[reg as usize],
         _ => unreachable!(),
     };
-    move_on(regs);
+    advance_counter(regs);
     Word::low(half as u64)
 }
 
@@ -239,7 +239,7 @@ pub fn store_half(effect: Effect, reg: u8, regs: &mut Regs) -> Word
 fn try_change(effect: Effect, regs: &mut Regs, w: Word, quiet: bool) -> Option<Sum36>
     requires { group_of effect ≡ group.Change }
     ensures done { IfSome result (λ s. (n : ℕ)
-        → Gives effect n regs.old (w ∷ []) regs.new (s.value ∷ []) s.overflow) }
+        → GivesEffect effect n regs.old (w ∷ []) regs.new (s.value ∷ []) s.overflow) }
     ensures quiet { IfSome result (λ s. (quiet && (s.overflow && not regs.new.ind.mask)) ≡ false) }
     ensures none { IfNone result (regs.new ≡ regs.old) }
     ensures asked { IfNone result (IsTrue quiet) }
@@ -259,7 +259,7 @@ fn try_change(effect: Effect, regs: &mut Regs, w: Word, quiet: bool) -> Option<S
 pub fn change_word(effect: Effect, regs: &mut Regs, w: Word) -> Option<Word>
     requires { group_of effect ≡ group.Change }
     ensures done { IfSome result (λ v. (n : ℕ) (f : FinalFields)
-        → IsDone regs.new (v ∷ []) (exec effect n regs.old f (word_read w))) }
+        → IsQuietEffect regs.new (v ∷ []) (exec effect n regs.old f (operand_of_word w))) }
     ensures none { IfNone result (regs.new ≡ regs.old) }
     ensures dbr { regs.new.dbr ≡ regs.old.dbr }
 {
@@ -273,7 +273,7 @@ pub fn change_word(effect: Effect, regs: &mut Regs, w: Word) -> Option<Word>
 pub fn change_word_with_overflow(effect: Effect, regs: &mut Regs, w: Word) -> Sum36
     requires { group_of effect ≡ group.Change }
     ensures value { (n : ℕ)
-        → Gives effect n regs.old (w ∷ []) regs.new (result.value ∷ []) result.overflow }
+        → GivesEffect effect n regs.old (w ∷ []) regs.new (result.value ∷ []) result.overflow }
     ensures dbr { regs.new.dbr ≡ regs.old.dbr }
 {
     match try_change(effect, regs, w, false) {

@@ -11,7 +11,7 @@ use Rattle.m36_program.specs.Found.{found_in}
 use Rattle.m36_program.specs.Goes.{AfterRead, Goes}
 use Rattle.m36_program.specs.Program.{Found, Content, Absent, TooLarge, May, Program, then_with}
 use Rattle.m36_program.specs.Program.{done, stops, reads, writes, puts, takes, some, wants}
-use Rattle.m36_program.specs.Reader.{outcome_in}
+use Rattle.m36_program.specs.Reader.{reader_result}
 use Rattle.m36_program.proofs.GoesLaws.{goes_then}
 
 -- Some events lead the program to this value.
@@ -32,9 +32,9 @@ answered Absent goes more result on = on
 answered TooLarge goes more result on = on
 
 reader_gives :
-    {may : May} {A : Type 0} (p : Program may A) (files : Files) (value : A) → outcome_in files p ≡ Some (Ok value)
+    {may : May} {A : Type 0} (p : Program may A) (files : Files) (value : A) → reader_result files p ≡ Some (Ok value)
     → Gives p value
-unfolding Goes outcome_in
+unfolding Goes reader_result
 reader_gives (done a) files value is = record {
   events = [];
   goes = record { none = refl; result_is = let e = is in cc };
@@ -60,7 +60,7 @@ reader_gives (wants p) files value is =
 
 pub reader_has_end :
     {may : May} {A B : Type 0} (p : Program may A) (next : A → Program may B) (files : Files) (value : A)
-    → outcome_in files p ≡ Some (Ok value) → HasEnd (next value) → HasEnd (then_with p next)
+    → reader_result files p ≡ Some (Ok value) → HasEnd (next value) → HasEnd (then_with p next)
 reader_has_end p next files value gives has =
     let first = reader_gives p files value gives in
     λ none. has (λ events result goes. none (first.events ++ events) result

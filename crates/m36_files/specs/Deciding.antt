@@ -13,16 +13,16 @@ never = some {B = ⊥} (λ b. ⊤) (λ b. absurd b)
 
 -- The program that ends with the value of a rule, or with the status of its refusal. A rule does
 -- not yield NoMemory.
-abbrev pub decided : {may : May} {A : Type 0} → Result A Refusal → Program may A
-decided (Ok a) = done a
-decided (Err (BadFile bad)) = stops (status.BadFile bad) tt
-decided (Err NoMemory) = never
+abbrev pub end_of_rule : {may : May} {A : Type 0} → Result A Refusal → Program may A
+end_of_rule (Ok a) = done a
+end_of_rule (Err (BadFile bad)) = stops (status.BadFile bad) tt
+end_of_rule (Err NoMemory) = never
 
 -- the program of a rule: memory may run out first
-unfoldable pub decides : {may : May} {A : Type 0} → Result A Refusal → Program may A
-decides given = wants (decided given)
+unfoldable pub rule_program : {may : May} {A : Type 0} → Result A Refusal → Program may A
+rule_program given = wants (end_of_rule given)
 
 -- the result of a rule with its refusal as a status
-abbrev pub by_refusal : {A : Type 0} → Result A Refusal → Result A Status
-by_refusal (Ok a) = Ok a
-by_refusal (Err refusal) = Err (status_of refusal)
+abbrev pub refusal_to_status : {A : Type 0} → Result A Refusal → Result A Status
+refusal_to_status (Ok a) = Ok a
+refusal_to_status (Err refusal) = Err (status_of refusal)

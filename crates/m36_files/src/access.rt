@@ -1,7 +1,7 @@
 //! A catalog with the rights of a user.
 
 ghost use Rattle.std.specs.Prelude.{◌≡◌, IfOk};
-ghost use Rattle.m36_files.specs.CatalogRules.{as_given, for_user};
+ghost use Rattle.m36_files.specs.CatalogRules.{with_boot_text_rights, for_user};
 
 use m36_acl::{Acl, DeniedLines, User};
 use m36_dir::Catalog;
@@ -19,8 +19,8 @@ pub struct Access {
 
 impl Access {
     /// A catalog with the rights of its boot text.
-    pub fn as_given(alloc: Global, catalog: Catalog) -> Access
-        ensures { result ≡ as_given catalog }
+    pub fn with_boot_text_rights(alloc: Global, catalog: Catalog) -> Access
+        ensures { result ≡ with_boot_text_rights catalog }
     {
         Access {
             catalog,

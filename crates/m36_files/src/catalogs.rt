@@ -5,15 +5,15 @@ ghost use Rattle.m36_outside.specs.ReadAnswer.{file_limit};
 ghost use Rattle.m36_dir.specs.Catalog.{catalog_of};
 ghost use Rattle.m36_acl.specs.AccessLists.{lists_of};
 ghost use Rattle.m36_acl.specs.Granted.{first_unknown};
-ghost use Rattle.m36_status.specs.Refusing.{Gives, Refuses};
-ghost use Rattle.m36_files.specs.CatalogRules.{catalog_refused, catalog_by, acl_refused, lists_refused, known_by, lists_by, for_user};
+ghost use Rattle.m36_status.specs.Refusing.{IsRuleResult, IsRuleRefusal};
+ghost use Rattle.m36_files.specs.CatalogRules.{catalog_refusal, catalog_or_refusal, acl_refusal, lists_refusal, lists_if_known, lists_or_refusal, for_user};
 ghost use Rattle.m36_program.specs.Performs.{Performs};
 ghost use Rattle.m36_program.specs.Program.{May};
-ghost use Rattle.m36_files.specs.Catalogs.{boot_catalog, access_lists, with_rights, catalog_access};
+ghost use Rattle.m36_files.specs.Catalogs.{boot_catalog, access_lists, catalog_with_rights, catalog_access};
 
 use crate::access::Access;
 use crate::boot_refusal::refuse_boot;
-use crate::deciding::decide;
+use crate::deciding::refusal_as_status;
 use m36_acl::{Acl, AclFault, User};
 use m36_dir::{Catalog, CatalogFault};
 use m36_program::read_bytes;
@@ -23,7 +23,7 @@ use std::alloc::Global;
 
 // The refusal of a boot text that is no catalog: D1 to D6.
 fn refuse_catalog(alloc: Global, fault: CatalogFault) -> Refusal
-    ensures { Refuses result (catalog_refused fault) }
+    ensures { IsRuleRefusal result (catalog_refusal fault) }
 {
     match fault {
         CatalogFault::D1(line) => refuse_boot(alloc, Code::D1, line),
@@ -40,7 +40,7 @@ fn refuse_catalog(alloc: Global, fault: CatalogFault) -> Refusal
 #[tactic(auto, using(crate::proofs::CatalogRuleLaws::catalogs))]
 fn catalog_in(alloc: Global, bytes: &[u8]) -> Result<Catalog, Refusal>
     requires { length bytes.now ≤ file_limit }
-    ensures { Gives result (catalog_by (catalog_of bytes.now)) }
+    ensures { IsRuleResult result (catalog_or_refusal (catalog_of bytes.now)) }
 {
     match Catalog::read(alloc, bytes) {
         Ok(catalog) => Ok(catalog),
@@ -57,7 +57,7 @@ pub fn read_catalog<W: World>(alloc: Global, world: &mut W) -> Result<Catalog, S
         Ok(text) => {
             let given = catalog_in(alloc, text.bytes());
             drop(text);
-            decide(given)
+            refusal_as_status(given)
         }
         Err(status) => Err(status),
     }
@@ -65,14 +65,14 @@ pub fn read_catalog<W: World>(alloc: Global, world: &mut W) -> Result<Catalog, S
 
 // The refusal of the access lists, with a code and a line.
 fn refuse_acl(alloc: Global, code: Code, at: u32) -> Refusal
-    ensures { Refuses result (acl_refused code at) }
+    ensures { IsRuleRefusal result (acl_refusal code at) }
 {
     refuse(alloc, b"acl", code, at)
 }
 
 // The refusal of a text that has no access lists: C1 or C2.
 fn refuse_lists(alloc: Global, fault: AclFault) -> Refusal
-    ensures { Refuses result (lists_refused fault) }
+    ensures { IsRuleRefusal result (lists_refusal fault) }
 {
     match fault {
         AclFault::C1(line) => refuse_acl(alloc, Code::C1, line),
@@ -82,8 +82,8 @@ fn refuse_lists(alloc: Global, fault: AclFault) -> Refusal
 }
 
 // The access lists, or C3 if they name a segment that is not in the catalog.
-fn known(alloc: Global, catalog: &Catalog, lists: Acl) -> Result<Acl, Refusal>
-    ensures { Gives result (known_by lists (first_unknown catalog.now lists)) }
+fn check_known(alloc: Global, catalog: &Catalog, lists: Acl) -> Result<Acl, Refusal>
+    ensures { IsRuleResult result (lists_if_known lists (first_unknown catalog.now lists)) }
 {
     match lists.first_unknown(catalog) {
         None => Ok(lists),
@@ -95,10 +95,10 @@ fn known(alloc: Global, catalog: &Catalog, lists: Acl) -> Result<Acl, Refusal>
 #[tactic(auto, using(crate::proofs::CatalogRuleLaws::lists_said))]
 fn lists_in(alloc: Global, catalog: &Catalog, bytes: &[u8]) -> Result<Acl, Refusal>
     requires { length bytes.now ≤ file_limit }
-    ensures { Gives result (lists_by catalog.now (lists_of bytes.now)) }
+    ensures { IsRuleResult result (lists_or_refusal catalog.now (lists_of bytes.now)) }
 {
     match Acl::read(alloc, bytes) {
-        Ok(lists) => known(alloc, catalog, lists),
+        Ok(lists) => check_known(alloc, catalog, lists),
         Err(fault) => Err(refuse_lists(alloc, fault)),
     }
 }
@@ -112,15 +112,15 @@ pub fn read_lists<W: World>(alloc: Global, catalog: &Catalog, world: &mut W) -> 
         Ok(text) => {
             let given = lists_in(alloc, catalog, text.bytes());
             drop(text);
-            decide(given)
+            refusal_as_status(given)
         }
         Err(status) => Err(status),
     }
 }
 
 // The catalog with the rights that the lists give to a user.
-fn rights_of(alloc: Global, user: &User, catalog: Catalog, lists: &Acl) -> Result<Access, Refusal>
-    ensures { Gives result (Ok (for_user user.now catalog lists.now)) }
+fn access_with_lists(alloc: Global, user: &User, catalog: Catalog, lists: &Acl) -> Result<Access, Refusal>
+    ensures { IsRuleResult result (Ok (for_user user.now catalog lists.now)) }
 {
     Ok(Access::for_user(alloc, user, catalog, lists)?)
 }
@@ -132,14 +132,14 @@ fn read_for_user<W: World>(
     catalog: Catalog,
     world: &mut W,
 ) -> Result<Access, Status>
-    ensures { (may : May) → Performs {may = may} (with_rights (Some user.now) catalog) result
+    ensures { (may : May) → Performs {may = may} (catalog_with_rights (Some user.now) catalog) result
         (W.seen world.old) (W.seen world.new) }
 {
     match read_lists(alloc, &catalog, world) {
         Ok(lists) => {
-            let given = rights_of(alloc, user, catalog, &lists);
+            let given = access_with_lists(alloc, user, catalog, &lists);
             drop(lists);
-            decide(given)
+            refusal_as_status(given)
         }
         Err(status) => Err(status),
     }
@@ -153,12 +153,12 @@ fn read_rights<W: World>(
     catalog: Catalog,
     world: &mut W,
 ) -> Result<Access, Status>
-    ensures { (may : May) → Performs {may = may} (with_rights user.now catalog) result
+    ensures { (may : May) → Performs {may = may} (catalog_with_rights user.now catalog) result
         (W.seen world.old) (W.seen world.new) }
 {
     match user {
         Some(user) => read_for_user(alloc, user, catalog, world),
-        None => Ok(Access::as_given(alloc, catalog)),
+        None => Ok(Access::with_boot_text_rights(alloc, catalog)),
     }
 }
 

@@ -18,16 +18,16 @@
 //! Programmers' Manual AG91; both texts are this project's own.
 //!
 //! Each has the clause `(may : May) → Performs {may = may} (..) result ..`, so any command may use
-//! it, also one that writes files. `each_onto` (`specs/EachFile.antt`) is the program that reads
+//! it, also one that writes files. `read_each` (`specs/EachFile.antt`) is the program that reads
 //! something for each item of a list, one after another. `proofs/EachLaws.antt` has the lemmas for
 //! a loop that performs it.
 //!
 //! A computation from the bytes of a file, without a read, is a rule: it yields a value or a
-//! refusal, and memory may run out in it (`decides`). [`decide`] turns its result into the result
+//! refusal, and memory may run out in it (`rule_program`). [`refusal_as_status`] turns its result into the result
 //! of a call.
 //!
 //! Each reader only reads files, so what it ends with follows from the files (`IsReader` and
-//! `outcome_in` of `m36_program`, `proofs/AreReaders.antt`), and it is alike to itself
+//! `reader_result` of `m36_program`, `proofs/AreReaders.antt`), and it is alike to itself
 //! (`proofs/AlikeReaders.antt`).
 #![tactic(auto)]
 
@@ -39,5 +39,5 @@ pub mod objects;
 
 pub use access::Access;
 pub use catalogs::{read_access, read_catalog, read_lists};
-pub use deciding::decide;
+pub use deciding::refusal_as_status;
 pub use objects::{read_object, read_words};

@@ -6,7 +6,7 @@ ghost use Rattle.m36_program.specs.Performs.{Performs};
 ghost use Rattle.m36_program.specs.Program.{May};
 ghost use Rattle.m36_files.specs.FileReaders.{file_words, file_object};
 
-use crate::deciding::decide;
+use crate::deciding::refusal_as_status;
 use m36_program::read_bytes;
 use m36_status::{Status, object_in, words_in};
 use m36_word::Words;
@@ -26,7 +26,7 @@ pub fn read_words<W: World>(alloc: Global, name: &[u8], world: &mut W) -> Result
             let given = words_in(alloc, name, text.bytes());
             // Dropped by a call, so that the drop is proved once for its type.
             drop(text);
-            decide(given)
+            refusal_as_status(given)
         }
         Err(status) => Err(status),
     }
@@ -41,7 +41,7 @@ pub fn read_object<W: World>(alloc: Global, name: &[u8], world: &mut W) -> Resul
         Ok(words) => {
             let given = object_in(alloc, name, words.slice());
             drop(words);
-            decide(given)
+            refusal_as_status(given)
         }
         Err(status) => Err(status),
     }

@@ -2,12 +2,12 @@
 use Rattle.std.proofs.Common.{◌≡◌, ℕ, List, ◌++◌, append_assoc}
 use Rattle.std.specs.Prelude.{codes}
 use Rattle.m36_text.specs.Digits.{decimal_text}
-use Rattle.m36_gen.specs.Lines.{line, numbered}
+use Rattle.m36_gen.specs.Lines.{line, line_with_number}
 use Rattle.m36_gen.specs.BootText.{segment_line}
 
 -- a line with a number in it
-pub numbered_put : (old before behind : List ℕ) (n : ℕ) → ((old ++ before) ++ decimal_text n) ++ line behind ≡ old ++ numbered before n behind
-unfolding line numbered
+pub numbered_put : (old before behind : List ℕ) (n : ℕ) → ((old ++ before) ++ decimal_text n) ++ line behind ≡ old ++ line_with_number before n behind
+unfolding line line_with_number
 numbered_put old before behind n = simp append_assoc
 
 pub named_put : (old before name behind : List ℕ) → ((old ++ before) ++ name) ++ line behind ≡ old ++ line (before ++ name ++ behind)

@@ -3,8 +3,8 @@ use Rattle.std.specs.Prelude.{ℕ, zero, suc, ◌+◌, ◌*◌, ◌/◌, ◌%◌
 use Rattle.m36_gen.specs.declared.draws.Draws.{Draws}
 
 -- the next state of the generator
-unfoldable pub next : ℕ → ℕ
-next x = (6364136223846793005 * x + 1442695040888963407) % 2 ^ 64
+unfoldable pub next_state : ℕ → ℕ
+next_state x = (6364136223846793005 * x + 1442695040888963407) % 2 ^ 64
 
 -- what is drawn by a state: its upper 31 bits
 abbrev pub draw_of : ℕ → ℕ
@@ -12,7 +12,7 @@ draw_of x = x / 2 ^ 33
 
 -- the state after the three draws of a program
 abbrev pub state_after_draws : ℕ → ℕ
-state_after_draws x = next (next (next x))
+state_after_draws x = next_state (next_state (next_state x))
 
 -- each offset is below this
 abbrev pub offset_bound : ℕ
@@ -26,8 +26,8 @@ most_words = 200
 -- words in the data.
 unfoldable pub draws_from : ℕ → Draws
 draws_from x = record {
-  add = draw_of (next x) % 1000;
-  count = 1 + draw_of (next (next x)) % most_words;
+  add = draw_of (next_state x) % 1000;
+  count = 1 + draw_of (next_state (next_state x)) % most_words;
   offset = draw_of (state_after_draws x) % offset_bound;
 }
 

@@ -41,10 +41,10 @@ sources_of seed =
     source_files seed program_count ++ file (source_of_object gate_name) stop_text ∷ []
 
 -- the files that are the same for each seed
-unfoldable pub other_files : List File
-other_files =
+unfoldable pub fixed_files : List File
+fixed_files =
     file data_name (packed (zeros data_words)) ∷ file boot_name boot_text ∷ []
 
 -- all files that a seed makes, in order
 unfoldable pub files_of : ℕ → List File
-files_of seed = sources_of seed ++ other_files
+files_of seed = sources_of seed ++ fixed_files

@@ -9,8 +9,8 @@ unfoldable pub line : List ℕ → List ℕ
 line text = as_line text
 
 -- a line with a number in decimal between two texts
-unfoldable pub numbered : List ℕ → ℕ → List ℕ → List ℕ
-numbered before n behind = line (before ++ decimal_text n ++ behind)
+unfoldable pub line_with_number : List ℕ → ℕ → List ℕ → List ℕ
+line_with_number before n behind = line (before ++ decimal_text n ++ behind)
 
 -- the number of programs
 abbrev pub program_count : ℕ

@@ -2,7 +2,7 @@
 -- the machine. The last program calls the gate.
 use Rattle.std.specs.Prelude.{ℕ, ◌+◌, ◌-◌, nat_eq, if◌then◌else◌, List, ◌++◌, codes}
 use Rattle.m36_gen.specs.declared.draws.Draws.{Draws}
-use Rattle.m36_gen.specs.Lines.{line, numbered, program_count, segment_name, data_name, gate_name}
+use Rattle.m36_gen.specs.Lines.{line, line_with_number, program_count, segment_name, data_name, gate_name}
 
 -- The entry, which loads the pointer to the linkage section of the segment.
 unfoldable pub entry_lines : List ℕ
@@ -14,9 +14,9 @@ entry_lines =
 -- The beginning of the loop, which adds to X1. X2 counts the rounds that are left.
 unfoldable pub adding_lines : Draws → List ℕ
 adding_lines draws =
-    numbered (codes " epp1 " ++ data_name ++ codes "$+") draws.offset (codes "")
-    ++ numbered (codes " eax2 ") draws.count (codes "")
-    ++ numbered (codes "loop: eax1 ") draws.add (codes ",x1")
+    line_with_number (codes " epp1 " ++ data_name ++ codes "$+") draws.offset (codes "")
+    ++ line_with_number (codes " eax2 ") draws.count (codes "")
+    ++ line_with_number (codes "loop: eax1 ") draws.add (codes ",x1")
 
 -- The end of the loop, which stores each sum in the data.
 unfoldable pub storing_lines : List ℕ

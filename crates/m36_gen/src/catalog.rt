@@ -3,7 +3,7 @@
 ghost use Rattle.std.specs.Prelude.{ℕ, ◌≡◌, ◌≤◌, ◌++◌, IfOk, OnOk};
 ghost use Rattle.m36_gen.specs.BootText.{segment_line, program_line, program_lines, boot_text};
 
-use crate::lines::{put_line, put_named, segment_name};
+use crate::lines::{put_line, put_line_with_name, segment_name};
 use crate::programs::PROGRAMS;
 use m36_outside::Text;
 use m36_word::NoMemory;
@@ -52,6 +52,6 @@ pub fn boot_text(alloc: Global) -> Result<Text, NoMemory>
     put_programs(&mut text, PROGRAMS)?;
     put_segment(&mut text, b"d_", b"data rw 4 4 4")?;
     put_segment(&mut text, b"stop_", b"gate rep 0 0 4")?;
-    put_named(&mut text, b"start 4 ", segment_name(0).bytes(), b"$start")?;
+    put_line_with_name(&mut text, b"start 4 ", segment_name(0).bytes(), b"$start")?;
     Ok(text)
 }

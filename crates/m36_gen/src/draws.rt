@@ -1,7 +1,7 @@
 //! The numbers that a seed draws.
 
 ghost use Rattle.std.specs.Prelude.{ℕ, ◌≡◌, ◌+◌, ◌*◌, ◌/◌, ◌%◌, ◌^◌, ◌<◌, ◌≤◌};
-ghost use Rattle.m36_gen.specs.Draws.{next, draw_of, draws_from, state_after_draws};
+ghost use Rattle.m36_gen.specs.Draws.{next_state, draw_of, draws_from, state_after_draws};
 
 /// The three numbers that are drawn for one program.
 #[derive(Clone, Copy, Debug, PartialEq, Eq)]
@@ -21,9 +21,9 @@ pub struct Sequence {
 }
 
 // The state after one more draw.
-#[tactic(auto, unfolding(crate::specs::Draws::next))]
-fn next(state: u64) -> u64
-    ensures { result ≡ next state }
+#[tactic(auto, unfolding(crate::specs::Draws::next_state))]
+fn next_state(state: u64) -> u64
+    ensures { result ≡ next_state state }
 {
     ((6_364_136_223_846_793_005 * state as u128 + 1_442_695_040_888_963_407) % (1 << 64)) as u64
 }
@@ -38,10 +38,10 @@ impl Sequence {
 
     // The next draw: below 2^31.
     fn draw(&mut self) -> u64
-        ensures state { self.new.state ≡ next self.old.state }
+        ensures state { self.new.state ≡ next_state self.old.state }
         ensures draw_of { result ≡ draw_of self.new.state }
     {
-        self.state = next(self.state);
+        self.state = next_state(self.state);
         self.state >> 33
     }
 

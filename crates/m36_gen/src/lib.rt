@@ -25,4 +25,4 @@ mod programs;
 
 pub use files::{File, Files};
 pub use laws::data_law;
-pub use making::{add_others, make, sources};
+pub use making::{add_fixed_files, make, sources};

@@ -2,7 +2,7 @@
 
 ghost use Rattle.std.specs.Prelude.{ℕ, ◌≡◌, ◌≤◌, [], ◌∷◌, ◌++◌, length, OnOk};
 ghost use Rattle.m36_text.specs.Texts.{name_limit};
-ghost use Rattle.m36_gen.specs.Lines.{line, numbered, segment_name, source_name};
+ghost use Rattle.m36_gen.specs.Lines.{line, line_with_number, segment_name, source_name};
 
 use arrayvec::ArrayVec;
 use m36_outside::Text;
@@ -20,8 +20,8 @@ pub fn put_line(text: &mut Text, bytes: &[u8]) -> Result<(), NoMemory>
 
 /// Adds a line with a number in decimal between two texts.
 #[tactic(auto, using(crate::proofs::Parts::numbered_put))]
-pub fn put_numbered(text: &mut Text, before: &[u8], n: u64, behind: &[u8]) -> Result<(), NoMemory>
-    ensures { OnOk result (text.new ≡ text.old ++ numbered before.now n behind.now) }
+pub fn put_line_with_number(text: &mut Text, before: &[u8], n: u64, behind: &[u8]) -> Result<(), NoMemory>
+    ensures { OnOk result (text.new ≡ text.old ++ line_with_number before.now n behind.now) }
 {
     text.append(before)?;
     text.append(decimal(n).as_str().as_bytes())?;
@@ -30,7 +30,7 @@ pub fn put_numbered(text: &mut Text, before: &[u8], n: u64, behind: &[u8]) -> Re
 
 /// Adds a line with a name between two texts.
 #[tactic(auto, using(crate::proofs::Parts::named_put))]
-pub fn put_named(text: &mut Text, before: &[u8], name: &[u8], behind: &[u8]) -> Result<(), NoMemory>
+pub fn put_line_with_name(text: &mut Text, before: &[u8], name: &[u8], behind: &[u8]) -> Result<(), NoMemory>
     ensures { OnOk result (text.new ≡ text.old ++ line (before.now ++ name.now ++ behind.now)) }
 {
     text.append(before)?;

@@ -4,7 +4,7 @@ ghost use Rattle.std.specs.Prelude.{ℕ, ◌≡◌, ◌<◌, ◌≤◌, ◌++◌
 ghost use Rattle.m36_text.specs.Packing.{packed};
 ghost use Rattle.m36_text.specs.Texts.{name_limit};
 ghost use Rattle.m36_gen.specs.Draws.{draws_from};
-ghost use Rattle.m36_gen.specs.Folder.{file, source_files, data_words, zeros, sources_of, other_files, files_of};
+ghost use Rattle.m36_gen.specs.Folder.{file, source_files, data_words, zeros, sources_of, fixed_files, files_of};
 ghost use Rattle.m36_gen.specs.Lines.{program_count, source_name};
 ghost use Rattle.m36_gen.specs.Sources.{source_text};
 
@@ -98,9 +98,9 @@ pub fn sources(alloc: Global, seed: u64) -> Result<Files, NoMemory>
 
 /// Adds the files that are the same for each seed: the data and the boot text. Fails only with
 /// `NoMemory`.
-#[tactic(auto, unfolding(crate::specs::Folder::other_files))]
-pub fn add_others(alloc: Global, files: &mut Files) -> Result<(), NoMemory>
-    ensures { OnOk result (files.new ≡ files.old ++ other_files) }
+#[tactic(auto, unfolding(crate::specs::Folder::fixed_files))]
+pub fn add_fixed_files(alloc: Global, files: &mut Files) -> Result<(), NoMemory>
+    ensures { OnOk result (files.new ≡ files.old ++ fixed_files) }
 {
     let words = packed_data(alloc)?;
     let text = boot_text(alloc)?;
@@ -115,6 +115,6 @@ pub fn make(alloc: Global, seed: u64) -> Result<Files, NoMemory>
     ensures { IfOk result (λ files. files ≡ files_of seed) }
 {
     let mut files = sources(alloc, seed)?;
-    add_others(alloc, &mut files)?;
+    add_fixed_files(alloc, &mut files)?;
     Ok(files)
 }

@@ -6,7 +6,7 @@ ghost use Rattle.m36_gen.specs.Sources.{entry_lines, adding_lines, storing_lines
 ghost use Rattle.m36_gen.specs.Sources.{source_text, stop_lines, stop_text};
 
 use crate::draws::Draws;
-use crate::lines::{put_line, put_named, put_numbered, segment_name};
+use crate::lines::{put_line, put_line_with_name, put_line_with_number, segment_name};
 use m36_outside::Text;
 use m36_word::NoMemory;
 use std::alloc::Global;
@@ -29,9 +29,9 @@ fn put_entry(text: &mut Text) -> Result<(), NoMemory>
 fn put_adding(text: &mut Text, draws: Draws) -> Result<(), NoMemory>
     ensures { OnOk result (text.new ≡ text.old ++ adding_lines draws) }
 {
-    put_numbered(text, b" epp1 d_$+", draws.offset, b"")?;
-    put_numbered(text, b" eax2 ", draws.count, b"")?;
-    put_numbered(text, b"loop: eax1 ", draws.add, b",x1")
+    put_line_with_number(text, b" epp1 d_$+", draws.offset, b"")?;
+    put_line_with_number(text, b" eax2 ", draws.count, b"")?;
+    put_line_with_number(text, b"loop: eax1 ", draws.add, b",x1")
 }
 
 // Adds the end of the loop, which stores each sum in the data.
@@ -61,7 +61,7 @@ fn put_following(text: &mut Text, i: u64) -> Result<(), NoMemory>
     if i == PROGRAMS - 1 {
         put_line(text, b" call6 stop_$stop")
     } else {
-        put_named(text, b" tra ", segment_name(i + 1).bytes(), b"$start")
+        put_line_with_name(text, b" tra ", segment_name(i + 1).bytes(), b"$start")
     }
 }
 

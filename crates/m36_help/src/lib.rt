@@ -91,7 +91,7 @@ fn with_options(alloc: Global, program: Command<'static>) -> Result<Command<'sta
 }
 
 // The description of the command line, from which `clap` renders the help.
-fn described(alloc: Global) -> Result<Command<'static>, AllocError> {
+fn command_line_description(alloc: Global) -> Result<Command<'static>, AllocError> {
     let mut program = Command::new(alloc, "m36")
         .about("Simulate the Honeywell 6180 of Multics, in the current folder")
         .override_usage(USAGE)
@@ -106,7 +106,7 @@ fn described(alloc: Global) -> Result<Command<'static>, AllocError> {
 
 /// The text of the help, with a line feed at its end. Fails only with `NoMemory`.
 pub fn help(alloc: Global) -> Result<Text, NoMemory> {
-    let mut program = described(alloc)?;
+    let mut program = command_line_description(alloc)?;
     let text = program.render_help()?;
     Text::from_bytes(alloc, text.as_str().as_bytes())
 }

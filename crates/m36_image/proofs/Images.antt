@@ -11,16 +11,16 @@ use Rattle.m36_image.specs.declared.refusal.ImageCode.{ImageCode}
 use Rattle.m36_image.specs.declared.refusal.Refusal.{Refusal}
 use Rattle.m36_image.specs.declared.header.Header.{Header}
 use Rattle.m36_image.specs.PlacedWords.{PlacedWords}
-use Rattle.m36_text.specs.Lines.{lines_of, line_at, first_reported}
+use Rattle.m36_text.specs.Lines.{lines_of, line_at, first_present}
 use Rattle.m36_text.proofs.Telling.{told_earlier}
 use Rattle.m36_image.specs.BareImage.{core_line, dbr_line, form_code, start_line, at_line, at_codes, frames_of, header_codes, line_codes, image_in, image_by, image_of}
-use Rattle.m36_image.specs.ImageState.{written_all, regs_of, state_of, state_by, state_given}
+use Rattle.m36_image.specs.ImageState.{written_all, regs_of, state_of, state_by, state_of_text}
 use Rattle.m36_image.specs.HeaderFields.{IsHeader}
 
 pub header_refused :
     (text : List ℕ) (refusal : Refusal)
-    → first_reported 1 (header_codes (lines_of text)) ≡ Some (refusal.line, refusal.code) → state_given text ≡ Err refusal
-unfolding state_given image_of
+    → first_present 1 (header_codes (lines_of text)) ≡ Some (refusal.line, refusal.code) → state_of_text text ≡ Err refusal
+unfolding state_of_text image_of
 header_refused text refusal e =
     ap (λ f. state_by (image_by f (image_in (lines_of text)))) (told_earlier 1 (header_codes (lines_of text)) (at_codes (1024 * frames_of (lines_of text)) [] (drop 3 (lines_of text))) (refusal.line, refusal.code) e)
 
@@ -28,8 +28,8 @@ header_refused text refusal e =
 header_fine :
     (core : Result ℕ ImageCode) (dbr : Option Pair) (start : Option PprFields) (more : List (Option ImageCode)) (n : ℕ) (d : Pair) (s : PprFields)
     → core ≡ Ok n → dbr ≡ Some d → start ≡ Some s
-    → first_reported 1 (result_err core ∷ form_code dbr ∷ form_code start ∷ more) ≡ first_reported 4 more
-unfolding first_reported
+    → first_present 1 (result_err core ∷ form_code dbr ∷ form_code start ∷ more) ≡ first_present 4 more
+unfolding first_present
 header_fine core dbr start more n d s e f g = rw (e, f, g)
 
 pub frames_are : (lines : List (Option (List ℕ))) (n : ℕ) → core_line (line_at lines 1) ≡ Ok n → frames_of lines ≡ n
@@ -44,16 +44,16 @@ size_is lines start n e zero =
 lines_fault :
     (text rest start : List ℕ) (header : Header)
     → IsHeader header rest (lines_of text) → start ≡ replicate (1024 * header.frames) 0
-    → first_reported 1 (line_codes (lines_of text)) ≡ first_reported 4 (at_codes (length start) [] (lines_of rest))
+    → first_present 1 (line_codes (lines_of text)) ≡ first_present 4 (at_codes (length start) [] (lines_of rest))
 lines_fault text rest start header is zero =
-    header_fine (core_line (line_at (lines_of text) 1)) (dbr_line (line_at (lines_of text) 2)) (start_line (line_at (lines_of text) 3)) (at_codes (1024 * frames_of (lines_of text)) [] (drop 3 (lines_of text))) header.frames header.dbr header.start is.frames is.dbr is.start ∙ ap (λ s. first_reported 4 (at_codes s [] (drop 3 (lines_of text)))) (size_is (lines_of text) start header.frames is.frames zero) ∙ ap (λ l. first_reported 4 (at_codes (length start) [] l)) is.others
+    header_fine (core_line (line_at (lines_of text) 1)) (dbr_line (line_at (lines_of text) 2)) (start_line (line_at (lines_of text) 3)) (at_codes (1024 * frames_of (lines_of text)) [] (drop 3 (lines_of text))) header.frames header.dbr header.start is.frames is.dbr is.start ∙ ap (λ s. first_present 4 (at_codes s [] (drop 3 (lines_of text)))) (size_is (lines_of text) start header.frames is.frames zero) ∙ ap (λ l. first_present 4 (at_codes (length start) [] l)) is.others
 
 pub lines_refused :
     (text rest start : List ℕ) (header : Header) (refusal : Refusal)
     → IsHeader header rest (lines_of text) → start ≡ replicate (1024 * header.frames) 0
-    → first_reported 4 (at_codes (length start) [] (lines_of rest)) ≡ Some (refusal.line, refusal.code)
-    → state_given text ≡ Err refusal
-unfolding state_given image_of
+    → first_present 4 (at_codes (length start) [] (lines_of rest)) ≡ Some (refusal.line, refusal.code)
+    → state_of_text text ≡ Err refusal
+unfolding state_of_text image_of
 lines_refused text rest start header refusal is zero e =
     ap (λ f. state_by (image_by f (image_in (lines_of text)))) (lines_fault text rest start header is zero ∙ e)
 
@@ -75,10 +75,10 @@ parts_are lines rest start header is zero =
 pub image_accepted :
     (text rest start core : List ℕ) (header : Header)
     → IsHeader header rest (lines_of text) → start ≡ replicate (1024 * header.frames) 0
-    → first_reported 4 (at_codes (length start) [] (lines_of rest)) ≡ None
+    → first_present 4 (at_codes (length start) [] (lines_of rest)) ≡ None
     → core ≡ written_all start (filter_map at_line (lines_of rest))
-    → state_given text ≡ Ok (record { regs = regs_of header.dbr header.start; store = core })
-unfolding state_given image_of
+    → state_of_text text ≡ Ok (record { regs = regs_of header.dbr header.start; store = core })
+unfolding state_of_text image_of
 image_accepted text rest start core header is zero e written =
     ap (λ f. state_by (image_by f (image_in (lines_of text)))) (lines_fault text rest start header is zero ∙ e) ∙ parts_are (lines_of text) rest start header is zero ∙ ap (λ c. ok_state (record { regs = regs_of header.dbr header.start; store = c })) (sym written)
 

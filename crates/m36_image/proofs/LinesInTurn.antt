@@ -10,11 +10,11 @@ use Rattle.m36_image.specs.declared.refusal.ImageCode.{ImageCode}
 use Rattle.m36_image.specs.declared.refusal.ImageCode.TheVariants.{I3}
 use Rattle.m36_image.specs.PlacedWords.{PlacedWords}
 use Rattle.m36_text.specs.Texts.{is_text}
-use Rattle.m36_text.specs.Lines.{words_of, first_reported}
+use Rattle.m36_text.specs.Lines.{words_of, first_present}
 use Rattle.m36_text.specs.Numbers.{octal_in}
-use Rattle.m36_image.specs.BareImage.{at_read, at_words, at_line, code_if_absent, at_codes, addresses}
-use Rattle.m36_image.specs.Several.{with_number, numbers_by, one_to}
-use Rattle.m36_image.specs.LineByLine.{code_of_at_line}
+use Rattle.m36_image.specs.BareImage.{at_read, at_words, at_line, at_line_code, at_codes, addresses}
+use Rattle.m36_image.specs.Several.{with_number, numbers_by, numbers_up_to}
+use Rattle.m36_image.specs.LineByLine.{end_of_at_line}
 
 -- Reading `at` lines while remembering only the address after the last word.
 abbrev pub end_or : ℕ → Result ℕ ImageCode → ℕ
@@ -28,7 +28,7 @@ fault_or n (Err code) later = Some (n, code)
 unfoldable pub fault_in_turn : ℕ → ℕ → ℕ → List (Option (List ℕ)) → Option (ℕ × ImageCode)
 fault_in_turn size n next [] = None
 fault_in_turn size n next (line ∷ lines) =
-    fault_or n (code_of_at_line size next (at_line line)) (fault_in_turn size (n + 1) (end_or next (code_of_at_line size next (at_line line))) lines)
+    fault_or n (end_of_at_line size next (at_line line)) (fault_in_turn size (n + 1) (end_or next (end_of_at_line size next (at_line line))) lines)
 
 -- A line that has its form has at least one word.
 abbrev pub HasWord : Option (List ℕ) → Type 0
@@ -43,8 +43,8 @@ chosen_some : (b : Bool) (o : Option (List ℕ)) → HasWord o → HasWord (cond
 chosen_some true o h = h
 chosen_some false o h = tt
 
-one_to_eight_some : (texts : List (List ℕ)) → HasWord (one_to 8 (octal_in 12) texts)
-unfolding one_to
+one_to_eight_some : (texts : List (List ℕ)) → HasWord (numbers_up_to 8 (octal_in 12) texts)
+unfolding numbers_up_to
 one_to_eight_some [] = tt
 one_to_eight_some (text ∷ texts) =
     chosen_some (nat_lt (length texts) 8) (numbers_by (octal_in 12) (text ∷ texts)) (with_word_some (octal_in 12 text) (numbers_by (octal_in 12) texts))
@@ -65,7 +65,7 @@ at_words_some : (words : List (List ℕ)) → HasPlace (at_words words)
 at_words_some [] = tt
 at_words_some (name ∷ []) = tt
 at_words_some (name ∷ address ∷ texts) =
-    named_some (is_text (codes "at") name) (at_read (octal_in 8 address) (one_to 8 (octal_in 12) texts)) (at_read_some (octal_in 8 address) (one_to 8 (octal_in 12) texts) (one_to_eight_some texts))
+    named_some (is_text (codes "at") name) (at_read (octal_in 8 address) (numbers_up_to 8 (octal_in 12) texts)) (at_read_some (octal_in 8 address) (numbers_up_to 8 (octal_in 12) texts) (one_to_eight_some texts))
 
 at_line_some : (line : Option (List ℕ)) → HasPlace (at_line line)
 at_line_some None = tt
@@ -104,7 +104,7 @@ ends_nowhere x = sym (le-leb 0 x (omega arith))
 -- Reading line by line finds the first line with a code: one more line, if the later ones do.
 abbrev pub Agrees : ℕ → ℕ → List (Option (List ℕ)) → Type 0
 Agrees size n lines =
-    (next : ℕ) (earlier : List ℕ) → EndsAt earlier next → fault_in_turn size n next lines ≡ first_reported n (at_codes size earlier lines)
+    (next : ℕ) (earlier : List ℕ) → EndsAt earlier next → fault_in_turn size n next lines ≡ first_present n (at_codes size earlier lines)
 
 and_left : (a b : Bool) → true ≡ (a && b) → a ≡ true
 and_left true b e = refl
@@ -115,8 +115,8 @@ test_in_turn :
     → b ≡ (nat_le next p.first && nat_le (p.first + length p.words) size)
     → 0 < length p.words → EndsAt earlier next → Agrees size (n + 1) lines
     → fault_or n (cond b (Ok (p.first + length p.words)) (Err I3)) (fault_in_turn size (n + 1) (end_or next (cond b (Ok (p.first + length p.words)) (Err I3))) lines)
-    ≡ first_reported n (result_err (cond b (Ok (p.first + length p.words)) (Err I3)) ∷ at_codes size (earlier ++ range_with_len p.first (length p.words)) lines)
-unfolding first_reported
+    ≡ first_present n (result_err (cond b (Ok (p.first + length p.words)) (Err I3)) ∷ at_codes size (earlier ++ range_with_len p.first (length p.words)) lines)
+unfolding first_present
 test_in_turn true size n next earlier lines p test some ends later =
     later (p.first + length p.words) (earlier ++ range_with_len p.first (length p.words)) (ends_on earlier next p.first (length p.words) some (leb-true next p.first (and_left (nat_le next p.first) (nat_le (p.first + length p.words) size) test)) ends)
 test_in_turn false size n next earlier lines p test some ends later = refl
@@ -124,15 +124,15 @@ test_in_turn false size n next earlier lines p test some ends later = refl
 line_in_turn :
     (size n next : ℕ) (earlier : List ℕ) (lines : List (Option (List ℕ))) (o : Option PlacedWords)
     → HasPlace o → EndsAt earlier next → Agrees size (n + 1) lines
-    → fault_or n (code_of_at_line size next o) (fault_in_turn size (n + 1) (end_or next (code_of_at_line size next o)) lines)
-    ≡ first_reported n (code_if_absent size earlier o ∷ at_codes size (earlier ++ addresses o) lines)
-unfolding first_reported
+    → fault_or n (end_of_at_line size next o) (fault_in_turn size (n + 1) (end_or next (end_of_at_line size next o)) lines)
+    ≡ first_present n (at_line_code size earlier o ∷ at_codes size (earlier ++ addresses o) lines)
+unfolding first_present
 line_in_turn size n next earlier lines None some ends later = refl
 line_in_turn size n next earlier lines (Some p) some ends later =
-    test_in_turn (nat_le next p.first && nat_le (p.first + length p.words) size) size n next earlier lines p refl some ends later ∙ ap (λ b. first_reported n (result_err (cond (b && nat_le (p.first + length p.words) size) (Ok (p.first + length p.words)) (Err I3)) ∷ at_codes size (earlier ++ range_with_len p.first (length p.words)) lines)) (sym (ends p.first))
+    test_in_turn (nat_le next p.first && nat_le (p.first + length p.words) size) size n next earlier lines p refl some ends later ∙ ap (λ b. first_present n (result_err (cond (b && nat_le (p.first + length p.words) size) (Ok (p.first + length p.words)) (Err I3)) ∷ at_codes size (earlier ++ range_with_len p.first (length p.words)) lines)) (sym (ends p.first))
 
 pub turn_is_fault : (size n : ℕ) (lines : List (Option (List ℕ))) → Agrees size n lines
-unfolding fault_in_turn at_codes first_reported
+unfolding fault_in_turn at_codes first_present
 turn_is_fault size n [] next earlier ends = refl
 turn_is_fault size n (line ∷ lines) next earlier ends =
     line_in_turn size n next earlier lines (at_line line) (at_line_some line) ends (turn_is_fault size (n + 1) lines)

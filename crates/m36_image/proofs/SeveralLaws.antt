@@ -4,7 +4,7 @@ use Rattle.std.specs.Prelude.{MatchOption}
 use Rattle.std.proofs.Math.Dec.{ltb}
 use Rattle.std.proofs.lemmas.List.{append-nil}
 use Rattle.std.proofs.lemmas.Bool.{lt-ltb, le-ltb}
-use Rattle.m36_image.specs.Several.{with_number, numbers_by, one_to}
+use Rattle.m36_image.specs.Several.{with_number, numbers_by, numbers_up_to}
 
 -- numbers that were read, before those that are still read
 abbrev pub behind : List ℕ → Option (List ℕ) → Option (List ℕ)
@@ -44,8 +44,8 @@ reading_more form front left all text texts n so_far begins read = record {
 }
 
 -- texts that do not all have the form are not one to `most` texts of the form
-none_of : (most : ℕ) (form : List ℕ → Option ℕ) (all : List (List ℕ)) → numbers_by form all ≡ None → one_to most form all ≡ None
-unfolding one_to
+none_of : (most : ℕ) (form : List ℕ → Option ℕ) (all : List (List ℕ)) → numbers_by form all ≡ None → numbers_up_to most form all ≡ None
+unfolding numbers_up_to
 none_of most form [] e = refl
 none_of most form (text ∷ texts) e = none_chosen (ltb (length texts) most) (numbers_by form (text ∷ texts)) e
 
@@ -56,33 +56,33 @@ none_behind front (Some numbers) = refl
 -- a text does not have the form
 pub reading_fails :
     (most : ℕ) (form : List ℕ → Option ℕ) (front : List ℕ) (left all : List (List ℕ)) (text : List ℕ) (texts : List (List ℕ))
-    → Reading form front left all → left ≡ text ∷ texts → form text ≡ None → one_to most form all ≡ None
+    → Reading form front left all → left ≡ text ∷ texts → form text ≡ None → numbers_up_to most form all ≡ None
 reading_fails most form front left all text texts so_far begins read =
     none_of most form all (sym so_far.numbers ∙ ap (λ t. behind front (numbers_by form t)) begins ∙ ap (λ o. behind front (with_number o (numbers_by form texts))) read ∙ none_behind front (numbers_by form texts))
 
 few_of :
     (most : ℕ) (form : List ℕ → Option ℕ) (all : List (List ℕ))
-    → 0 < length all → length all ≤ most → numbers_by form all ≡ one_to most form all
-unfolding one_to
+    → 0 < length all → length all ≤ most → numbers_by form all ≡ numbers_up_to most form all
+unfolding numbers_up_to
 few_of most form [] some few = absurd (omega arith)
 few_of most form (text ∷ texts) some few = rw (lt-ltb (length texts) most (omega arith))
 
-many_of : (most : ℕ) (form : List ℕ → Option ℕ) (all : List (List ℕ)) → most < length all → one_to most form all ≡ None
-unfolding one_to
+many_of : (most : ℕ) (form : List ℕ → Option ℕ) (all : List (List ℕ)) → most < length all → numbers_up_to most form all ≡ None
+unfolding numbers_up_to
 many_of most form [] many = refl
 many_of most form (text ∷ texts) many = rw (le-ltb (length texts) most (omega arith))
 
 -- all were read
 pub reading_ends :
     (most : ℕ) (form : List ℕ → Option ℕ) (front : List ℕ) (all : List (List ℕ))
-    → Reading form front [] all → 0 < length front → length front ≤ most → Some front ≡ one_to most form all
+    → Reading form front [] all → 0 < length front → length front ≤ most → Some front ≡ numbers_up_to most form all
 reading_ends most form front all so_far some few =
     ap (λ t. Some t) (sym (append-nil front)) ∙ so_far.numbers ∙ few_of most form all (omega (arith, so_far.count)) (omega (arith, so_far.count))
 
 -- the maximum number was read, and there is one more
 pub reading_many :
     (most : ℕ) (form : List ℕ → Option ℕ) (front : List ℕ) (left all : List (List ℕ))
-    → Reading form front left all → most ≤ length front → 0 < length left → one_to most form all ≡ None
+    → Reading form front left all → most ≤ length front → 0 < length left → numbers_up_to most form all ≡ None
 reading_many most form front left all so_far many more = many_of most form all (omega (arith, so_far.count))
 
 -- ---- given the first of the texts that are left, and the rest

@@ -20,11 +20,11 @@ use Rattle.std.specs.Result.{result_err, result_unwrap_or}
 use Rattle.m36_word.specs.declared.pair.Pair.{Pair}
 use Rattle.m36_word.specs.Field.{frames_reached}
 use Rattle.m36_text.specs.Texts.{is_text}
-use Rattle.m36_text.specs.Lines.{lines_of, line_at, first_reported, by_words}
+use Rattle.m36_text.specs.Lines.{lines_of, line_at, first_present, line_meaning}
 use Rattle.m36_text.specs.Numbers.{octal_in, octal_word_in, segment_number_in, word_number_in}
 use Rattle.m36_text.specs.Numbers.{core_address_in}
 use Rattle.m36_text.specs.Reading.{number_read}
-use Rattle.m36_text.specs.Results.{unless}
+use Rattle.m36_text.specs.Results.{value_unless}
 use Rattle.m36_text.specs.declared.reading.NumberFault.{NumberFault}
 use Rattle.m36_text.specs.declared.reading.NumberFault.TheVariants.{T1, T2}
 use Rattle.m36_model.specs.Fields.{PprFields}
@@ -32,7 +32,7 @@ use Rattle.m36_image.specs.declared.refusal.ImageCode.{ImageCode}
 use Rattle.m36_image.specs.declared.refusal.ImageCode.TheVariants.{I1, I2, I3}
 use Rattle.m36_image.specs.declared.refusal.Refusal.{Refusal}
 use Rattle.m36_image.specs.PlacedWords.{PlacedWords}
-use Rattle.m36_image.specs.Several.{one_to}
+use Rattle.m36_image.specs.Several.{numbers_up_to}
 
 -- the number of frames in line 1, which may have any number of decimal digits: I1 if it is no
 -- number, I2 if it is out of range
@@ -42,14 +42,14 @@ frames_read (Err (T1 place)) = Err I1
 frames_read (Err T2) = Err I2
 
 -- the number of frames, from the words of line 1: `core N`
-abbrev pub core_words : List (List ℕ) → Result ℕ ImageCode
-core_words (name ∷ n ∷ []) =
+abbrev pub frames_of_core_line : List (List ℕ) → Result ℕ ImageCode
+frames_of_core_line (name ∷ n ∷ []) =
     if is_text (codes "core") name then frames_read (number_read 10 n frames_reached) else Err I1
-core_words _ = Err I1
+frames_of_core_line _ = Err I1
 
 -- the number of frames, from line 1; I1 if there is no such line
 abbrev pub core_line : Option (List ℕ) → Result ℕ ImageCode
-core_line line = by_words core_words (Err I1) line
+core_line line = line_meaning frames_of_core_line (Err I1) line
 
 -- the two words of the descriptor segment base register, if both could be read
 abbrev pub dbr_read : Option ℕ → Option ℕ → Option Pair
@@ -69,7 +69,7 @@ dbr_words _ = None
 -- the two words of the descriptor segment base register, from line 2; None if there is no such
 -- line
 abbrev pub dbr_line : Option (List ℕ) → Option Pair
-dbr_line line = by_words dbr_words None line
+dbr_line line = line_meaning dbr_words None line
 
 -- where the machine starts, if a segment, a ring and a word number could be read
 abbrev pub start_read : Option ℕ → Option ℕ → Option ℕ → Option PprFields
@@ -89,7 +89,7 @@ start_words _ = None
 
 -- where the machine starts, from line 3
 abbrev pub start_line : Option (List ℕ) → Option PprFields
-start_line line = by_words start_words None line
+start_line line = line_meaning start_words None line
 
 -- the words of an `at` line and the core address of the first of them, if both could be read
 abbrev pub at_read : Option ℕ → Option (List ℕ) → Option PlacedWords
@@ -97,32 +97,32 @@ at_read (Some first) (Some words) = Some (record { first = first; words = words 
 at_read _ _ = None
 
 -- one to eight words, from their texts
-abbrev pub words_given : List (List ℕ) → Option (List ℕ)
-words_given texts = one_to 8 octal_word_in texts
+abbrev pub one_to_eight_words : List (List ℕ) → Option (List ℕ)
+one_to_eight_words texts = numbers_up_to 8 octal_word_in texts
 
 -- the words of an `at` line and their address, from the words of the line: `at ADDRESS WORD ..`
 abbrev pub at_words : List (List ℕ) → Option PlacedWords
 at_words (name ∷ address ∷ texts) =
     if is_text (codes "at") name
-    then at_read (core_address_in address) (words_given texts) else None
+    then at_read (core_address_in address) (one_to_eight_words texts) else None
 at_words _ = None
 
 -- the words of an `at` line and their address
 abbrev pub at_line : Option (List ℕ) → Option PlacedWords
-at_line line = by_words at_words None line
+at_line line = line_meaning at_words None line
 
 -- An `at` line in a core of `size` words. `is_above` tests whether its first address is above the
 -- earlier ones. The result is its least code, or the address after its last word.
-abbrev pub at_by : ℕ → (ℕ → Bool) → Option PlacedWords → Result ℕ ImageCode
-at_by size is_above None = Err I1
-at_by size is_above (Some p) =
+abbrev pub end_of_at_line_by : ℕ → (ℕ → Bool) → Option PlacedWords → Result ℕ ImageCode
+end_of_at_line_by size is_above None = Err I1
+end_of_at_line_by size is_above (Some p) =
     if is_above p.first && nat_le (p.first + length p.words) size
     then Ok (p.first + length p.words) else Err I3
 
 -- the code of an `at` line, if it has one, given the addresses of the words of earlier lines
-abbrev pub code_if_absent : ℕ → List ℕ → Option PlacedWords → Option ImageCode
-code_if_absent size earlier line =
-    result_err (at_by size (λ address. list_all (λ a. nat_lt a address) earlier) line)
+abbrev pub at_line_code : ℕ → List ℕ → Option PlacedWords → Option ImageCode
+at_line_code size earlier line =
+    result_err (end_of_at_line_by size (λ address. list_all (λ a. nat_lt a address) earlier) line)
 
 -- the addresses of the words of an `at` line
 abbrev pub addresses : Option PlacedWords → List ℕ
@@ -133,7 +133,7 @@ addresses (Some p) = range_with_len p.first (length p.words)
 unfoldable pub at_codes : ℕ → List ℕ → List (Option (List ℕ)) → List (Option ImageCode)
 at_codes size earlier [] = []
 at_codes size earlier (line ∷ lines) =
-    code_if_absent size earlier (at_line line) ∷ at_codes size (earlier ++ addresses (at_line line)) lines
+    at_line_code size earlier (at_line line) ∷ at_codes size (earlier ++ addresses (at_line line)) lines
 
 -- the number of lines before the `at` lines
 abbrev pub header_count : ℕ
@@ -185,8 +185,8 @@ refusal_of told = record { line = told.0; code = told.1 }
 
 -- the image, or the refusal if a line has a code
 abbrev pub image_by : Option (ℕ × ImageCode) → Image → Result Image Refusal
-image_by told image = unless (option_map refusal_of told) image
+image_by told image = value_unless (option_map refusal_of told) image
 
 -- the image that a file describes, or its refusal
 unfoldable pub image_of : List ℕ → Result Image Refusal
-image_of text = image_by (first_reported 1 (line_codes (lines_of text))) (image_in (lines_of text))
+image_of text = image_by (first_present 1 (line_codes (lines_of text))) (image_in (lines_of text))

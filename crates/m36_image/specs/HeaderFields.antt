@@ -3,7 +3,7 @@ use Rattle.std.specs.Prelude.{ℕ, ◌≡◌, List, drop, Option, Some, Result, 
 use Rattle.std.specs.Borrow.{Bor}
 use Rattle.m36_image.specs.declared.refusal.Refusal.{Refusal}
 use Rattle.m36_image.specs.declared.header.Header.{Header}
-use Rattle.m36_text.specs.Lines.{lines_of, line_at, first_reported}
+use Rattle.m36_text.specs.Lines.{lines_of, line_at, first_present}
 use Rattle.m36_image.specs.BareImage.{core_line, dbr_line, start_line, header_count, header_codes}
 
 -- The header and the text after it are those of a file with these lines.
@@ -18,4 +18,4 @@ pub record IsHeader (header : Header) (rest : List ℕ)
 abbrev pub HeaderResult : Result (Header × Bor (List ℕ)) Refusal → List (Option (List ℕ)) → Type 0
 HeaderResult (Ok read) lines = IsHeader read.0 read.1.now lines
 HeaderResult (Err refusal) lines =
-    first_reported 1 (header_codes lines) ≡ Some (refusal.line, refusal.code)
+    first_present 1 (header_codes lines) ≡ Some (refusal.line, refusal.code)

@@ -54,5 +54,5 @@ abbrev pub state_by : Result Image Refusal → Result (State (List ℕ)) Refusal
 state_by read = and_then read (λ image. Ok (state_of image))
 
 -- the state that a file describes, or its refusal
-unfoldable pub state_given : List ℕ → Result (State (List ℕ)) Refusal
-state_given text = state_by (image_of text)
+unfoldable pub state_of_text : List ℕ → Result (State (List ℕ)) Refusal
+state_of_text text = state_by (image_of text)

@@ -13,7 +13,7 @@ numbers_by form [] = Some []
 numbers_by form (text ∷ texts) = with_number (form text) (numbers_by form texts)
 
 -- the numbers, if there are one to `most` texts and each has the form
-unfoldable pub one_to : ℕ → (List ℕ → Option ℕ) → List (List ℕ) → Option (List ℕ)
-one_to most form [] = None
-one_to most form (text ∷ texts) =
+unfoldable pub numbers_up_to : ℕ → (List ℕ → Option ℕ) → List (List ℕ) → Option (List ℕ)
+numbers_up_to most form [] = None
+numbers_up_to most form (text ∷ texts) =
     if nat_lt (length texts) most then numbers_by form (text ∷ texts) else None

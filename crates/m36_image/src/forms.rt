@@ -4,7 +4,7 @@ ghost use Rattle.std.specs.Prelude.{ℕ, ◌≡◌, ◌≤◌, IfOk};
 ghost use Rattle.m36_text.specs.Lines.{words_of};
 ghost use Rattle.m36_text.specs.Numbers.{octal_word_in};
 ghost use Rattle.m36_word.specs.Field.{frames_reached};
-ghost use Rattle.m36_image.specs.BareImage.{core_words, frames_read, dbr_in, dbr_words, start_in, start_words};
+ghost use Rattle.m36_image.specs.BareImage.{frames_of_core_line, frames_read, dbr_in, dbr_words, start_in, start_words};
 
 use crate::refusal::ImageCode;
 use m36_model::Ppr;
@@ -40,7 +40,7 @@ fn frames_of(read: Result<u64, NumberFault>) -> Result<u32, ImageCode>
 /// Parses the line `core N`: the number of frames of core, 1 to 16,384. The error is I1 if the line
 /// does not have this form, and I2 if the number is out of range.
 pub fn core_line(line: &[u8]) -> Result<u32, ImageCode>
-    ensures frames { result ≡ core_words (words_of line.now) }
+    ensures frames { result ≡ frames_of_core_line (words_of line.now) }
     ensures some { IfOk result (λ n. 1 ≤ n) }
     ensures most { IfOk result (λ n. n ≤ frames_reached) }
 {

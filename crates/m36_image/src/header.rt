@@ -23,7 +23,7 @@ pub struct Header {
 }
 
 // The refusal of a line that is missing or does not have its form.
-fn wrong(line: u32) -> Refusal
+fn form_refusal(line: u32) -> Refusal
     ensures { result ≡ record { line = line; code = ImageCode.I1 } }
 {
     Refusal {
@@ -40,23 +40,23 @@ pub fn read_header(text: &[u8]) -> Result<(Header, &[u8]), Refusal>
     ensures shorter { IfOk result (λ h. length h.1.now ≤ length text.now) }
 {
     let Some((line, rest)) = first_line(text) else {
-        return Err(wrong(1));
+        return Err(form_refusal(1));
     };
     let frames = match core_line(line) {
         Ok(frames) => frames,
         Err(code) => return Err(Refusal { line: 1, code }),
     };
     let Some((line, rest)) = first_line(rest) else {
-        return Err(wrong(2));
+        return Err(form_refusal(2));
     };
     let Some(dbr) = dbr_line(line) else {
-        return Err(wrong(2));
+        return Err(form_refusal(2));
     };
     let Some((line, rest)) = first_line(rest) else {
-        return Err(wrong(3));
+        return Err(form_refusal(3));
     };
     let Some(start) = start_line(line) else {
-        return Err(wrong(3));
+        return Err(form_refusal(3));
     };
     let header = Header { dbr, start, frames };
     Ok((header, rest))

@@ -1,10 +1,10 @@
 //! Bare images: the state of a machine, parsed from a text.
 
 ghost use Rattle.std.specs.Prelude.{ℕ, ◌≡◌, ◌≤◌, ◌^◌, length};
-ghost use Rattle.m36_image.specs.ImageState.{regs_of, state_given};
+ghost use Rattle.m36_image.specs.ImageState.{regs_of, state_of_text};
 ghost use Rattle.m36_image.specs.ImageResult.{ImageResult};
 
-use crate::core_words::put_lines;
+use crate::frames_of_core_line::put_lines;
 use crate::header::read_header;
 use crate::refusal::ImageFault;
 use m36_core::Core;
@@ -64,7 +64,7 @@ pub fn registers(dbr: Pair, start: Ppr) -> Regs
 #[tactic(auto, using(crate::proofs::Images::images))]
 pub fn read_image(alloc: Global, text: &[u8]) -> Result<Image, ImageFault>
     requires { length text.now ≤ 2 ^ 31 }
-    ensures { ImageResult result (state_given text.now) }
+    ensures { ImageResult result (state_of_text text.now) }
 {
     let (header, rest) = match read_header(text) {
         Ok(read) => read,

@@ -4,7 +4,7 @@ ghost use Rattle.std.specs.Prelude.{ℕ, ◌≡◌, ◌<◌, ◌≤◌, ◌^◌}
 ghost use Rattle.std.specs.Option.{option_map};
 ghost use Rattle.m36_text.specs.Lines.{words_of};
 ghost use Rattle.m36_text.specs.Numbers.{core_address_in};
-ghost use Rattle.m36_image.specs.BareImage.{words_given, at_read, at_words};
+ghost use Rattle.m36_image.specs.BareImage.{one_to_eight_words, at_read, at_words};
 
 use crate::forms::octal_word;
 use arrayvec::ArrayVec;
@@ -34,7 +34,7 @@ impl Model for Placed {
 // Parses one to eight words; None if there are more, or one is not twelve octal digits.
 #[tactic(auto, using(crate::proofs::SeveralLaws::reading_several))]
 fn eight_words(line: &[u8]) -> Option<ArrayVec<Word, 8>>
-    ensures { option_map (λ v. v.items) result ≡ words_given (words_of line.now) }
+    ensures { option_map (λ v. v.items) result ≡ one_to_eight_words (words_of line.now) }
 {
     let mut words = ArrayVec::new();
     let mut rest = line;
@@ -51,7 +51,7 @@ fn eight_words(line: &[u8]) -> Option<ArrayVec<Word, 8>>
 
 // Parses an address and the words from there on.
 fn placed_of(address: &[u8], texts: &[u8]) -> Option<Placed>
-    ensures { result ≡ at_read (core_address_in address.now) (words_given (words_of texts.now)) }
+    ensures { result ≡ at_read (core_address_in address.now) (one_to_eight_words (words_of texts.now)) }
 {
     let first = octal_in(address, 8)?;
     let words = eight_words(texts)?;
@@ -62,7 +62,7 @@ fn placed_of(address: &[u8], texts: &[u8]) -> Option<Placed>
 }
 
 /// Parses the line `at A W ..`. None if it does not have this form.
-#[tactic(auto, unfolding(crate::specs::Several::one_to))]
+#[tactic(auto, unfolding(crate::specs::Several::numbers_up_to))]
 pub fn at_line(line: &[u8]) -> Option<Placed>
     ensures { result ≡ at_words (words_of line.now) }
 {

@@ -101,7 +101,7 @@ pub record IsFound (code : ℕ) (bit27 : Bool) (e : Entry) : Type 0 where
   pub sound : IsSound e
   pub same_code : e.code ≡ code
   pub same_bit27 : e.bit27 ≡ bit27
-  pub named : entry_named e.name ≡ Some e
+  pub named_row : entry_named e.name ≡ Some e
 
 pub found : (code : ℕ) (bit27 : Bool) (e : Entry) → entry_at code bit27 ≡ Some e → IsFound code bit27 e
 unfolding entry_at entry_named
@@ -111,7 +111,7 @@ found code bit27 e h =
       sound = sound e (found_sound (has_code code bit27) is_sound table e all_sound h);
       same_code = eqb-true e.code code parts.0;
       same_bit27 = same_bit_true e.bit27 bit27 parts.1;
-      named = found_by_key by_name (has_code code bit27) table e own_name apart_by_name h;
+      named_row = found_by_key by_name (has_code code bit27) table e own_name apart_by_name h;
     }
 
 -- an entry that is found by its name
@@ -120,9 +120,9 @@ pub record IsNamed (name : List ℕ) (e : Entry) : Type 0 where
   pub same_name : e.name ≡ name
   pub placed : entry_at e.code e.bit27 ≡ Some e
 
-pub named : (name : List ℕ) (e : Entry) → entry_named name ≡ Some e → IsNamed name e
+pub named_row : (name : List ℕ) (e : Entry) → entry_named name ≡ Some e → IsNamed name e
 unfolding entry_at entry_named
-named name e h =
+named_row name e h =
     record {
       sound = sound e (found_sound (has_name name) is_sound table e all_sound h);
       same_name = (bytes_eq-Decides e.name name).0 (found_passes (has_name name) table e h);

@@ -1,10 +1,10 @@
 -- How the instructions of each group reference their operands; and that none of them is privileged.
 use Rattle.std.proofs.Common.{refl}
-use Rattle.m36_inst.specs.Quick.{group_of, Fits}
+use Rattle.m36_inst.specs.Quick.{group_of, FitsGroup}
 use Rattle.m36_inst.specs.declared.effect.Effect.{Effect}
 use Rattle.m36_inst.specs.declared.effect.Effect.TheVariants as effect
 
-pub grouped : (e : Effect) → Fits (group_of e) e
+pub grouped : (e : Effect) → FitsGroup (group_of e) e
 grouped effect.Lda = record { operand = refl; direct = refl; privileged = refl }
 grouped effect.Ldq = record { operand = refl; direct = refl; privileged = refl }
 grouped effect.LdxN = record { operand = refl; direct = refl; privileged = refl }

@@ -5,7 +5,7 @@ use Rattle.std.proofs.lemmas.Option.{some_pair_parts}
 use Rattle.m36_inst.specs.Table.{Entry}
 use Rattle.m36_inst.specs.Lookup.{entry_at, entry_named, row_of, name_at, code_of, code_named, IsRow, IsRowAt, OneToOne, RowsHaveNames, RowsFit}
 use Rattle.m36_inst.specs.declared.rows.Row.{Row}
-use Rattle.m36_inst.proofs.Entries.{found, named}
+use Rattle.m36_inst.proofs.Entries.{found, named_row}
 
 -- from a code to its name, and back
 code_by : (code : ℕ) (bit27 : Bool) (name : List ℕ) (o : Option Entry) → entry_at code bit27 ≡ o → option_map (λ e. e.name) o ≡ Some name → code_named name ≡ Some (code, bit27)
@@ -13,7 +13,7 @@ code_by code bit27 name None e h = cc
 code_by code bit27 name (Some x) e h =
     let f = found code bit27 x e in
     let same : x.name ≡ name = cc in
-    let there : entry_named name ≡ Some x = rw (← same) f.named in
+    let there : entry_named name ≡ Some x = rw (← same) f.named_row in
     let a = f.same_code in
     let b = f.same_bit27 in
     rw there cc
@@ -24,7 +24,7 @@ named_code code bit27 name h = code_by code bit27 name (entry_at code bit27) ref
 name_by : (code : ℕ) (bit27 : Bool) (name : List ℕ) (o : Option Entry) → entry_named name ≡ o → option_map code_of o ≡ Some (code, bit27) → name_at code bit27 ≡ Some name
 name_by code bit27 name None e h = cc
 name_by code bit27 name (Some x) e h =
-    let f = named name x e in
+    let f = named_row name x e in
     let parts = some_pair_parts x.code code x.bit27 bit27 h in
     let a = parts.0 in
     let b = parts.1 in
@@ -42,7 +42,7 @@ one_to_one code bit27 name = (named_code code bit27 name, code_name code bit27 n
 unnamed_by : (name : List ℕ) (o : Option Entry) → entry_named name ≡ o → ((code : ℕ) (bit27 : Bool) → name_at code bit27 ≡ Some name → ⊥) → o ≡ None
 unnamed_by name None e h = refl
 unnamed_by name (Some x) e h =
-    let f = named name x e in
+    let f = named_row name x e in
     let same = f.same_name in
     let there : name_at x.code x.bit27 ≡ Some name = rw f.placed cc in
     absurd (h x.code x.bit27 there)

@@ -10,44 +10,44 @@ use Rattle.m36_inst.specs.declared.effect.Effect.TheVariants as effect
 
 -- loads and stores of pointer registers, the effective pointer to AQ, and the store of the control
 -- double word
-abbrev pub is_pointer : Effect → Bool
-is_pointer effect.EppN = true
-is_pointer effect.EpbpN = true
-is_pointer effect.SpriN = true
-is_pointer effect.SpbpN = true
-is_pointer effect.Spri = true
-is_pointer effect.Lpri = true
-is_pointer effect.LprpN = true
-is_pointer effect.Epaq = true
-is_pointer effect.Stcd = true
-is_pointer _ = false
+abbrev pub is_pointer_instruction : Effect → Bool
+is_pointer_instruction effect.EppN = true
+is_pointer_instruction effect.EpbpN = true
+is_pointer_instruction effect.SpriN = true
+is_pointer_instruction effect.SpbpN = true
+is_pointer_instruction effect.Spri = true
+is_pointer_instruction effect.Lpri = true
+is_pointer_instruction effect.LprpN = true
+is_pointer_instruction effect.Epaq = true
+is_pointer_instruction effect.Stcd = true
+is_pointer_instruction _ = false
 
 -- transfers of control, call and return, no operation, and the privileged instructions that form an
 -- address
-abbrev pub is_control : Effect → Bool
-is_control effect.Tra = true
-is_control effect.Tze = true
-is_control effect.Tnz = true
-is_control effect.Tmi = true
-is_control effect.Tpl = true
-is_control effect.Trc = true
-is_control effect.Tnc = true
-is_control effect.Tmoz = true
-is_control effect.Tpnz = true
-is_control effect.Tov = true
-is_control effect.Ttf = true
-is_control effect.TsxN = true
-is_control effect.TspN = true
-is_control effect.Call6 = true
-is_control effect.Rtcd = true
-is_control effect.Nop = true
-is_control effect.Ldbr = true
-is_control effect.Sdbr = true
-is_control effect.Cams = true
-is_control effect.Camp = true
-is_control effect.Absa = true
-is_control _ = false
+abbrev pub is_control_instruction : Effect → Bool
+is_control_instruction effect.Tra = true
+is_control_instruction effect.Tze = true
+is_control_instruction effect.Tnz = true
+is_control_instruction effect.Tmi = true
+is_control_instruction effect.Tpl = true
+is_control_instruction effect.Trc = true
+is_control_instruction effect.Tnc = true
+is_control_instruction effect.Tmoz = true
+is_control_instruction effect.Tpnz = true
+is_control_instruction effect.Tov = true
+is_control_instruction effect.Ttf = true
+is_control_instruction effect.TsxN = true
+is_control_instruction effect.TspN = true
+is_control_instruction effect.Call6 = true
+is_control_instruction effect.Rtcd = true
+is_control_instruction effect.Nop = true
+is_control_instruction effect.Ldbr = true
+is_control_instruction effect.Sdbr = true
+is_control_instruction effect.Cams = true
+is_control_instruction effect.Camp = true
+is_control_instruction effect.Absa = true
+is_control_instruction _ = false
 
 -- all others that form an address: those that load, store, add, compare, combine and shift data
-abbrev pub is_data : Effect → Bool
-is_data e = not (is_pointer e) && not (is_control e) && forms_address (operand_of e)
+abbrev pub is_data_instruction : Effect → Bool
+is_data_instruction e = not (is_pointer_instruction e) && not (is_control_instruction e) && forms_address (operand_of e)

@@ -107,33 +107,33 @@ pub record IsQuick (q : Quick) : Type 0 where
   pub reg : q.reg < 8
 
 -- How the instructions of a group reference their operand. The line of `Other` is not used.
-abbrev pub operand_in : Group → Operand
-operand_in group.Read = operand.R
-operand_in group.Store = operand.W
-operand_in group.Change = operand.Rw
-operand_in group.Upper = operand.Wl
-operand_in group.Lower = operand.Wr
-operand_in group.Address = operand.A
-operand_in group.Shift = operand.A
-operand_in group.Transfer = operand.T
-operand_in group.ReadPair = operand.R2
-operand_in group.StorePair = operand.W2
-operand_in group.Call = operand.Call6
-operand_in group.Return = operand.R2
-operand_in group.Other = operand.N
+abbrev pub operand_of_group : Group → Operand
+operand_of_group group.Read = operand.R
+operand_of_group group.Store = operand.W
+operand_of_group group.Change = operand.Rw
+operand_of_group group.Upper = operand.Wl
+operand_of_group group.Lower = operand.Wr
+operand_of_group group.Address = operand.A
+operand_of_group group.Shift = operand.A
+operand_of_group group.Transfer = operand.T
+operand_of_group group.ReadPair = operand.R2
+operand_of_group group.StorePair = operand.W2
+operand_of_group group.Call = operand.Call6
+operand_of_group group.Return = operand.R2
+operand_of_group group.Other = operand.N
 
 -- whether the instructions of a group accept a direct operand: only those that read one word do
-abbrev pub direct_in : Group → Bool
-direct_in group.Read = true
-direct_in _ = false
+abbrev pub group_takes_direct : Group → Bool
+group_takes_direct group.Read = true
+group_takes_direct _ = false
 
 -- An instruction of a group references its operand as the group does, and is not privileged.
 pub record IsGrouped (g : Group) (e : Effect) : Type 0 where
-  pub operand : operand_of e ≡ operand_in g
-  pub direct : takes_direct e ≡ direct_in g
+  pub operand : operand_of e ≡ operand_of_group g
+  pub direct : takes_direct e ≡ group_takes_direct g
   pub privileged : is_privileged e ≡ false
 
 -- `IsGrouped`, except that every effect fits the group `Other`
-abbrev pub Fits : Group → Effect → Type 0
-Fits group.Other e = Unit {0}
-Fits g e = IsGrouped g e
+abbrev pub FitsGroup : Group → Effect → Type 0
+FitsGroup group.Other e = Unit {0}
+FitsGroup g e = IsGrouped g e

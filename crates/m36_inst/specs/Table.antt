@@ -36,26 +36,26 @@ numbered code bit27 stem reg effect =
 
 -- Eight instructions, for registers 0 to 7: four codes from `low` on and four from `high` on. Bit
 -- 27 is `even` for even registers and `odd` for odd ones.
-abbrev pub in_fours : ℕ → ℕ → Bool → Bool → List ℕ → Effect → List Entry
-in_fours low high even odd stem effect =
+abbrev pub entries_in_fours : ℕ → ℕ → Bool → Bool → List ℕ → Effect → List Entry
+entries_in_fours low high even odd stem effect =
     numbered low even stem 0 effect ∷ numbered (low + 1) odd stem 1 effect
     ∷ numbered (low + 2) even stem 2 effect ∷ numbered (low + 3) odd stem 3 effect
     ∷ numbered high even stem 4 effect ∷ numbered (high + 1) odd stem 5 effect
     ∷ numbered (high + 2) even stem 6 effect ∷ numbered (high + 3) odd stem 7 effect ∷ []
 
--- as `in_fours`, with bit 27 off for all
+-- as `entries_in_fours`, with bit 27 off for all
 abbrev pub entries_of_two_fours : ℕ → ℕ → List ℕ → Effect → List Entry
-entries_of_two_fours low high stem effect = in_fours low high false false stem effect
+entries_of_two_fours low high stem effect = entries_in_fours low high false false stem effect
 
--- as `in_fours`, with bit 27 off for even registers and on for odd ones
-abbrev pub even_off : ℕ → ℕ → List ℕ → Effect → List Entry
-even_off low high stem effect = in_fours low high false true stem effect
+-- as `entries_in_fours`, with bit 27 off for even registers and on for odd ones
+abbrev pub entries_even_off : ℕ → ℕ → List ℕ → Effect → List Entry
+entries_even_off low high stem effect = entries_in_fours low high false true stem effect
 
--- as `in_fours`, with bit 27 on for even registers and off for odd ones
-abbrev pub even_on : ℕ → ℕ → List ℕ → Effect → List Entry
-even_on low high stem effect = in_fours low high true false stem effect
+-- as `entries_in_fours`, with bit 27 on for even registers and off for odd ones
+abbrev pub entries_even_on : ℕ → ℕ → List ℕ → Effect → List Entry
+entries_even_on low high stem effect = entries_in_fours low high true false stem effect
 
--- as `in_fours`, with eight consecutive codes and bit 27 off for all
+-- as `entries_in_fours`, with eight consecutive codes and bit 27 off for all
 abbrev pub entries_of_eight : ℕ → List ℕ → Effect → List Entry
 entries_of_eight code stem effect = entries_of_two_fours code (code + 4) stem effect
 
@@ -181,10 +181,10 @@ shifts =
 -- bit 27 distinguishes them.
 abbrev pub pointer_registers : List Entry
 pointer_registers =
-    even_off 0o350 0o370 (codes "epp") effect.EppN
-    ++ even_on 0o350 0o370 (codes "epbp") effect.EpbpN
-    ++ even_off 0o250 0o650 (codes "spri") effect.SpriN
-    ++ even_on 0o250 0o650 (codes "spbp") effect.SpbpN
+    entries_even_off 0o350 0o370 (codes "epp") effect.EppN
+    ++ entries_even_on 0o350 0o370 (codes "epbp") effect.EpbpN
+    ++ entries_even_off 0o250 0o650 (codes "spri") effect.SpriN
+    ++ entries_even_on 0o250 0o650 (codes "spbp") effect.SpbpN
     ++ off 0o254 (codes "spri") effect.Spri
     ++ off 0o173 (codes "lpri") effect.Lpri
     ++ entries_of_eight 0o760 (codes "lprp") effect.LprpN

@@ -57,7 +57,7 @@ use from_400::{codes_400, codes_500, codes_600, codes_700};
 
 /// The row and the name of the instruction with this operation code and bit 27, or None if there is
 /// no such instruction.
-pub(crate) fn named(code: u16, bit27: bool) -> Option<Named>
+pub(crate) fn named_row(code: u16, bit27: bool) -> Option<Named>
     ensures row { option_map (λ n. n.row) result ≡ row_at code bit27 }
     ensures parts { IfSome result (λ n. IsRow n.row) }
     ensures name { option_map (λ n. text_of n.name) result ≡ name_at code bit27 }

@@ -6,7 +6,7 @@ ghost use Rattle.m36_inst.specs.Lookup.{row_at, name_at, code_named, IsRow};
 ghost use Rattle.m36_inst.specs.Names.{letter, key, key_at, code_at, bit27_at, IsRising};
 ghost use Rattle.m36_inst.specs.Named.{is_blank, text_of, IsPlain};
 
-use crate::codes::named;
+use crate::codes::named_row;
 use crate::names::{CodeOfName, names};
 use crate::rows::Row;
 use arrayvec::ArrayString;
@@ -17,7 +17,7 @@ pub fn row(code: u16, bit27: bool) -> Option<Row>
     ensures value { result ≡ row_at code bit27 }
     ensures parts { IfSome result IsRow }
 {
-    match named(code, bit27) {
+    match named_row(code, bit27) {
         Some(place) => Some(place.row),
         None => None,
     }
@@ -28,8 +28,8 @@ pub fn row(code: u16, bit27: bool) -> Option<Row>
 pub fn name_of(code: u16, bit27: bool) -> Option<ArrayString<8>>
     ensures { option_map (λ s. s.bytes) result ≡ name_at code bit27 }
 {
-    match named(code, bit27) {
-        Some(place) => Some(spelled(text(&place.name))),
+    match named_row(code, bit27) {
+        Some(place) => Some(name_string(text(&place.name))),
         None => None,
     }
 }
@@ -131,7 +131,7 @@ fn bit27_at(rows: &[CodeOfName], i: usize) -> bool
 fn has_name(code: u16, bit27: bool, n: &[u8]) -> bool
     ensures { IsTrue result ↔ (name_at code bit27 ≡ Some n.now) }
 {
-    match named(code, bit27) {
+    match named_row(code, bit27) {
         Some(place) => text(&place.name) == n,
         None => false,
     }
@@ -158,7 +158,7 @@ fn first_blank(name: &[u8; 5]) -> Option<usize>
 
 // The characters of a name, at most five and all ASCII, as a string.
 #[tactic(auto, using(std::proofs::lemmas::Str::encode_ascii))]
-fn spelled(name: &[u8]) -> ArrayString<8>
+fn name_string(name: &[u8]) -> ArrayString<8>
     requires { IsPlain name.now }
     ensures { result.bytes ≡ name.now }
 {

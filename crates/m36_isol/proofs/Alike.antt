@@ -4,8 +4,8 @@ use Rattle.std.specs.Prelude.{ℕ, ◌≤◌, ◌==◌, ◌||◌, true, None, Re
 use Rattle.m36_desc.specs.Fields.{SdwFields}
 use Rattle.m36_model.specs.Registers.{RegsFields}
 use Rattle.m36_model.specs.Act.{RequestKind, Fetch, Indirect, Odd, Read, Write, Transfer, Call, Locate, Request, Answer}
-use Rattle.m36_model.specs.Store.{Spot, Store, Midstep, denied}
-use Rattle.m36_model.specs.StoreLaw.{Each, IsWord}
+use Rattle.m36_model.specs.Store.{Spot, Store, Midstep, refusing_violation}
+use Rattle.m36_model.specs.StoreLaw.{Each, IsPlacedWord}
 use Rattle.m36_model.specs.declared.outcome.Refusal.{Refusal}
 use Rattle.m36_model.specs.declared.place.Kind.{Kind}
 use Rattle.m36_model.specs.declared.place.Kind.TheVariants as reference
@@ -28,7 +28,7 @@ pub record Reaches (sdws : ℕ → Result SdwFields Refusal) (r seg : ℕ) : Typ
 pub record IsReached (sdws : ℕ → Result SdwFields Refusal) (spots : SdwFields → ℕ → ℕ → Result Spot Refusal) (r : ℕ) (p : Spot) : Type 0 where
   pub seg : ℕ
   pub w : ℕ
-  pub word : IsWord sdws spots seg w p
+  pub word : IsPlacedWord sdws spots seg w p
   pub reaches : Reaches sdws r seg
 
 -- a completed reference is to a segment that ring r can see or, for a Write, can change
@@ -60,7 +60,7 @@ pub record May (sdws : ℕ → Result SdwFields Refusal) (r : ℕ) (g : RegsFiel
 -- the descriptor of an answer is that of the tables, and allows the reference
 pub record Known (sdws : ℕ → Result SdwFields Refusal) (g : RegsFields) (q : Request) (a : Answer) : Type 0 where
   pub live : sdws q.at.seg ≡ Ok a.sdw
-  pub allowed : denied q.kind a.sdw q.at.ring g.ppr.prr (q.at.seg == g.ppr.psr) q.at.word ≡ None
+  pub allowed : refusing_violation q.kind a.sdw q.at.ring g.ppr.prr (q.at.seg == g.ppr.psr) q.at.word ≡ None
 
 module _ {S : Type 0} (o : Store S) (Has : S → Type 0) (Lies : Spot → Type 0) (Near : S → S → Type 0) where
   -- the store differs from that at the beginning of the step only by marks
@@ -81,4 +81,4 @@ module _ {S : Type 0} (o : Store S) (Has : S → Type 0) (Lies : Spot → Type 0
 -- words that ring r can see are equal in two stores
 abbrev pub SeeEqual : {S : Type 0} → Store S → (ℕ → Result SdwFields Refusal) → (SdwFields → ℕ → ℕ → Result Spot Refusal) → ℕ → S → S → Type 0
 SeeEqual o sdws spots r first other =
-    (seg w : ℕ) (p : Spot) → Sees sdws r seg → IsWord sdws spots seg w p → o.word first p ≡ o.word other p
+    (seg w : ℕ) (p : Spot) → Sees sdws r seg → IsPlacedWord sdws spots seg w p → o.word first p ≡ o.word other p

@@ -5,7 +5,7 @@ use Rattle.m36_desc.specs.Fields.{SdwFields, DbrFields}
 use Rattle.m36_model.specs.Store.{Core_word, Tables}
 use Rattle.m36_model.specs.Place.{core_sdw}
 use Rattle.m36_model.specs.Core.{core_store, core_tables}
-use Rattle.m36_model.specs.Audit.{Table, Sdws, Directory, Pages, IsOf, IsSegmentWord, IsCallable, is_stack_of, IsAudited}
+use Rattle.m36_model.specs.Audit.{Table, Sdws, Directory, Pages, IsWordOfTable, IsSegmentWord, IsCallable, is_stack_of, IsAudited}
 use Rattle.m36_isol.proofs.Places.{place_is, place_parts}
 use Rattle.m36_isol.proofs.CoreTables.{Matches, matches, same_sdw_place, same_sdw, same_spot_of}
 use Rattle.m36_isol.proofs.CoreLaw.{placed_within}
@@ -14,7 +14,7 @@ module _ (core : List ℕ) (dbr : DbrFields) (now : List ℕ) (m : Matches core 
   live_before : (seg : ℕ) (d : SdwFields) → core_sdw now dbr seg ≡ Ok d → core_sdw core dbr seg ≡ Ok d
   live_before seg d h = sym (same_sdw core dbr now m seg) ∙ h
 
-  table_before : (t : Table) (a : ℕ) → IsOf now dbr t a → IsOf core dbr t a
+  table_before : (t : Table) (a : ℕ) → IsWordOfTable now dbr t a → IsWordOfTable core dbr t a
   table_before Sdws a k =
       (k.0, record { even = k.1.even; found = sym (same_sdw_place core dbr now m k.0) ∙ k.1.found; half = k.1.half })
   table_before Directory a k = k

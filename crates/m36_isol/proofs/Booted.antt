@@ -5,10 +5,10 @@ use Rattle.std.specs.Prelude.{ℕ, zero, suc, ◌+◌, ◌*◌, ◌/◌, ◌%◌
 use Rattle.std.proofs.lemmas.Bool.{eqb-false, ltb-true, and_parts, eq-eqb}
 use Rattle.std.proofs.lemmas.List.{take-set-le}
 use Rattle.m36_desc.specs.Fields.{SdwFields}
-use Rattle.m36_desc.specs.Access.{in_order}
+use Rattle.m36_desc.specs.Access.{has_ordered_brackets}
 use Rattle.m36_model.specs.Act.{RequestKind, Part}
-use Rattle.m36_model.specs.Store.{Spot, Core_word, Segment_word, Change, within, place, place_by, place_within, when_ordered, written}
-use Rattle.m36_model.specs.Place.{wrapped, in_bounds, directory_at, ptw_at, sdw_place_by, sdw_at, sdw_words, core_sdw, core_spot, core_marked, Mark, marks, with_mark, with_marks}
+use Rattle.m36_model.specs.Store.{Spot, Core_word, Segment_word, Change, is_within_bound, place, place_by, place_within, when_ordered, with_part_written}
+use Rattle.m36_model.specs.Place.{wrapped_address, has_descriptor_in_bounds, directory_at, ptw_at, sdw_place_by, sdw_at, sdw_words, core_sdw, core_spot, core_marked, Mark, marks, with_mark, with_marks}
 use Rattle.m36_model.specs.Core.{core_store, core_word, put_one, core_put, unmarked}
 use Rattle.m36_model.specs.Audit.{IsSegmentWord, IsPageWord, AreApart}
 use Rattle.m36_model.specs.StoreLaw.{Each, same_spot, overlay}
@@ -16,7 +16,7 @@ use Rattle.m36_model.specs.CoreLaw.{HasTables, IsSegmentSpot, IsPtwWord, IsMarke
 use Rattle.m36_model.specs.Isolation.{EachTwo}
 use Rattle.m36_model.specs.Flat.{Flat, flat_sdw_by, flat_sdw, flat_word, flat_put, flat_store}
 use Rattle.m36_model.specs.BootedCore.{descriptor_words, booted_dbr, table_at, absent_ptw, IsPage, page_word, IsInFrame, IsLaid}
-use Rattle.m36_model.specs.Residence.{Paged, word_at, paged_content, flat_of, Lacks}
+use Rattle.m36_model.specs.Residence.{Paged, word_at, paged_content, flat_of, PageIsAbsent}
 use Rattle.m36_model.specs.declared.outcome.Refusal.{Refusal}
 use Rattle.m36_isol.proofs.Spots.{each_map}
 use Rattle.m36_isol.proofs.Places.{place_parts, core_spot_inside}
@@ -58,30 +58,30 @@ take_marks xs n (m ∷ list) h =
     take_marks (with_mark xs m) n list h.1 ∙ take-set-le n xs m.address _ h.0
 
 -- a booted core and the flat memory have the same descriptors
-low_place : (seg : ℕ) → in_bounds booted_dbr seg ≡ true → (2 * seg < 2047) × (wrapped (0 + 2 * seg) ≡ 2 * seg)
+low_place : (seg : ℕ) → has_descriptor_in_bounds booted_dbr seg ≡ true → (2 * seg < 2047) × (wrapped_address (0 + 2 * seg) ≡ 2 * seg)
 low_place seg bounds =
     let parts = and_parts _ _ bounds in
     let k : 2 * seg < 16 * (127 + 1) = ltb-true (2 * seg) (16 * (127 + 1)) parts.0 in
     (omega arith, omega arith)
 
-low_words : (core : List ℕ) (seg : ℕ) → in_bounds booted_dbr seg ≡ true → sdw_at core (Ok (wrapped (0 + 2 * seg))) ≡ sdw_words (slice_get (take descriptor_words core) (2 * seg)) (slice_get (take descriptor_words core) (2 * seg + 1))
+low_words : (core : List ℕ) (seg : ℕ) → has_descriptor_in_bounds booted_dbr seg ≡ true → sdw_at core (Ok (wrapped_address (0 + 2 * seg))) ≡ sdw_words (slice_get (take descriptor_words core) (2 * seg)) (slice_get (take descriptor_words core) (2 * seg + 1))
 low_words core seg bounds =
     let k = low_place seg bounds in
     let low = k.0 in
     let at = k.1 in
-    let next : wrapped (wrapped (0 + 2 * seg) + 1) ≡ 2 * seg + 1 = omega arith in
-    let even : slice_get core (wrapped (0 + 2 * seg)) ≡ slice_get (take descriptor_words core) (2 * seg) = ap (slice_get core) at ∙ sym (get_take core 2048 (2 * seg) (omega arith)) in
-    let odd : slice_get core (wrapped (wrapped (0 + 2 * seg) + 1)) ≡ slice_get (take descriptor_words core) (2 * seg + 1) = ap (slice_get core) next ∙ sym (get_take core 2048 (2 * seg + 1) (omega arith)) in
+    let next : wrapped_address (wrapped_address (0 + 2 * seg) + 1) ≡ 2 * seg + 1 = omega arith in
+    let even : slice_get core (wrapped_address (0 + 2 * seg)) ≡ slice_get (take descriptor_words core) (2 * seg) = ap (slice_get core) at ∙ sym (get_take core 2048 (2 * seg) (omega arith)) in
+    let odd : slice_get core (wrapped_address (wrapped_address (0 + 2 * seg) + 1)) ≡ slice_get (take descriptor_words core) (2 * seg + 1) = ap (slice_get core) next ∙ sym (get_take core 2048 (2 * seg + 1) (omega arith)) in
     λ i. sdw_words (even i) (odd i)
 
-sdw_by : (core : List ℕ) (seg : ℕ) (b : Bool) → in_bounds booted_dbr seg ≡ b → sdw_at core (sdw_place_by b true booted_dbr seg (ptw_at core (directory_at booted_dbr seg))) ≡ flat_sdw_by b (take descriptor_words core) seg
+sdw_by : (core : List ℕ) (seg : ℕ) (b : Bool) → has_descriptor_in_bounds booted_dbr seg ≡ b → sdw_at core (sdw_place_by b true booted_dbr seg (ptw_at core (directory_at booted_dbr seg))) ≡ flat_sdw_by b (take descriptor_words core) seg
 sdw_by core seg true bounds = low_words core seg bounds
 sdw_by core seg false bounds = refl
 
 pub flat_descriptor : (core : List ℕ) (f : Flat) → f.descriptors ≡ take descriptor_words core → (seg : ℕ) → core_sdw core booted_dbr seg ≡ flat_sdw f booted_dbr seg
 unfolding core_sdw flat_sdw
 flat_descriptor core f same seg =
-    sdw_by core seg (in_bounds booted_dbr seg) refl ∙ ap (λ (l : List ℕ). flat_sdw_by (in_bounds booted_dbr seg) l seg) (sym same)
+    sdw_by core seg (has_descriptor_in_bounds booted_dbr seg) refl ∙ ap (λ (l : List ℕ). flat_sdw_by (has_descriptor_in_bounds booted_dbr seg) l seg) (sym same)
 
 both_equal : (a b c d : ℕ) → a ≡ b → c ≡ d → ((a == b) && (c == d)) ≡ false → ⊥
 both_equal a b c d e f h =
@@ -176,12 +176,12 @@ module _ (core : List ℕ) (frames : ℕ) (laid : IsLaid core frames) where
         }
 
     -- a word within the bound of a live segment
-    placed_as : (seg w : ℕ) (d : SdwFields) → core_sdw core booted_dbr seg ≡ Ok d → in_order d ≡ true → within d w ≡ true → place core_store core booted_dbr seg w ≡ core_spot core booted_dbr d seg w
+    placed_as : (seg w : ℕ) (d : SdwFields) → core_sdw core booted_dbr seg ≡ Ok d → has_ordered_brackets d ≡ true → is_within_bound d w ≡ true → place core_store core booted_dbr seg w ≡ core_spot core booted_dbr d seg w
     unfolding place
     placed_as seg w d live ordered inside =
-        ap (λ (v : Result SdwFields Refusal). place_by v (λ x. core_spot core booted_dbr x seg w) w) live ∙ ap (λ (b : Bool). when_ordered b (place_within (within d w) (core_spot core booted_dbr d seg w))) ordered ∙ ap (λ (b : Bool). place_within b (core_spot core booted_dbr d seg w)) inside
+        ap (λ (v : Result SdwFields Refusal). place_by v (λ x. core_spot core booted_dbr x seg w) w) live ∙ ap (λ (b : Bool). when_ordered b (place_within (is_within_bound d w) (core_spot core booted_dbr d seg w))) ordered ∙ ap (λ (b : Bool). place_within b (core_spot core booted_dbr d seg w)) inside
 
-    spotted_by : (now : List ℕ) → Matches core booted_dbr now → (seg w : ℕ) (d : SdwFields) → core_sdw core booted_dbr seg ≡ Ok d → in_order d ≡ true → within d w ≡ true → (page_word core seg (w / 1024) ≡ absent_ptw) ⊎ ((frame : ℕ) × IsInFrame core frames seg (w / 1024) frame) → IsSpotted IsPair (Lacks core) seg w (core_spot now booted_dbr d seg w) (Ok (Segment_word seg w))
+    spotted_by : (now : List ℕ) → Matches core booted_dbr now → (seg w : ℕ) (d : SdwFields) → core_sdw core booted_dbr seg ≡ Ok d → has_ordered_brackets d ≡ true → is_within_bound d w ≡ true → (page_word core seg (w / 1024) ≡ absent_ptw) ⊎ ((frame : ℕ) × IsInFrame core frames seg (w / 1024) frame) → IsSpotted IsPair (PageIsAbsent core) seg w (core_spot now booted_dbr d seg w) (Ok (Segment_word seg w))
     spotted_by now m seg w d live ordered inside (inl e) =
         let same = same_spot_of core booted_dbr now m seg w d live inside in
         let none = absent_spot core frames laid seg w d live inside e in
@@ -191,7 +191,7 @@ module _ (core : List ℕ) (frames : ℕ) (laid : IsLaid core frames) where
         let found = resident_spot core frames laid seg w k.0 d live inside k.1 in
         both (Core_word (k.0 * 1024 + w % 1024)) (Segment_word seg w) (same ∙ found) refl (record { seg = seg; w = w; address = k.0 * 1024 + w % 1024; here = refl; there = refl; word = placed_as seg w d live ordered inside ∙ found })
 
-    spotted : (now : List ℕ) (f : Flat) → StandsFor now f → (seg w : ℕ) (d : SdwFields) → core_sdw now booted_dbr seg ≡ Ok d → in_order d ≡ true → within d w ≡ true → IsSpotted IsPair (Lacks core) seg w (core_spot now booted_dbr d seg w) (Ok (Segment_word seg w))
+    spotted : (now : List ℕ) (f : Flat) → StandsFor now f → (seg w : ℕ) (d : SdwFields) → core_sdw now booted_dbr seg ≡ Ok d → has_ordered_brackets d ≡ true → is_within_bound d w ≡ true → IsSpotted IsPair (PageIsAbsent core) seg w (core_spot now booted_dbr d seg w) (Ok (Segment_word seg w))
     spotted now f h seg w d live ordered inside =
         let first = sym (same_sdw core booted_dbr now h.matching seg) ∙ live in
         spotted_by now h.matching seg w d first ordered inside (laid.pages seg (w / 1024) (page_of_word core frames laid seg w d first inside))
@@ -255,7 +255,7 @@ module _ (core : List ℕ) (frames : ℕ) (laid : IsLaid core frames) where
         let test = test_by x.spot y.spot h.0.spot seg w a word _ _ refl refl in
         let part = h.0.part in
         let value = h.0.value in
-        let here : (if same_spot x.spot (Core_word a) then written x.part v x.value else v) ≡ (if same_spot y.spot (Segment_word seg w) then written y.part v y.value else v) = λ i. if test i then written (part i) v (value i) else v in
+        let here : (if same_spot x.spot (Core_word a) then with_part_written x.part v x.value else v) ≡ (if same_spot y.spot (Segment_word seg w) then with_part_written y.part v y.value else v) = λ i. if test i then with_part_written (part i) v (value i) else v in
         ap (overlay c (Core_word a)) here ∙ overlays seg w a word c d h.1 _
 
     -- a word that has no place is not written
@@ -273,7 +273,7 @@ module _ (core : List ℕ) (frames : ℕ) (laid : IsLaid core frames) where
     overlay_missed seg w why none (x ∷ c) [] h v = absurd h
     overlay_missed seg w why none (x ∷ c) (y ∷ d) h v =
         let test = missed seg w why none x.spot y.spot h.0.spot _ refl in
-        ap (overlay d (Segment_word seg w)) (ap (λ (t : Bool). if t then written y.part v y.value else v) test) ∙ overlay_missed seg w why none c d h.1 v
+        ap (overlay d (Segment_word seg w)) (ap (λ (t : Bool). if t then with_part_written y.part v y.value else v) test) ∙ overlay_missed seg w why none c d h.1 v
 
     content_put : (now : List ℕ) (f : Flat) → StandsFor now f → (c d : List Change) → EachTwo (ArePaired IsPair) c d → (seg w : ℕ) (v : Result Spot Refusal) → place core_store core booted_dbr seg w ≡ v → word_at (with_kept now) seg w v ≡ f.content seg w → word_at (with_kept (core_put now c)) seg w v ≡ (flat_put f d).content seg w
     content_put now f h c d pairs seg w (Ok (Core_word a)) at e =
@@ -304,7 +304,7 @@ module _ (core : List ℕ) (frames : ℕ) (laid : IsLaid core frames) where
     content_marked now new near seg w (Ok (Segment_word s x)) at = absurd (no_segment_spot seg w s x at)
     content_marked now new near seg w (Err why) at = refl
 
-    marked_stands : (now : List ℕ) (f : Flat) → StandsFor now f → (kind : RequestKind) (seg w : ℕ) (d : SdwFields) → core_sdw now booted_dbr seg ≡ Ok d → within d w ≡ true → StandsFor (core_marked now booted_dbr kind seg w) f
+    marked_stands : (now : List ℕ) (f : Flat) → StandsFor now f → (kind : RequestKind) (seg w : ℕ) (d : SdwFields) → core_sdw now booted_dbr seg ≡ Ok d → is_within_bound d w ≡ true → StandsFor (core_marked now booted_dbr kind seg w) f
     unfolding core_marked
     marked_stands now f h kind seg w d live inside =
         let first = sym (same_sdw core booted_dbr now h.matching seg) ∙ live in
@@ -318,7 +318,7 @@ module _ (core : List ℕ) (frames : ℕ) (laid : IsLaid core frames) where
           content = λ s x. content_marked now (with_marks now list) near s x (place core_store core booted_dbr s x) refl ∙ h.content s x;
         }
 
-    pub booted_mirrors : Mirrors core_store flat_store booted_dbr StandsFor IsPair (Lacks core)
+    pub booted_mirrors : Mirrors core_store flat_store booted_dbr StandsFor IsPair (PageIsAbsent core)
     booted_mirrors =
         record {
           sdw = λ s f h seg. flat_descriptor s f (h.descriptors ∙ sym h.low) seg;

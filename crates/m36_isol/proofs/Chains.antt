@@ -5,9 +5,9 @@ use Rattle.m36_desc.specs.Fields.{SdwFields}
 use Rattle.m36_model.specs.Fields.{FinalFields}
 use Rattle.m36_model.specs.Registers.{RegsFields}
 use Rattle.m36_model.specs.Act.{Answer, Indirect, Odd}
-use Rattle.m36_model.specs.Modification.{Point, Move, Ends, Fails, Reads, Counts, ends_at, ends_direct, direct_upper, direct_lower, is_direct, move_of_point, move_register, move_register_then_indirect, move_indirect_then_tally, move_indirect_then_register, index_of}
+use Rattle.m36_model.specs.Modification.{Point, Move, Ends, Fails, Reads, Counts, ends_at, ends_direct, direct_upper, direct_lower, is_direct, move_of_point, move_register, move_register_then_indirect, move_indirect_then_tally, move_indirect_then_register, modifier_value}
 use Rattle.m36_model.specs.Tally.{indirect_only}
-use Rattle.m36_model.specs.Chain.{ChainEnd, Formation, indirect, Found, Its, Itp, Plain, found, after_word, after_tally, chain_by, chain_exhausted, chain}
+use Rattle.m36_model.specs.Chain.{ChainEnd, Formation, indirect, IndirectKind, Its, Itp, Plain, found, after_word, after_tally, chain_by, chain_exhausted, chain}
 use Rattle.m36_model.specs.declared.outcome.Halt.{Halt}
 use Rattle.m36_model.specs.declared.outcome.Refusal.{Refusal}
 use Rattle.m36_isol.proofs.Program.{Meets, Either}
@@ -20,7 +20,7 @@ EndsInRing p (Fails h) = Unit {0}
 EndsInRing p (Reads word held) = Unit {0}
 EndsInRing p Counts = Unit {0}
 
-register_tests : (g : RegsFields) (p : Point) (td : ℕ) (upper lower : Bool) → EndsInRing p (if upper then ends_direct p (p.y * 2 ^ 18) else if lower then ends_direct p p.y else ends_at p ((p.y + index_of g td) % 2 ^ 18))
+register_tests : (g : RegsFields) (p : Point) (td : ℕ) (upper lower : Bool) → EndsInRing p (if upper then ends_direct p (p.y * 2 ^ 18) else if lower then ends_direct p p.y else ends_at p ((p.y + modifier_value g td) % 2 ^ 18))
 register_tests g p td true lower = refl
 register_tests g p td false true = refl
 register_tests g p td false false = refl
@@ -82,7 +82,7 @@ module _ (sdws : ℕ → Result SdwFields Refusal) (r : ℕ) (g : RegsFields) (e
   pair_low : (p : Point) (r1 ring : ℕ) → r ≤ p.ring → r ≤ max (max p.ring r1) ring
   pair_low p r1 ring low = omega arith
 
-  word_meets : (next : Point → Formation) → ((p : Point) → r ≤ p.ring → MeetsChain (next p)) → (p : Point) (word : ℕ) (held : Option ℕ) (a : Answer) → r ≤ p.ring → (kind : Found) → MeetsChain (after_word next g p word held a kind)
+  word_meets : (next : Point → Formation) → ((p : Point) → r ≤ p.ring → MeetsChain (next p)) → (p : Point) (word : ℕ) (held : Option ℕ) (a : Answer) → r ≤ p.ring → (kind : IndirectKind) → MeetsChain (after_word next g p word held a kind)
   word_meets next h p word held a low Plain = h _ low
   word_meets next h p word held a low Its =
       (may_read_odd p (word + 1) low, (λ f. tt), (λ b known. h _ (pair_low p _ _ low)))

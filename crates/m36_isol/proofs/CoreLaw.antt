@@ -4,14 +4,14 @@ use Rattle.std.specs.Prelude.{ℕ, ◌<◌, Bool, true, false, ◌==◌, if◌th
 use Rattle.std.proofs.lemmas.Bool.{eqb-false, and_parts}
 use Rattle.std.proofs.lemmas.List.{get_or-set_same, get_or-set_other}
 use Rattle.m36_desc.specs.Fields.{SdwFields, DbrFields}
-use Rattle.m36_desc.specs.Access.{in_order}
+use Rattle.m36_desc.specs.Access.{has_ordered_brackets}
 use Rattle.m36_model.specs.Act.{RequestKind, Part}
-use Rattle.m36_model.specs.Store.{Spot, Core_word, Segment_word, Change, within, placed, written}
+use Rattle.m36_model.specs.Store.{Spot, Core_word, Segment_word, Change, is_within_bound, placed, with_part_written}
 use Rattle.m36_model.specs.Sight.{content_in}
 use Rattle.m36_model.specs.Place.{core_sdw, core_spot, core_marked, marks}
 use Rattle.m36_model.specs.Core.{core_store, core_word, put_one, core_put}
 use Rattle.m36_model.specs.Audit.{Sdws, Directory, Pages, AreApart, IsAudited, IsSegmentWord}
-use Rattle.m36_model.specs.StoreLaw.{Each, same_spot, overlay, IsWord, IsSpot, Lawful}
+use Rattle.m36_model.specs.StoreLaw.{Each, same_spot, overlay, IsPlacedWord, IsSegmentChange, Lawful}
 use Rattle.m36_model.specs.CoreLaw.{HasTables, IsSegmentSpot, IsPtwWord, IsMarkedFrom}
 use Rattle.m36_model.specs.declared.outcome.Refusal.{Refusal}
 use Rattle.m36_isol.proofs.Spots.{each_map}
@@ -19,21 +19,21 @@ use Rattle.m36_isol.proofs.Places.{place_is, place_parts, content_placed, core_s
 use Rattle.m36_isol.proofs.CoreTables.{Matches, matches, has_tables, same_sdw, same_spot_of}
 use Rattle.m36_isol.proofs.CoreMarks.{IsHarmless, set_matches, marks_match, marks_near, marks_are_ptws, marked_self, marked_then}
 
-pub placed_order : (d : SdwFields) (w : ℕ) → placed d w ≡ true → in_order d ≡ true
-placed_order d w h = (and_parts (in_order d) (within d w) h).0
+pub placed_order : (d : SdwFields) (w : ℕ) → placed d w ≡ true → has_ordered_brackets d ≡ true
+placed_order d w h = (and_parts (has_ordered_brackets d) (is_within_bound d w) h).0
 
-pub placed_within : (d : SdwFields) (w : ℕ) → placed d w ≡ true → within d w ≡ true
-placed_within d w h = (and_parts (in_order d) (within d w) h).1
+pub placed_within : (d : SdwFields) (w : ℕ) → placed d w ≡ true → is_within_bound d w ≡ true
+placed_within d w h = (and_parts (has_ordered_brackets d) (is_within_bound d w) h).1
 
 -- the word at an address after one write
-word_put : (now : List ℕ) (spot : Spot) (part : Part) (v a : ℕ) → a < length now → core_word (put_one now spot part v) (Core_word a) ≡ (if same_spot spot (Core_word a) then written part (core_word now (Core_word a)) v else core_word now (Core_word a))
+word_put : (now : List ℕ) (spot : Spot) (part : Part) (v a : ℕ) → a < length now → core_word (put_one now spot part v) (Core_word a) ≡ (if same_spot spot (Core_word a) then with_part_written part (core_word now (Core_word a)) v else core_word now (Core_word a))
 word_put now (Segment_word s w) part v a inside = refl
 word_put now (Core_word b) part v a inside = by_test (b == a) refl
   where
-    by_test : (t : Bool) → (b == a) ≡ t → slice_index (slice_set now b (written part (slice_index now b) v)) a ≡ (if t then written part (slice_index now a) v else slice_index now a)
+    by_test : (t : Bool) → (b == a) ≡ t → slice_index (slice_set now b (with_part_written part (slice_index now b) v)) a ≡ (if t then with_part_written part (slice_index now a) v else slice_index now a)
     by_test true e =
         let same = eqb-true b a e in
-        subst (λ (c : ℕ). slice_index (slice_set now c (written part (slice_index now c) v)) a ≡ written part (slice_index now a) v) (sym same) (get_or-set_same now a _ 0 inside)
+        subst (λ (c : ℕ). slice_index (slice_set now c (with_part_written part (slice_index now c) v)) a ≡ with_part_written part (slice_index now a) v) (sym same) (get_or-set_same now a _ 0 inside)
     by_test false e = get_or-set_other now b a _ 0 (λ f. eqb-false b a e (sym f))
 
 size_put : (now : List ℕ) (spot : Spot) (part : Part) (v : ℕ) → length (put_one now spot part v) ≡ length now
@@ -61,11 +61,11 @@ module _ (core : List ℕ) (dbr : DbrFields) (apart : AreApart core dbr) where
   spots_by d seg w = core_spot core dbr d seg w
 
   -- a word of a segment by the tables is a segment word in core
-  pub segment_spot : (seg w a : ℕ) (p : Spot) → IsWord sdws_of spots_by seg w p → p ≡ Core_word a → IsSegmentWord core dbr seg w a
+  pub segment_spot : (seg w a : ℕ) (p : Spot) → IsPlacedWord sdws_of spots_by seg w p → p ≡ Core_word a → IsSegmentWord core dbr seg w a
   segment_spot seg w a p h e =
       place_is core_store core dbr seg w (Core_word a) (record { sdw = h.sdw; live = h.live; inside = h.inside; found = h.found ∙ ap (λ (q : Spot). Ok q) e })
 
-  pub lies_at : (seg w : ℕ) (p : Spot) → IsWord sdws_of spots_by seg w p → IsSegmentSpot core dbr p
+  pub lies_at : (seg w : ℕ) (p : Spot) → IsPlacedWord sdws_of spots_by seg w p → IsSegmentSpot core dbr p
   lies_at seg w p h =
       let inside = core_spot_inside core dbr h.sdw seg w p h.found in
       subst (λ (q : Spot). IsSegmentSpot core dbr q) (sym inside.spot) (seg, w, segment_spot seg w inside.address p h inside.spot)
@@ -88,8 +88,8 @@ module _ (core : List ℕ) (dbr : DbrFields) (apart : AreApart core dbr) where
   puts_match now (p ∷ puts) h m =
       puts_match (put_one now p.spot p.part p.value) puts h.1 (one_put now p.spot p.part p.value h.0 m)
 
-  lies_each : (puts : List Change) → Each (IsSpot sdws_of spots_by) puts → Each (λ (p : Change). IsSegmentSpot core dbr p.spot) puts
-  lies_each puts h = each_map (IsSpot sdws_of spots_by) (λ (p : Change). IsSegmentSpot core dbr p.spot) (λ p k. lies_at k.seg k.w p.spot k.word) puts h
+  lies_each : (puts : List Change) → Each (IsSegmentChange sdws_of spots_by) puts → Each (λ (p : Change). IsSegmentSpot core dbr p.spot) puts
+  lies_each puts h = each_map (IsSegmentChange sdws_of spots_by) (λ (p : Change). IsSegmentSpot core dbr p.spot) (λ p k. lies_at k.seg k.w p.spot k.word) puts h
 
   -- a word of a segment is in core
   pub inside_at : (a seg w : ℕ) → IsSegmentWord core dbr seg w a → a < length core
@@ -106,12 +106,12 @@ module _ (core : List ℕ) (dbr : DbrFields) (apart : AreApart core dbr) where
       words_put now puts a (subst (λ (n : ℕ). a < n) (sym m.size) (inside_at a lies.0 lies.1 lies.2))
 
   -- marks
-  marked_matches : (now : List ℕ) → Matches core dbr now → (kind : RequestKind) (seg w : ℕ) (p : Spot) → IsWord sdws_of spots_by seg w p → Matches core dbr (core_marked now dbr kind seg w)
+  marked_matches : (now : List ℕ) → Matches core dbr now → (kind : RequestKind) (seg w : ℕ) (p : Spot) → IsPlacedWord sdws_of spots_by seg w p → Matches core dbr (core_marked now dbr kind seg w)
   unfolding core_marked
   marked_matches now m kind seg w p h =
       marks_match core dbr apart now (marks now dbr kind seg w) m (marks_are_ptws core dbr now m kind seg w h.sdw h.live (placed_within h.sdw w h.inside))
 
-  pub marked_near : (now : List ℕ) → Matches core dbr now → (kind : RequestKind) (seg w : ℕ) (p : Spot) → IsWord sdws_of spots_by seg w p → IsMarkedFrom core dbr now (core_marked now dbr kind seg w)
+  pub marked_near : (now : List ℕ) → Matches core dbr now → (kind : RequestKind) (seg w : ℕ) (p : Spot) → IsPlacedWord sdws_of spots_by seg w p → IsMarkedFrom core dbr now (core_marked now dbr kind seg w)
   unfolding core_marked
   marked_near now m kind seg w p h =
       marks_near core dbr now (marks now dbr kind seg w) (marks_are_ptws core dbr now m kind seg w h.sdw h.live (placed_within h.sdw w h.inside))
@@ -138,13 +138,13 @@ module _ (core : List ℕ) (dbr : DbrFields) (apart : AreApart core dbr) where
   apart_by a seg w seg' w' h k true false e f =
       absurd (apart.words a (record { seg = seg; w = w; word = h; other_seg = seg'; other_w = w'; other_word = k; differ = inr (eqb-false w w' f) }))
 
-  pub apart_at : (seg w seg' w' : ℕ) (p p' : Spot) → IsWord sdws_of spots_by seg w p → IsWord sdws_of spots_by seg' w' p' → same_spot p p' ≡ true → (seg ≡ seg') × (w ≡ w')
+  pub apart_at : (seg w seg' w' : ℕ) (p p' : Spot) → IsPlacedWord sdws_of spots_by seg w p → IsPlacedWord sdws_of spots_by seg' w' p' → same_spot p p' ≡ true → (seg ≡ seg') × (w ≡ w')
   apart_at seg w seg' w' p p' h k e =
       let i = core_spot_inside core dbr h.sdw seg w p h.found in
       let same = same_place p p' e (lies_at seg w p h) in
       apart_by i.address seg w seg' w' (segment_spot seg w i.address p h i.spot) (segment_spot seg' w' i.address p' k (sym same ∙ i.spot)) (seg == seg') (w == w') refl refl
 
-  pub word_at : (now : List ℕ) → Matches core dbr now → (seg w : ℕ) (p : Spot) → IsWord sdws_of spots_by seg w p → content_in core_store now dbr seg w ≡ Some (core_word now p)
+  pub word_at : (now : List ℕ) → Matches core dbr now → (seg w : ℕ) (p : Spot) → IsPlacedWord sdws_of spots_by seg w p → content_in core_store now dbr seg w ≡ Some (core_word now p)
   word_at now m seg w p h =
       content_placed core_store now dbr seg w p (record {
         sdw = h.sdw;

@@ -8,12 +8,12 @@ use Rattle.std.proofs.lemmas.Option.{slice_get_within}
 use Rattle.m36_isol.proofs.Spots.{each_append}
 use Rattle.m36_desc.specs.Fields.{SdwFields, DbrFields}
 use Rattle.m36_model.specs.Act.{RequestKind}
-use Rattle.m36_model.specs.Store.{within}
-use Rattle.m36_model.specs.Place.{with_used, with_modified, marked_word, Mark, directory_marks, page_marks, is_write, marks, with_mark, with_marks, core_sdw, sdw_place_by, sdw_at, ptw_at, directory_at, page_at, in_bounds}
+use Rattle.m36_model.specs.Store.{is_within_bound}
+use Rattle.m36_model.specs.Place.{with_used, with_modified, marked_word, Mark, directory_marks, page_marks, is_write, marks, with_mark, with_marks, core_sdw, sdw_place_by, sdw_at, ptw_at, directory_at, page_at, has_descriptor_in_bounds}
 use Rattle.m36_model.specs.Core.{unmarked}
 use Rattle.m36_model.specs.Audit.{IsSdwWord, Sdws, Directory, Pages, AreApart}
 use Rattle.m36_model.specs.StoreLaw.{Each}
-use Rattle.m36_model.specs.CoreLaw.{IsPtwWord, IsMarked, IsButMarked, IsMarkedFrom}
+use Rattle.m36_model.specs.CoreLaw.{IsPtwWord, IsMarked, IsSameExceptMarks, IsMarkedFrom}
 use Rattle.m36_model.specs.declared.outcome.Refusal.{Refusal}
 use Rattle.m36_isol.specs.MarkBits.{MarksKeepBits}
 use Rattle.m36_isol.proofs.Lists.{set_other, set_same, get_set_past, index_of_get}
@@ -60,10 +60,10 @@ is_marked false w = inl refl
 
 module _ (core : List ℕ) (dbr : DbrFields) where
   -- one word is unchanged or marked, twice
-  but_marked_again : (a u v w : ℕ) → IsButMarked core dbr a u v → IsButMarked core dbr a v w → IsButMarked core dbr a u w
+  but_marked_again : (a u v w : ℕ) → IsSameExceptMarks core dbr a u v → IsSameExceptMarks core dbr a v w → IsSameExceptMarks core dbr a u w
   but_marked_again a u v w (inl e) (inl f) = inl (f ∙ e)
-  but_marked_again a u v w (inl e) (inr k) = subst (λ (x : ℕ). IsButMarked core dbr a x w) e (inr k)
-  but_marked_again a u v w (inr h) (inl f) = subst (λ (x : ℕ). IsButMarked core dbr a u x) (sym f) (inr h)
+  but_marked_again a u v w (inl e) (inr k) = subst (λ (x : ℕ). IsSameExceptMarks core dbr a x w) e (inr k)
+  but_marked_again a u v w (inr h) (inl f) = subst (λ (x : ℕ). IsSameExceptMarks core dbr a u x) (sym f) (inr h)
   but_marked_again a u v w (inr h) (inr k) = inr (h.0, marked_again u v w h.1 k.1)
 
   pub marked_self : (now : List ℕ) → IsMarkedFrom core dbr now now
@@ -129,13 +129,13 @@ module _ (core : List ℕ) (dbr : DbrFields) where
     marks_match now (m ∷ list) k h = marks_match (with_mark now m) list (mark_matches now m k h.0) h.1
 
   -- a mark leaves each word unchanged or marked
-  mark_word : (now : List ℕ) (m : Mark) → IsPtwWord core dbr m.address → (a : ℕ) (t : Bool) → (a == m.address) ≡ t → IsButMarked core dbr a (slice_index now a) (slice_index (with_mark now m) a)
+  mark_word : (now : List ℕ) (m : Mark) → IsPtwWord core dbr m.address → (a : ℕ) (t : Bool) → (a == m.address) ≡ t → IsSameExceptMarks core dbr a (slice_index now a) (slice_index (with_mark now m) a)
   mark_word now m ptw a false e = inl (get_or-set_other now m.address a _ 0 (eqb-false a m.address e))
   mark_word now m ptw a true e =
       let same = eqb-true a m.address e in
-      subst (λ (b : ℕ). IsButMarked core dbr b (slice_index now b) (slice_index (with_mark now m) b)) (sym same) (mark_here (slice_get now m.address) refl)
+      subst (λ (b : ℕ). IsSameExceptMarks core dbr b (slice_index now b) (slice_index (with_mark now m) b)) (sym same) (mark_here (slice_get now m.address) refl)
     where
-      mark_here : (found : Option ℕ) → slice_get now m.address ≡ found → IsButMarked core dbr m.address (slice_index now m.address) (slice_index (with_mark now m) m.address)
+      mark_here : (found : Option ℕ) → slice_get now m.address ≡ found → IsSameExceptMarks core dbr m.address (slice_index now m.address) (slice_index (with_mark now m) m.address)
       mark_here None k = inl (ap (λ (l : List ℕ). slice_index l m.address) (get_set_past now m.address _ k))
       mark_here (Some x) k =
           inr (ptw, subst (λ (v : ℕ). IsMarked (slice_index now m.address) v) (sym (get_or-set_same now m.address _ 0 (slice_get_within now m.address x k))) (is_marked m.modified (slice_index now m.address)))
@@ -151,29 +151,29 @@ module _ (core : List ℕ) (dbr : DbrFields) where
       marked_then now (with_mark now m) _ (mark_near now m h.0) (marks_near (with_mark now m) list h.1)
 
   -- the marks of a reference to a word with a place are on PTWs
-  bounds_by : (seg : ℕ) (d : SdwFields) (b : Bool) → in_bounds dbr seg ≡ b → sdw_at core (sdw_place_by b dbr.unpaged dbr seg (ptw_at core (directory_at dbr seg))) ≡ Ok d → in_bounds dbr seg ≡ true
+  bounds_by : (seg : ℕ) (d : SdwFields) (b : Bool) → has_descriptor_in_bounds dbr seg ≡ b → sdw_at core (sdw_place_by b dbr.unpaged dbr seg (ptw_at core (directory_at dbr seg))) ≡ Ok d → has_descriptor_in_bounds dbr seg ≡ true
   bounds_by seg d true e h = e
   bounds_by seg d false e h = cc
 
-  pub live_bounds : (seg : ℕ) (d : SdwFields) → core_sdw core dbr seg ≡ Ok d → in_bounds dbr seg ≡ true
+  pub live_bounds : (seg : ℕ) (d : SdwFields) → core_sdw core dbr seg ≡ Ok d → has_descriptor_in_bounds dbr seg ≡ true
   unfolding core_sdw
-  live_bounds seg d h = bounds_by seg d (in_bounds dbr seg) refl h
+  live_bounds seg d h = bounds_by seg d (has_descriptor_in_bounds dbr seg) refl h
 
-  directory_ptws : (seg : ℕ) → in_bounds dbr seg ≡ true → (u : Bool) → dbr.unpaged ≡ u → Each (λ (m : Mark). IsPtwWord core dbr m.address) (if u then [] else record { address = directory_at dbr seg; modified = false } ∷ [])
+  directory_ptws : (seg : ℕ) → has_descriptor_in_bounds dbr seg ≡ true → (u : Bool) → dbr.unpaged ≡ u → Each (λ (m : Mark). IsPtwWord core dbr m.address) (if u then [] else record { address = directory_at dbr seg; modified = false } ∷ [])
   directory_ptws seg bounds true e = tt
   directory_ptws seg bounds false e = (inl (seg, record { bounds = bounds; paged = e; found = refl }), tt)
 
-  page_ptws : (write : Bool) (seg w : ℕ) (d : SdwFields) → core_sdw core dbr seg ≡ Ok d → within d w ≡ true → (u : Bool) → d.unpaged ≡ u → Each (λ (m : Mark). IsPtwWord core dbr m.address) (if u then [] else record { address = page_at d (w / 1024); modified = write } ∷ [])
+  page_ptws : (write : Bool) (seg w : ℕ) (d : SdwFields) → core_sdw core dbr seg ≡ Ok d → is_within_bound d w ≡ true → (u : Bool) → d.unpaged ≡ u → Each (λ (m : Mark). IsPtwWord core dbr m.address) (if u then [] else record { address = page_at d (w / 1024); modified = write } ∷ [])
   page_ptws write seg w d live inside true e = tt
   page_ptws write seg w d live inside false e =
       let k : w / 16 ≤ d.bound = leb-true (w / 16) d.bound inside in
       (inr (seg, w / 1024, record { sdw = d; live = live; paged = e; begins = omega arith; found = refl }), tt)
 
-  page_ptws_at : (write : Bool) (seg w : ℕ) (d : SdwFields) → core_sdw core dbr seg ≡ Ok d → within d w ≡ true → (v : Result SdwFields Refusal) → Ok d ≡ v → Each (λ (m : Mark). IsPtwWord core dbr m.address) (page_marks write w v)
+  page_ptws_at : (write : Bool) (seg w : ℕ) (d : SdwFields) → core_sdw core dbr seg ≡ Ok d → is_within_bound d w ≡ true → (v : Result SdwFields Refusal) → Ok d ≡ v → Each (λ (m : Mark). IsPtwWord core dbr m.address) (page_marks write w v)
   page_ptws_at write seg w d live inside v e =
       subst (λ (x : Result SdwFields Refusal). Each (λ (m : Mark). IsPtwWord core dbr m.address) (page_marks write w x)) e (page_ptws write seg w d live inside d.unpaged refl)
 
-  pub marks_are_ptws : (now : List ℕ) → Matches core dbr now → (kind : RequestKind) (seg w : ℕ) (d : SdwFields) → core_sdw core dbr seg ≡ Ok d → within d w ≡ true → Each (λ (m : Mark). IsPtwWord core dbr m.address) (marks now dbr kind seg w)
+  pub marks_are_ptws : (now : List ℕ) → Matches core dbr now → (kind : RequestKind) (seg w : ℕ) (d : SdwFields) → core_sdw core dbr seg ≡ Ok d → is_within_bound d w ≡ true → Each (λ (m : Mark). IsPtwWord core dbr m.address) (marks now dbr kind seg w)
   unfolding marks
   marks_are_ptws now k kind seg w d live inside =
       each_append (λ (m : Mark). IsPtwWord core dbr m.address) (directory_marks dbr seg) (page_marks (is_write kind) w (core_sdw now dbr seg)) (directory_ptws seg (live_bounds seg d live) dbr.unpaged refl) (page_ptws_at (is_write kind) seg w d live inside (core_sdw now dbr seg) (sym (same_sdw core dbr now k seg ∙ live)))

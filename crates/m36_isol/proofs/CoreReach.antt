@@ -10,8 +10,8 @@ use Rattle.m36_model.specs.Core.{core_store, core_put, put_one, core_tables}
 use Rattle.m36_model.specs.Step.{state_after}
 use Rattle.m36_model.specs.Audit.{IsAudited}
 use Rattle.m36_model.specs.StoreLaw.{Each, Lawful}
-use Rattle.m36_model.specs.CoreLaw.{HasTables, IsSegmentSpot, IsMarkedFrom, IsButMarked}
-use Rattle.m36_model.specs.Laws.{IsReachable, CoreReachLaw, KeptLaw}
+use Rattle.m36_model.specs.CoreLaw.{HasTables, IsSegmentSpot, IsMarkedFrom, IsSameExceptMarks}
+use Rattle.m36_model.specs.Laws.{IsReachable, CoreReachLaw, AuditKeptLaw}
 use Rattle.m36_isol.proofs.Alike.{IsReached}
 use Rattle.m36_isol.proofs.Spots.{each_map}
 use Rattle.m36_isol.proofs.Places.{place_is}
@@ -55,21 +55,21 @@ module _ (core : List ℕ) (g : RegsFields) (audited : IsAudited core g.dbr) (st
         });
       }
 
-  words_after : (a : ℕ) → (IsReachable r here a → ⊥) → IsButMarked core g.dbr a (slice_index store a) (slice_index (state_after core_store here).store a)
+  words_after : (a : ℕ) → (IsReachable r here a → ⊥) → IsSameExceptMarks core g.dbr a (slice_index store a) (slice_index (state_after core_store here).store a)
   unfolding state_after
   words_after a none =
       let k = one_run core_store g (HasTables core g.dbr) (IsSegmentSpot core g.dbr) (IsMarkedFrom core g.dbr) law (guarded_by core g.dbr audited) r low store tables in
       let writes = reached_writes core_store g (HasTables core g.dbr) (IsSegmentSpot core g.dbr) (IsMarkedFrom core g.dbr) law (guarded_by core g.dbr audited) r low store tables in
       let other = each_map (λ (c : Change). IsReached law.sdws law.spots r c.spot) (λ (c : Change). c.spot ≡ Core_word a → ⊥) (λ c reached e. none (reachable a c.spot reached e)) _ writes in
-      subst (λ (v : ℕ). IsButMarked core g.dbr a (slice_index store a) v) (sym (puts_elsewhere _ _ a other)) (k.mid.kept.near.words a)
+      subst (λ (v : ℕ). IsSameExceptMarks core g.dbr a (slice_index store a) v) (sym (puts_elsewhere _ _ a other)) (k.mid.kept.near.words a)
 
 -- In core, a step changes only words of segments that ring r can change, and marks.
 pub core_words : (core : List ℕ) (dbr : DbrFields) → IsAudited core dbr → CoreReachLaw core dbr
 core_words core dbr audited r s above a none =
-    subst (λ (d : DbrFields). IsAudited core d → core_tables s.store s.regs.dbr ≡ core_tables core d → IsButMarked core d a (slice_index s.store a) (slice_index (state_after core_store s).store a)) (same_dbr core s.store dbr s.regs.dbr above.tables) (λ here tables. words_after core s.regs here s.store tables r above.low a none) audited above.tables
+    subst (λ (d : DbrFields). IsAudited core d → core_tables s.store s.regs.dbr ≡ core_tables core d → IsSameExceptMarks core d a (slice_index s.store a) (slice_index (state_after core_store s).store a)) (same_dbr core s.store dbr s.regs.dbr above.tables) (λ here tables. words_after core s.regs here s.store tables r above.low a none) audited above.tables
 
 -- A step that executes no LDBR preserves the audit conditions.
-pub core_kept : KeptLaw
+pub core_kept : AuditKeptLaw
 core_kept s audited none =
     let T = core_tables s.store s.regs.dbr in
     let B = backed s.store s.regs.dbr audited s refl in

@@ -5,8 +5,8 @@ use Rattle.std.specs.Prelude.{ℕ, zero, suc, ◌+◌, ◌*◌, ◌/◌, ◌%◌
 use Rattle.std.proofs.lemmas.Bool.{leb-true}
 use Rattle.m36_desc.specs.Fields.{SdwFields, PtwFields, DbrFields}
 use Rattle.m36_desc.specs.Descriptors.{ptw_of}
-use Rattle.m36_model.specs.Store.{Tables, SegTable, within}
-use Rattle.m36_model.specs.Place.{wrapped, in_frame, in_frame_by, ptw_at, directory_at, page_at, in_bounds, sdw_place, sdw_place_by, sdw_at, core_sdw, core_spot, word_place_by}
+use Rattle.m36_model.specs.Store.{Tables, SegTable, is_within_bound}
+use Rattle.m36_model.specs.Place.{wrapped_address, address_in_frame, address_in_frame_by, ptw_at, directory_at, page_at, has_descriptor_in_bounds, sdw_place, sdw_place_by, sdw_at, core_sdw, core_spot, word_place_by}
 use Rattle.m36_model.specs.Core.{unmarked, ptw_entry, sdw_entry, sdw_entries, pages_to, page_entries, segment_table, core_tables}
 use Rattle.m36_model.specs.Audit.{IsSdwWord, IsPageWord}
 use Rattle.m36_model.specs.CoreLaw.{HasTables, IsPtwWord}
@@ -39,46 +39,46 @@ same_f u v h =
     let e : u / 4 % 2 ≡ v / 4 % 2 = omega arith in
     ap (λ (n : ℕ). n == 1) e
 
-frame_by : (b : Bool) (p q : PtwFields) (offset : ℕ) → p.addr ≡ q.addr → p.fc ≡ q.fc → in_frame_by b p offset ≡ in_frame_by b q offset
-frame_by true p q offset a c = ap (λ (n : ℕ). Ok (wrapped ((n / 16) * 1024 + offset))) a
+frame_by : (b : Bool) (p q : PtwFields) (offset : ℕ) → p.addr ≡ q.addr → p.fc ≡ q.fc → address_in_frame_by b p offset ≡ address_in_frame_by b q offset
+frame_by true p q offset a c = ap (λ (n : ℕ). Ok (wrapped_address ((n / 16) * 1024 + offset))) a
 frame_by false p q offset a c = cc
 
-pub same_frame : (x y : Option ℕ) (offset : ℕ) → option_map unmarked x ≡ option_map unmarked y → in_frame (option_map ptw_of x) offset ≡ in_frame (option_map ptw_of y) offset
+pub same_frame : (x y : Option ℕ) (offset : ℕ) → option_map unmarked x ≡ option_map unmarked y → address_in_frame (option_map ptw_of x) offset ≡ address_in_frame (option_map ptw_of y) offset
 same_frame None None offset h = refl
 same_frame None (Some v) offset h = cc
 same_frame (Some u) None offset h = cc
 same_frame (Some u) (Some v) offset h =
     let k : unmarked u ≡ unmarked v = cc in
-    frame_by (ptw_of u).f (ptw_of u) (ptw_of v) offset (same_addr u v k) (same_fc u v k) ∙ ap (λ (b : Bool). in_frame_by b (ptw_of v) offset) (same_f u v k)
+    frame_by (ptw_of u).f (ptw_of u) (ptw_of v) offset (same_addr u v k) (same_fc u v k) ∙ ap (λ (b : Bool). address_in_frame_by b (ptw_of v) offset) (same_f u v k)
 
 module _ (core : List ℕ) (dbr : DbrFields) (now : List ℕ) (m : Matches core dbr now) where
-  place_by : (seg : ℕ) (b u : Bool) → in_bounds dbr seg ≡ b → dbr.unpaged ≡ u → sdw_place_by b u dbr seg (ptw_at now (directory_at dbr seg)) ≡ sdw_place_by b u dbr seg (ptw_at core (directory_at dbr seg))
+  place_by : (seg : ℕ) (b u : Bool) → has_descriptor_in_bounds dbr seg ≡ b → dbr.unpaged ≡ u → sdw_place_by b u dbr seg (ptw_at now (directory_at dbr seg)) ≡ sdw_place_by b u dbr seg (ptw_at core (directory_at dbr seg))
   place_by seg false u e f = refl
   place_by seg true true e f = refl
   place_by seg true false e f =
       same_frame _ _ _ (m.ptws (directory_at dbr seg) (inl (seg, record { bounds = e; paged = f; found = refl })))
 
   pub same_sdw_place : (seg : ℕ) → sdw_place now dbr seg ≡ sdw_place core dbr seg
-  same_sdw_place seg = place_by seg (in_bounds dbr seg) dbr.unpaged refl refl
+  same_sdw_place seg = place_by seg (has_descriptor_in_bounds dbr seg) dbr.unpaged refl refl
 
   sdw_by : (seg : ℕ) (v : Result ℕ Refusal) → sdw_place core dbr seg ≡ v → sdw_at now v ≡ sdw_at core v
   sdw_by seg (Err e) found = refl
   sdw_by seg (Ok a) found =
       let even = m.descriptors seg a (record { even = a; found = found; half = inl refl }) in
-      let odd = m.descriptors seg (wrapped (a + 1)) (record { even = a; found = found; half = inr refl }) in
+      let odd = m.descriptors seg (wrapped_address (a + 1)) (record { even = a; found = found; half = inr refl }) in
       cc
 
   pub same_sdw : (seg : ℕ) → core_sdw now dbr seg ≡ core_sdw core dbr seg
   unfolding core_sdw
   same_sdw seg = ap (sdw_at now) (same_sdw_place seg) ∙ sdw_by seg (sdw_place core dbr seg) refl
 
-  spot_by : (seg w : ℕ) (d : SdwFields) → core_sdw core dbr seg ≡ Ok d → within d w ≡ true → (u : Bool) → d.unpaged ≡ u → word_place_by u d w (ptw_at now (page_at d (w / 1024))) ≡ word_place_by u d w (ptw_at core (page_at d (w / 1024)))
+  spot_by : (seg w : ℕ) (d : SdwFields) → core_sdw core dbr seg ≡ Ok d → is_within_bound d w ≡ true → (u : Bool) → d.unpaged ≡ u → word_place_by u d w (ptw_at now (page_at d (w / 1024))) ≡ word_place_by u d w (ptw_at core (page_at d (w / 1024)))
   spot_by seg w d live inside true e = refl
   spot_by seg w d live inside false e =
       let k : w / 16 ≤ d.bound = leb-true (w / 16) d.bound inside in
       same_frame _ _ _ (m.ptws (page_at d (w / 1024)) (inr (seg, w / 1024, record { sdw = d; live = live; paged = e; begins = omega arith; found = refl })))
 
-  pub same_spot_of : (seg w : ℕ) (d : SdwFields) → core_sdw core dbr seg ≡ Ok d → within d w ≡ true → core_spot now dbr d seg w ≡ core_spot core dbr d seg w
+  pub same_spot_of : (seg w : ℕ) (d : SdwFields) → core_sdw core dbr seg ≡ Ok d → is_within_bound d w ≡ true → core_spot now dbr d seg w ≡ core_spot core dbr d seg w
   unfolding core_spot
   same_spot_of seg w d live inside =
       let e = spot_by seg w d live inside d.unpaged refl in
@@ -89,7 +89,7 @@ module _ (core : List ℕ) (dbr : DbrFields) (now : List ℕ) (m : Matches core 
   entry_by : (a : ℕ) → IsPtwWord core dbr a → ptw_entry now a ≡ ptw_entry core a
   entry_by a h = let e = m.ptws a h in λ i. (a, e i)
 
-  directory_by : (seg : ℕ) (b u : Bool) → in_bounds dbr seg ≡ b → dbr.unpaged ≡ u → (if b && not u then ptw_entry now (directory_at dbr seg) ∷ [] else []) ≡ (if b && not u then ptw_entry core (directory_at dbr seg) ∷ [] else [])
+  directory_by : (seg : ℕ) (b u : Bool) → has_descriptor_in_bounds dbr seg ≡ b → dbr.unpaged ≡ u → (if b && not u then ptw_entry now (directory_at dbr seg) ∷ [] else []) ≡ (if b && not u then ptw_entry core (directory_at dbr seg) ∷ [] else [])
   directory_by seg false u e f = refl
   directory_by seg true true e f = refl
   directory_by seg true false e f =
@@ -99,8 +99,8 @@ module _ (core : List ℕ) (dbr : DbrFields) (now : List ℕ) (m : Matches core 
   sdws_by seg (Err e) found = refl
   sdws_by seg (Ok a) found =
       let even = m.descriptors seg a (record { even = a; found = found; half = inl refl }) in
-      let odd = m.descriptors seg (wrapped (a + 1)) (record { even = a; found = found; half = inr refl }) in
-      λ i. (a, even i) ∷ (wrapped (a + 1), odd i) ∷ []
+      let odd = m.descriptors seg (wrapped_address (a + 1)) (record { even = a; found = found; half = inr refl }) in
+      λ i. (a, even i) ∷ (wrapped_address (a + 1), odd i) ∷ []
 
   pages_by : (seg : ℕ) (d : SdwFields) → core_sdw core dbr seg ≡ Ok d → d.unpaged ≡ false → (n : ℕ) → n ≤ d.bound / 64 → pages_to now d n ≡ pages_to core d n
   pages_by seg d live paged zero begins =
@@ -122,7 +122,7 @@ module _ (core : List ℕ) (dbr : DbrFields) (now : List ℕ) (m : Matches core 
   unfolding core_tables
   has_tables =
       let size = m.size in
-      let directory = λ (seg : ℕ). directory_by seg (in_bounds dbr seg) dbr.unpaged refl refl in
+      let directory = λ (seg : ℕ). directory_by seg (has_descriptor_in_bounds dbr seg) dbr.unpaged refl refl in
       let sdws = λ (seg : ℕ). ap (sdw_entries now) (same_sdw_place seg) ∙ sdws_by seg (sdw_place core dbr seg) refl in
       let pages = λ (seg : ℕ). ap (page_entries now) (same_sdw seg) ∙ page_entries_by seg (core_sdw core dbr seg) refl in
       λ i. record { dbr = dbr; size = size i; of = λ seg. record { directory = directory seg i; sdw = sdws seg i; pages = pages seg i } }
@@ -146,17 +146,17 @@ module _ (core : List ℕ) (dbr : DbrFields) (now : List ℕ) (h : HasTables cor
   directory_of seg true false e f k = first_entry _ _ _ _ k
 
   -- one half of a descriptor
-  half_of : (a even place : ℕ) → (a ≡ even) ⊎ (a ≡ wrapped (even + 1)) → sdw_entries now (Ok place) ≡ sdw_entries core (Ok even) → slice_get now a ≡ slice_get core a
+  half_of : (a even place : ℕ) → (a ≡ even) ⊎ (a ≡ wrapped_address (even + 1)) → sdw_entries now (Ok place) ≡ sdw_entries core (Ok even) → slice_get now a ≡ slice_get core a
   half_of a even place half e =
       let first : sdw_entry now place ≡ sdw_entry core even = cc in
-      let second : sdw_entry now (wrapped (place + 1)) ≡ sdw_entry core (wrapped (even + 1)) = cc in
+      let second : sdw_entry now (wrapped_address (place + 1)) ≡ sdw_entry core (wrapped_address (even + 1)) = cc in
       let at = ap (λ (p : ℕ × Option ℕ). p.0) first in
       let found = ap (λ (p : ℕ × Option ℕ). p.1) first in
       let at_second = ap (λ (p : ℕ × Option ℕ). p.0) second in
       let found_second = ap (λ (p : ℕ × Option ℕ). p.1) second in
       ⊎_elim (λ e1. ap (slice_get now) (e1 ∙ sym at) ∙ found ∙ ap (slice_get core) (sym e1)) (λ e2. ap (slice_get now) (e2 ∙ sym at_second) ∙ found_second ∙ ap (slice_get core) (sym e2)) half
 
-  sdw_half : (seg a even : ℕ) → (a ≡ even) ⊎ (a ≡ wrapped (even + 1)) → (v : Result ℕ Refusal) → sdw_entries now v ≡ sdw_entries core (Ok even) → slice_get now a ≡ slice_get core a
+  sdw_half : (seg a even : ℕ) → (a ≡ even) ⊎ (a ≡ wrapped_address (even + 1)) → (v : Result ℕ Refusal) → sdw_entries now v ≡ sdw_entries core (Ok even) → slice_get now a ≡ slice_get core a
   sdw_half seg a even half (Err why) e = cc
   sdw_half seg a even half (Ok place) e = half_of a even place half e
 
@@ -166,11 +166,11 @@ module _ (core : List ℕ) (dbr : DbrFields) (now : List ℕ) (h : HasTables cor
       sdw_half seg a k.even k.half (sdw_place now dbr seg) (e ∙ ap (sdw_entries core) k.found)
 
   -- descriptors depend only on the table words of the descriptor segment
-  directory_word : (seg : ℕ) → in_bounds dbr seg ≡ true → dbr.unpaged ≡ false → option_map unmarked (slice_get now (directory_at dbr seg)) ≡ option_map unmarked (slice_get core (directory_at dbr seg))
+  directory_word : (seg : ℕ) → has_descriptor_in_bounds dbr seg ≡ true → dbr.unpaged ≡ false → option_map unmarked (slice_get now (directory_at dbr seg)) ≡ option_map unmarked (slice_get core (directory_at dbr seg))
   directory_word seg bounds paged =
-      directory_of seg (in_bounds dbr seg) dbr.unpaged bounds paged (ap (λ (t : SegTable). t.directory) (table_of seg))
+      directory_of seg (has_descriptor_in_bounds dbr seg) dbr.unpaged bounds paged (ap (λ (t : SegTable). t.directory) (table_of seg))
 
-  place_of : (seg : ℕ) (b u : Bool) → in_bounds dbr seg ≡ b → dbr.unpaged ≡ u → sdw_place_by b u dbr seg (ptw_at now (directory_at dbr seg)) ≡ sdw_place_by b u dbr seg (ptw_at core (directory_at dbr seg))
+  place_of : (seg : ℕ) (b u : Bool) → has_descriptor_in_bounds dbr seg ≡ b → dbr.unpaged ≡ u → sdw_place_by b u dbr seg (ptw_at now (directory_at dbr seg)) ≡ sdw_place_by b u dbr seg (ptw_at core (directory_at dbr seg))
   place_of seg false u e f = refl
   place_of seg true true e f = refl
   place_of seg true false e f = same_frame _ _ _ (directory_word seg e f)
@@ -179,13 +179,13 @@ module _ (core : List ℕ) (dbr : DbrFields) (now : List ℕ) (h : HasTables cor
   found_by seg (Err e) found = refl
   found_by seg (Ok a) found =
       let even = descriptors_of seg a (record { even = a; found = found; half = inl refl }) in
-      let odd = descriptors_of seg (wrapped (a + 1)) (record { even = a; found = found; half = inr refl }) in
+      let odd = descriptors_of seg (wrapped_address (a + 1)) (record { even = a; found = found; half = inr refl }) in
       cc
 
   pub descriptor_of : (seg : ℕ) → core_sdw now dbr seg ≡ core_sdw core dbr seg
   unfolding core_sdw
   descriptor_of seg =
-      ap (sdw_at now) (place_of seg (in_bounds dbr seg) dbr.unpaged refl refl) ∙ found_by seg (sdw_place core dbr seg) refl
+      ap (sdw_at now) (place_of seg (has_descriptor_in_bounds dbr seg) dbr.unpaged refl refl) ∙ found_by seg (sdw_place core dbr seg) refl
 
   page_of : (d : SdwFields) (n page : ℕ) → page ≤ n → pages_to now d n ≡ pages_to core d n → option_map unmarked (slice_get now (page_at d page)) ≡ option_map unmarked (slice_get core (page_at d page))
   page_of d zero page low e =

@@ -6,16 +6,16 @@ use Rattle.m36_model.specs.Fields.{FinalFields}
 use Rattle.m36_model.specs.Registers.{RegsFields}
 use Rattle.m36_model.specs.declared.registers.Ind.{Ind}
 use Rattle.m36_model.specs.Arithmetic.{SumFields}
-use Rattle.m36_model.specs.Results.{OperandFields, EffectFields, Working, A, Q, AQ, X, words, with_value, with_indicators, moved_on, takes, completes}
+use Rattle.m36_model.specs.Results.{OperandFields, EffectFields, Working, A, Q, AQ, X, words, with_value, with_indicators, advanced, with_value_and_indicators, completes}
 use Rattle.m36_model.specs.Loads.{load, load_complement, load_and_clear, load_indicators}
-use Rattle.m36_model.specs.Stores.{store, store_zero, store_indicators, store_where_zero, store_where_equal}
+use Rattle.m36_model.specs.Stores.{store, store_zero, store_indicators, store_if_zero, store_if_equal}
 use Rattle.m36_model.specs.Sums.{into_register, into_register_logical, into_operand, add, add_logical, add_with_carry, subtract, subtract_logical, subtract_with_carry, add_one_to_storage, add_to_storage, subtract_stored, negate}
 use Rattle.m36_model.specs.Products.{multiply, divide, divide_by}
 use Rattle.m36_model.specs.Compares.{compare, test_word, test_and_clear, compare_masked, test_and, test_and_not}
 use Rattle.m36_model.specs.Logic.{and_register, or_register, xor_register, and_storage, or_storage, xor_storage}
 use Rattle.m36_model.specs.ShiftEffects.{shift_left, shift_right, shift_right_logical, rotate_left}
 use Rattle.m36_model.specs.Pointers.{with_pr, load_pointer, load_base_pointer, store_pointer, store_base_pointer, store_pointers, load_pointers, load_packed, load_packed_by, load_address_pair, store_control}
-use Rattle.m36_model.specs.Transfers.{gone_to, transfer_by, transfer_where, without_overflow, transfer_on_overflow, transfer_and_set_index, transfer_and_set_pointer}
+use Rattle.m36_model.specs.Transfers.{registers_after_transfer, transfer_by, transfer_if, without_overflow, transfer_on_overflow, transfer_and_set_index, transfer_and_set_pointer}
 use Rattle.m36_model.specs.Privileged.{store_dbr, load_absolute_address}
 use Rattle.m36_model.specs.Isolation.{HasPointers}
 
@@ -46,8 +46,8 @@ keeps_then : (g h k : RegsFields) → Keeps g h → Keeps h k → Keeps g k
 keeps_then g h k a b =
     record { ring = b.ring ∙ a.ring; dbr = b.dbr ∙ a.dbr; pointers = λ p. b.pointers (a.pointers p) }
 
-keeps_moved : (g h : RegsFields) → Keeps g h → Keeps g (moved_on h)
-unfolding moved_on
+keeps_moved : (g h : RegsFields) → Keeps g h → Keeps g (advanced h)
+unfolding advanced
 keeps_moved g h k = record { ring = k.ring; dbr = k.dbr; pointers = k.pointers }
 
 keeps_value : (r : Working) (v : ℕ) (g h : RegsFields) → Keeps g h → Keeps g (with_value r v h)
@@ -60,7 +60,7 @@ keeps_value (X n) v g h k = record { ring = k.ring; dbr = k.dbr; pointers = k.po
 keeps_indicators : (i : Ind) (g h : RegsFields) → Keeps g h → Keeps g (with_indicators i h)
 keeps_indicators i g h k = record { ring = k.ring; dbr = k.dbr; pointers = k.pointers }
 
-keeps_takes : (r : Working) (v : ℕ) (i : Ind) (g h : RegsFields) → Keeps g h → Keeps g (takes r v i h)
+keeps_takes : (r : Working) (v : ℕ) (i : Ind) (g h : RegsFields) → Keeps g h → Keeps g (with_value_and_indicators r v i h)
 keeps_takes r v i g h k = keeps_indicators i g (with_value r v h) (keeps_value r v g h k)
 
 keeps_pr : (n : ℕ) (p : PtrFields) (g h : RegsFields) → Keeps g h → Keeps g (with_pr n p h)
@@ -68,12 +68,12 @@ unfolding with_pr
 keeps_pr n p g h k =
     record { ring = k.ring; dbr = k.dbr; pointers = λ e. length-set h.pr n p ∙ k.pointers e }
 
-keeps_gone : (f : FinalFields) (g h : RegsFields) → Keeps g h → Keeps g (gone_to f h)
-unfolding gone_to
+keeps_gone : (f : FinalFields) (g h : RegsFields) → Keeps g h → Keeps g (registers_after_transfer f h)
+unfolding registers_after_transfer
 keeps_gone f g h k = record { ring = k.ring; dbr = k.dbr; pointers = k.pointers }
 
 -- effects that end in a new register or in indicators
-plain : (g h : RegsFields) (put : List ℕ) (overflow : Bool) (count : ℕ) → Keeps g h → length put ≡ count → IsPlain g count (record { regs = moved_on h; put = put; overflow = overflow })
+plain : (g h : RegsFields) (put : List ℕ) (overflow : Bool) (count : ℕ) → Keeps g h → length put ≡ count → IsPlain g count (record { regs = advanced h; put = put; overflow = overflow })
 plain g h put overflow count k e = record { keeps = keeps_moved g h k; count_is = e }
 
 abbrev pub word_count : Working → ℕ
@@ -118,12 +118,12 @@ pub store_indicators_plain : (g : RegsFields) → OfOk (IsPlain g 1) (store_indi
 unfolding store_indicators
 store_indicators_plain g = plain g g _ false 1 (keeps_self g) refl
 
-pub store_where_zero_plain : (v : ℕ) (g : RegsFields) → OfOk (IsPlain g 1) (store_where_zero v g)
-unfolding store_where_zero
+pub store_where_zero_plain : (v : ℕ) (g : RegsFields) → OfOk (IsPlain g 1) (store_if_zero v g)
+unfolding store_if_zero
 store_where_zero_plain v g = plain g _ _ false 1 (keeps_indicators _ g g (keeps_self g)) refl
 
-pub store_where_equal_plain : (v : ℕ) (g : RegsFields) → OfOk (IsPlain g 1) (store_where_equal v g)
-unfolding store_where_equal
+pub store_where_equal_plain : (v : ℕ) (g : RegsFields) → OfOk (IsPlain g 1) (store_if_equal v g)
+unfolding store_if_equal
 store_where_equal_plain v g = plain g _ _ false 1 (keeps_indicators _ g g (keeps_self g)) refl
 
 -- sums
@@ -302,7 +302,7 @@ unfolding store_control
 store_control_plain g = plain g g _ false 2 (keeps_self g) refl
 
 -- transfers
-gone_plain : (f : FinalFields) (g h : RegsFields) → Keeps g h → IsPlain g 0 (record { regs = gone_to f h; put = []; overflow = false })
+gone_plain : (f : FinalFields) (g h : RegsFields) → Keeps g h → IsPlain g 0 (record { regs = registers_after_transfer f h; put = []; overflow = false })
 gone_plain f g h k = record { keeps = keeps_gone f g h k; count_is = refl }
 
 pub completes_plain : (g : RegsFields) → OfOk (IsPlain g 0) (completes g)
@@ -312,8 +312,8 @@ transfer_by_plain : (taken : Bool) (f : FinalFields) (left g : RegsFields) → K
 transfer_by_plain true f left g keeps = gone_plain f g left keeps
 transfer_by_plain false f left g keeps = completes_plain g
 
-pub transfer_where_plain : (taken : Bool) (f : FinalFields) (g : RegsFields) → OfOk (IsPlain g 0) (transfer_where taken f g)
-unfolding transfer_where
+pub transfer_where_plain : (taken : Bool) (f : FinalFields) (g : RegsFields) → OfOk (IsPlain g 0) (transfer_if taken f g)
+unfolding transfer_if
 transfer_where_plain taken f g = transfer_by_plain taken f g g (keeps_self g)
 
 pub transfer_on_overflow_plain : (taken : Bool) (f : FinalFields) (g : RegsFields) → OfOk (IsPlain g 0) (transfer_on_overflow taken f g)

@@ -8,7 +8,7 @@ use Rattle.m36_inst.specs.declared.effect.Effect.{Effect}
 use Rattle.m36_inst.specs.declared.effect.Effect.TheVariants as effect
 use Rattle.m36_model.specs.Fields.{FinalFields}
 use Rattle.m36_model.specs.Registers.{RegsFields}
-use Rattle.m36_model.specs.Results.{OperandFields, EffectFields, A, Q, AQ, X, operand, word, lower, moved_on, completes}
+use Rattle.m36_model.specs.Results.{OperandFields, EffectFields, A, Q, AQ, X, operand, word, lower, advanced, completes}
 use Rattle.m36_model.specs.Loads.{address_in_upper}
 use Rattle.m36_model.specs.Sums.{sign_extended}
 use Rattle.m36_model.specs.Pointers.{with_pr}
@@ -16,13 +16,13 @@ use Rattle.m36_model.specs.Transfers.{is_taken}
 use Rattle.m36_model.specs.CallReturn.{call, return_to, all_in_ring}
 use Rattle.m36_model.specs.Privileged.{load_dbr}
 use Rattle.m36_model.specs.Effect.{exec}
-use Rattle.m36_model.specs.Laws.{IsEffect, EffectLaw}
+use Rattle.m36_model.specs.Laws.{IsLawfulEffect, EffectLaw}
 use Rattle.m36_model.specs.WordsPut.{words_written}
 use Rattle.m36_isol.proofs.EffectParts.{OfOk, of_ok, IsPlain, add_plain, add_logical_plain, add_one_to_storage_plain, add_to_storage_plain, add_with_carry_plain, and_register_plain, and_storage_plain, compare_plain, compare_masked_plain, completes_plain, divide_plain, load_plain, load_absolute_address_plain, load_address_pair_plain, load_and_clear_plain, load_base_pointer_plain, load_complement_plain, load_indicators_plain, load_packed_plain, load_pointer_plain, load_pointers_plain, multiply_plain, negate_plain, or_register_plain, or_storage_plain, rotate_left_plain, shift_left_plain, shift_right_plain, shift_right_logical_plain, store_plain, store_base_pointer_plain, store_control_plain, store_dbr_plain, store_indicators_plain, store_pointer_plain, store_pointers_plain, store_where_equal_plain, store_where_zero_plain, store_zero_plain, subtract_plain, subtract_logical_plain, subtract_stored_plain, subtract_with_carry_plain, test_and_plain, test_and_clear_plain, test_and_not_plain, test_word_plain, transfer_and_set_index_plain, transfer_and_set_pointer_plain, transfer_on_overflow_plain, transfer_where_plain, xor_register_plain, xor_storage_plain}
 
-plain_effect : (e : Effect) (g : RegsFields) (f : FinalFields) (o : OperandFields) (v : Result EffectFields ℕ) → OfOk (IsPlain g (words_written (operand_of e))) v → OfOk (IsEffect e g f o) v
+plain_effect : (e : Effect) (g : RegsFields) (f : FinalFields) (o : OperandFields) (v : Result EffectFields ℕ) → OfOk (IsPlain g (words_written (operand_of e))) v → OfOk (IsLawfulEffect e g f o) v
 plain_effect e g f o v h =
-    of_ok (IsPlain g (words_written (operand_of e))) (IsEffect e g f o) (λ x p. record { ring = inl p.keeps.ring; dbr = inl p.keeps.dbr; count = p.count_is; pointers = p.keeps.pointers }) v h
+    of_ok (IsPlain g (words_written (operand_of e))) (IsLawfulEffect e g f o) (λ x p. record { ring = inl p.keeps.ring; dbr = inl p.keeps.dbr; count = p.count_is; pointers = p.keeps.pointers }) v h
 
 -- setting one of eight pointer registers
 get_set : (xs : List PtrFields) (i : ℕ) (p : PtrFields) → i < length xs → slice_get (slice_set xs i p) i ≡ Some p
@@ -30,7 +30,7 @@ get_set [] i p h = absurd (omega arith)
 get_set (x ∷ xs) zero p h = refl
 get_set (x ∷ xs) (suc i) p h = get_set xs i p (omega arith)
 
-call_effect : (g : RegsFields) (f : FinalFields) (o : OperandFields) → OfOk (IsEffect effect.Call6 g f o) (call f o.ring g)
+call_effect : (g : RegsFields) (f : FinalFields) (o : OperandFields) → OfOk (IsLawfulEffect effect.Call6 g f o) (call f o.ring g)
 unfolding call with_pr
 call_effect g f o =
     record {
@@ -52,7 +52,7 @@ length_in_ring : (ring : ℕ) (ps : List PtrFields) → length (all_in_ring ring
 length_in_ring ring [] = refl
 length_in_ring ring (p ∷ ps) = ap suc (length_in_ring ring ps)
 
-return_effect : (g : RegsFields) (f : FinalFields) (o : OperandFields) → OfOk (IsEffect effect.Rtcd g f o) (return_to f o g)
+return_effect : (g : RegsFields) (f : FinalFields) (o : OperandFields) → OfOk (IsLawfulEffect effect.Rtcd g f o) (return_to f o g)
 unfolding return_to
 return_effect g f o =
     record {
@@ -62,12 +62,12 @@ return_effect g f o =
       pointers = λ h. length_in_ring _ g.pr ∙ h;
     }
 
-dbr_effect : (g : RegsFields) (f : FinalFields) (o : OperandFields) → OfOk (IsEffect effect.Ldbr g f o) (load_dbr o g)
-unfolding load_dbr moved_on
+dbr_effect : (g : RegsFields) (f : FinalFields) (o : OperandFields) → OfOk (IsLawfulEffect effect.Ldbr g f o) (load_dbr o g)
+unfolding load_dbr advanced
 dbr_effect g f o =
     record { ring = inl refl; dbr = inr (refl, refl); count = refl; pointers = λ h. h }
 
-pub effects : (e : Effect) (n : ℕ) (g : RegsFields) (f : FinalFields) (o : OperandFields) → OfOk (IsEffect e g f o) (exec e n g f o)
+pub effects : (e : Effect) (n : ℕ) (g : RegsFields) (f : FinalFields) (o : OperandFields) → OfOk (IsLawfulEffect e g f o) (exec e n g f o)
 unfolding exec
 effects effect.Lda n g f o = plain_effect effect.Lda g f o _ (load_plain A (operand A o) g)
 effects effect.Ldq n g f o = plain_effect effect.Ldq g f o _ (load_plain Q (operand Q o) g)
@@ -211,4 +211,4 @@ of_result : (P : EffectFields → Type 0) (v : Result EffectFields ℕ) (x : Eff
 of_result P v x e h = subst (λ (w : Result EffectFields ℕ). OfOk P w) e h
 
 pub effect_law : EffectLaw
-effect_law e n g f o x h = of_result (IsEffect e g f o) (exec e n g f o) x h (effects e n g f o)
+effect_law e n g f o x h = of_result (IsLawfulEffect e g f o) (exec e n g f o) x h (effects e n g f o)

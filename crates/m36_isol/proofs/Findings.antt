@@ -3,7 +3,7 @@
 use Rattle.std.proofs.Common.{◌≡◌, refl, sym, ◌∙◌, ap, subst, le_antisymm}
 use Rattle.std.specs.Prelude.{ℕ, List, [], ◌∷◌, ◌++◌, Option, Some, None}
 use Rattle.m36_desc.specs.Fields.{DbrFields}
-use Rattle.m36_model.specs.Audit.{Finds, noted, AreFindings, IsAudited}
+use Rattle.m36_model.specs.Audit.{Finds, numbered_finding, AreFindings, IsAudited}
 use Rattle.m36_isol.specs.Findings.{FindingsLaw}
 
 -- the finding of one condition is determined
@@ -21,21 +21,21 @@ finds_none Breaks none None h = refl
 finds_none Breaks none (Some p) h = absurd (none p h.0)
 
 -- if nothing is listed for a condition, it has no finding
-noted_none : (n : ℕ) (x : Option ℕ) → [] ≡ noted n x → x ≡ None
+noted_none : (n : ℕ) (x : Option ℕ) → [] ≡ numbered_finding n x → x ≡ None
 noted_none n None h = refl
 noted_none n (Some p) h = cc
 
-none_last : (before : List (ℕ × ℕ)) (n : ℕ) (x : Option ℕ) → [] ≡ before ++ noted n x → ([] ≡ before) × (x ≡ None)
+none_last : (before : List (ℕ × ℕ)) (n : ℕ) (x : Option ℕ) → [] ≡ before ++ numbered_finding n x → ([] ≡ before) × (x ≡ None)
 none_last [] n x h = (refl, noted_none n x h)
 none_last (y ∷ before) n x h = cc
 
-all_none : (a b c d e g : Option ℕ) → [] ≡ noted 1 a ++ noted 2 b ++ noted 3 c ++ noted 4 d ++ noted 5 e ++ noted 6 g → (a ≡ None) × (b ≡ None) × (c ≡ None) × (d ≡ None) × (e ≡ None) × (g ≡ None)
+all_none : (a b c d e g : Option ℕ) → [] ≡ numbered_finding 1 a ++ numbered_finding 2 b ++ numbered_finding 3 c ++ numbered_finding 4 d ++ numbered_finding 5 e ++ numbered_finding 6 g → (a ≡ None) × (b ≡ None) × (c ≡ None) × (d ≡ None) × (e ≡ None) × (g ≡ None)
 all_none a b c d e g h =
-    let sixth = none_last (noted 1 a ++ noted 2 b ++ noted 3 c ++ noted 4 d ++ noted 5 e) 6 g h in
-    let fifth = none_last (noted 1 a ++ noted 2 b ++ noted 3 c ++ noted 4 d) 5 e sixth.0 in
-    let fourth = none_last (noted 1 a ++ noted 2 b ++ noted 3 c) 4 d fifth.0 in
-    let third = none_last (noted 1 a ++ noted 2 b) 3 c fourth.0 in
-    let second = none_last (noted 1 a) 2 b third.0 in
+    let sixth = none_last (numbered_finding 1 a ++ numbered_finding 2 b ++ numbered_finding 3 c ++ numbered_finding 4 d ++ numbered_finding 5 e) 6 g h in
+    let fifth = none_last (numbered_finding 1 a ++ numbered_finding 2 b ++ numbered_finding 3 c ++ numbered_finding 4 d) 5 e sixth.0 in
+    let fourth = none_last (numbered_finding 1 a ++ numbered_finding 2 b ++ numbered_finding 3 c) 4 d fifth.0 in
+    let third = none_last (numbered_finding 1 a ++ numbered_finding 2 b) 3 c fourth.0 in
+    let second = none_last (numbered_finding 1 a) 2 b third.0 in
     (noted_none 1 a second.0, second.1, third.1, fourth.1, fifth.1, sixth.1)
 
 sound_law : (core : List ℕ) (dbr : DbrFields) → AreFindings core dbr [] → IsAudited core dbr
@@ -58,7 +58,7 @@ unique_law core dbr findings others f g =
     let fourth = same_find _ f.fourth g.fourth f.finds_fourth g.finds_fourth in
     let fifth = same_find _ f.fifth g.fifth f.finds_fifth g.finds_fifth in
     let sixth = same_find _ f.sixth g.sixth f.finds_sixth g.finds_sixth in
-    let same : noted 1 f.first ++ noted 2 f.second ++ noted 3 f.third ++ noted 4 f.fourth ++ noted 5 f.fifth ++ noted 6 f.sixth ≡ noted 1 g.first ++ noted 2 g.second ++ noted 3 g.third ++ noted 4 g.fourth ++ noted 5 g.fifth ++ noted 6 g.sixth = λ i. noted 1 (first i) ++ noted 2 (second i) ++ noted 3 (third i) ++ noted 4 (fourth i) ++ noted 5 (fifth i) ++ noted 6 (sixth i) in
+    let same : numbered_finding 1 f.first ++ numbered_finding 2 f.second ++ numbered_finding 3 f.third ++ numbered_finding 4 f.fourth ++ numbered_finding 5 f.fifth ++ numbered_finding 6 f.sixth ≡ numbered_finding 1 g.first ++ numbered_finding 2 g.second ++ numbered_finding 3 g.third ++ numbered_finding 4 g.fourth ++ numbered_finding 5 g.fifth ++ numbered_finding 6 g.sixth = λ i. numbered_finding 1 (first i) ++ numbered_finding 2 (second i) ++ numbered_finding 3 (third i) ++ numbered_finding 4 (fourth i) ++ numbered_finding 5 (fifth i) ++ numbered_finding 6 (sixth i) in
     f.listed ∙ same ∙ sym g.listed
 
 pub none_found : (core : List ℕ) (dbr : DbrFields) → IsAudited core dbr → AreFindings core dbr []

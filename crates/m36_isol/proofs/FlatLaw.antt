@@ -5,11 +5,11 @@ use Rattle.std.specs.Prelude.{ℕ, ◌+◌, ◌*◌, Bool, true, false, ◌==◌
 use Rattle.std.proofs.lemmas.Bool.{and_parts}
 use Rattle.m36_desc.specs.Fields.{SdwFields, DbrFields}
 use Rattle.m36_model.specs.Act.{Part}
-use Rattle.m36_model.specs.Store.{Spot, Core_word, Segment_word, Change, SegTable, Tables, State, written}
-use Rattle.m36_model.specs.Place.{in_bounds, sdw_words}
+use Rattle.m36_model.specs.Store.{Spot, Core_word, Segment_word, Change, SegTable, Tables, State, with_part_written}
+use Rattle.m36_model.specs.Place.{has_descriptor_in_bounds, sdw_words}
 use Rattle.m36_model.specs.Sight.{content_in, tables_of}
 use Rattle.m36_model.specs.Step.{state_after}
-use Rattle.m36_model.specs.StoreLaw.{same_spot, overlay, IsWord, Lawful}
+use Rattle.m36_model.specs.StoreLaw.{same_spot, overlay, IsPlacedWord, Lawful}
 use Rattle.m36_model.specs.Isolation.{HasPointers, Isolated}
 use Rattle.m36_model.specs.Laws.{IsAbove, ReachLaw, FallLaw, AgreeLaw}
 use Rattle.m36_model.specs.Flat.{Flat, flat_sdw_by, flat_sdw, flat_word, flat_put_one, flat_put, flat_table_by, flat_tables, flat_store, IsFlatAudited, HasDescriptors, IsFlatSpot, IsSameFlat}
@@ -43,7 +43,7 @@ table_sdw dbr true seg xs ys h =
 same_flat_sdw : (s : Flat) (dbr : DbrFields) (now : Flat) → HasDescriptors s dbr now → (seg : ℕ) → flat_sdw now dbr seg ≡ flat_sdw s dbr seg
 unfolding flat_sdw flat_tables
 same_flat_sdw s dbr now has seg =
-    table_sdw dbr (in_bounds dbr seg) seg now.descriptors s.descriptors (ap (λ (t : Tables). t.of seg) has)
+    table_sdw dbr (has_descriptor_in_bounds dbr seg) seg now.descriptors s.descriptors (ap (λ (t : Tables). t.of seg) has)
 
 -- writes change no descriptor
 put_one_descriptors : (s : Flat) (p : Spot) (part : Part) (v : ℕ) → (flat_put_one s p part v).descriptors ≡ s.descriptors
@@ -59,10 +59,10 @@ put_descriptors s (p ∷ puts) =
 put_tables : (s : Flat) (dbr : DbrFields) (puts : List Change) → flat_tables (flat_put s puts) dbr ≡ flat_tables s dbr
 unfolding flat_tables
 put_tables s dbr puts =
-    ap (λ (l : List ℕ). record { dbr = dbr; size = 0; of = λ seg. flat_table_by (in_bounds dbr seg) l seg }) (put_descriptors s puts)
+    ap (λ (l : List ℕ). record { dbr = dbr; size = 0; of = λ seg. flat_table_by (has_descriptor_in_bounds dbr seg) l seg }) (put_descriptors s puts)
 
 -- a word after writes
-word_put : (now : Flat) (p : Spot) (part : Part) (v seg w : ℕ) → flat_word (flat_put_one now p part v) (Segment_word seg w) ≡ (if same_spot p (Segment_word seg w) then written part (flat_word now (Segment_word seg w)) v else flat_word now (Segment_word seg w))
+word_put : (now : Flat) (p : Spot) (part : Part) (v seg w : ℕ) → flat_word (flat_put_one now p part v) (Segment_word seg w) ≡ (if same_spot p (Segment_word seg w) then with_part_written part (flat_word now (Segment_word seg w)) v else flat_word now (Segment_word seg w))
 word_put now (Core_word a) part v seg w = refl
 word_put now (Segment_word s w') part v seg w = refl
 
@@ -83,13 +83,13 @@ same_words seg w seg' w' p p' e f h =
     (eqb-true seg seg' parts.0, eqb-true w w' parts.1)
 
 module _ (s : Flat) (dbr : DbrFields) where
-  spot_is : (seg w : ℕ) (p : Spot) → IsWord (flat_sdw s dbr) spot_of seg w p → p ≡ Segment_word seg w
+  spot_is : (seg w : ℕ) (p : Spot) → IsPlacedWord (flat_sdw s dbr) spot_of seg w p → p ≡ Segment_word seg w
   spot_is seg w p h = let found = h.found in cc
 
-  lies : (seg w : ℕ) (p : Spot) → IsWord (flat_sdw s dbr) spot_of seg w p → IsFlatSpot p
+  lies : (seg w : ℕ) (p : Spot) → IsPlacedWord (flat_sdw s dbr) spot_of seg w p → IsFlatSpot p
   lies seg w p h = subst IsFlatSpot (sym (spot_is seg w p h)) tt
 
-  word_is : (now : Flat) → HasDescriptors s dbr now → (seg w : ℕ) (p : Spot) → IsWord (flat_sdw s dbr) spot_of seg w p → content_in flat_store now dbr seg w ≡ Some (flat_word now p)
+  word_is : (now : Flat) → HasDescriptors s dbr now → (seg w : ℕ) (p : Spot) → IsPlacedWord (flat_sdw s dbr) spot_of seg w p → content_in flat_store now dbr seg w ≡ Some (flat_word now p)
   word_is now has seg w p h =
       content_placed flat_store now dbr seg w p (record { sdw = h.sdw; live = same_flat_sdw s dbr now has seg ∙ h.live; inside = h.inside; found = h.found })
 

@@ -4,11 +4,11 @@ use Rattle.std.proofs.Common.{◌≡◌, refl, sym, ◌∙◌, subst}
 use Rattle.std.specs.Prelude.{ℕ, zero, suc, ◌+◌, List, [], ◌∷◌, ◌++◌, slice_get, Option, Some, None}
 use Rattle.m36_desc.specs.Fields.{DbrFields}
 use Rattle.m36_model.specs.Audit.{AreFindings, IsAudited}
-use Rattle.m36_model.specs.JointAudit.{IsJointlyAudited, JointFound, of_process, between, AreFindingsFrom, AreJointFindings}
+use Rattle.m36_model.specs.JointAudit.{IsJointlyAudited, JointFindingFields, findings_of_process, between, AreFindingsFrom, AreJointFindings}
 use Rattle.m36_isol.specs.Findings.{JointFindingsLaw}
 use Rattle.m36_isol.proofs.Findings.{same_find, holds, none_found, findings_law}
 
-none_first : (xs ys : List JointFound) → [] ≡ xs ++ ys → ([] ≡ xs) × ([] ≡ ys)
+none_first : (xs ys : List JointFindingFields) → [] ≡ xs ++ ys → ([] ≡ xs) × ([] ≡ ys)
 none_first [] ys h = (refl, h)
 none_first (x ∷ xs) ys h = cc
 
@@ -16,7 +16,7 @@ none_between : (n : ℕ) (x : Option ℕ) → [] ≡ between n x → x ≡ None
 none_between n None h = refl
 none_between n (Some p) h = cc
 
-none_of_process : (i : ℕ) (findings : List (ℕ × ℕ)) → [] ≡ of_process i findings → findings ≡ []
+none_of_process : (i : ℕ) (findings : List (ℕ × ℕ)) → [] ≡ findings_of_process i findings → findings ≡ []
 none_of_process i [] h = refl
 none_of_process i (f ∷ findings) h = cc
 
@@ -32,12 +32,12 @@ sound_from i core (d ∷ dbrs) f (suc k) dbr at =
     let parts = none_first _ _ f.2.2 in
     sound_from (i + 1) core dbrs (subst (AreFindingsFrom (i + 1) core dbrs) (sym parts.1) f.2.1) k dbr at
 
-unique_from : (i : ℕ) (core : List ℕ) (dbrs : List DbrFields) (xs ys : List JointFound) → AreFindingsFrom i core dbrs xs → AreFindingsFrom i core dbrs ys → xs ≡ ys
+unique_from : (i : ℕ) (core : List ℕ) (dbrs : List DbrFields) (xs ys : List JointFindingFields) → AreFindingsFrom i core dbrs xs → AreFindingsFrom i core dbrs ys → xs ≡ ys
 unique_from i core [] xs ys f g = f ∙ sym g
 unique_from i core (d ∷ dbrs) xs ys f g =
     let own = findings_law.unique core d f.0 g.0 f.1 g.1 in
     let rest = unique_from (i + 1) core dbrs f.2.0 g.2.0 f.2.1 g.2.1 in
-    let same : of_process i f.0 ++ f.2.0 ≡ of_process i g.0 ++ g.2.0 = λ k. of_process i (own k) ++ rest k in
+    let same : findings_of_process i f.0 ++ f.2.0 ≡ findings_of_process i g.0 ++ g.2.0 = λ k. findings_of_process i (own k) ++ rest k in
     f.2.2 ∙ same ∙ sym g.2.2
 
 complete_from : (i : ℕ) (core : List ℕ) (dbrs : List DbrFields) → ((k : ℕ) (dbr : DbrFields) → slice_get dbrs k ≡ Some dbr → IsAudited core dbr) → AreFindingsFrom i core dbrs []
@@ -55,7 +55,7 @@ sound_law core dbrs f =
       segments = holds _ f.third (none_between 3 f.third last.1) f.finds_third;
     }
 
-unique_law : (core : List ℕ) (dbrs : List DbrFields) (xs ys : List JointFound) → AreJointFindings core dbrs xs → AreJointFindings core dbrs ys → xs ≡ ys
+unique_law : (core : List ℕ) (dbrs : List DbrFields) (xs ys : List JointFindingFields) → AreJointFindings core dbrs xs → AreJointFindings core dbrs ys → xs ≡ ys
 unique_law core dbrs xs ys f g =
     let own = unique_from 0 core dbrs f.own g.own f.finds_own g.finds_own in
     let second = same_find _ f.second g.second f.finds_second g.finds_second in

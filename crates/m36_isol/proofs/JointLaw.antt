@@ -10,8 +10,8 @@ use Rattle.m36_model.specs.Act.{RequestKind, Part}
 use Rattle.m36_model.specs.Store.{Spot, Core_word, Segment_word, Change}
 use Rattle.m36_model.specs.Place.{Mark, with_mark, with_marks, marks, core_sdw, core_spot, core_marked}
 use Rattle.m36_model.specs.Core.{core_store, core_word, put_one, core_put, unmarked}
-use Rattle.m36_model.specs.Audit.{Table, Sdws, Directory, Pages, IsOf, IsSdwWord, IsSegmentWord, AreApart}
-use Rattle.m36_model.specs.StoreLaw.{Each, overlay, IsWord, IsSpot, Lawful}
+use Rattle.m36_model.specs.Audit.{Table, Sdws, Directory, Pages, IsWordOfTable, IsSdwWord, IsSegmentWord, AreApart}
+use Rattle.m36_model.specs.StoreLaw.{Each, overlay, IsPlacedWord, IsSegmentChange, Lawful}
 use Rattle.m36_model.specs.CoreLaw.{HasTables, IsSegmentSpot, IsPtwWord, IsMarked, IsMarkedFrom}
 use Rattle.m36_model.specs.JointAudit.{IsJointlyAudited}
 use Rattle.m36_model.specs.declared.outcome.Refusal.{Refusal}
@@ -48,7 +48,7 @@ module _ (core : List ℕ) (dbrs : List DbrFields) where
 
   module _ (audited : IsJointlyAudited core dbrs) where
     -- a table word of any process is not a segment word of any process
-    table_and_word : (i : ℕ) (dbr : DbrFields) → slice_get dbrs i ≡ Some dbr → (t : Table) (a : ℕ) → IsOf core dbr t a → IsSomeWord a → ⊥
+    table_and_word : (i : ℕ) (dbr : DbrFields) → slice_get dbrs i ≡ Some dbr → (t : Table) (a : ℕ) → IsWordOfTable core dbr t a → IsSomeWord a → ⊥
     table_and_word i dbr at t a of k = by_test (i == k.process) refl
       where
         by_test : (b : Bool) → (i == k.process) ≡ b → ⊥
@@ -152,15 +152,15 @@ module _ (core : List ℕ) (dbrs : List DbrFields) where
           record { process = i; dbr = dbr; at = at; seg = k.0; w = k.1; word = k.2 }
       lies_by (Segment_word s w) k = absurd k
 
-      lies_in_some : (seg w : ℕ) (p : Spot) → IsWord own_sdws own_spots seg w p → LiesInSome p
+      lies_in_some : (seg w : ℕ) (p : Spot) → IsPlacedWord own_sdws own_spots seg w p → LiesInSome p
       lies_in_some seg w p word = lies_by p (lies_at core dbr own seg w p word)
 
-      marked_all : (now : List ℕ) → HasAll now → (kind : RequestKind) (seg w : ℕ) (p : Spot) → IsWord own_sdws own_spots seg w p → HasAll (core_marked now dbr kind seg w)
+      marked_all : (now : List ℕ) → HasAll now → (kind : RequestKind) (seg w : ℕ) (p : Spot) → IsPlacedWord own_sdws own_spots seg w p → HasAll (core_marked now dbr kind seg w)
       unfolding core_marked
       marked_all now has kind seg w p h j other there =
           has_tables core other _ (marks_match i j dbr other at there now (marks now dbr kind seg w) (matches core other now (has j other there)) (marks_are_ptws core dbr now (matches_own now has) kind seg w h.sdw h.live (placed_within h.sdw w h.inside)))
 
-      near_by : (now : List ℕ) → HasAll now → (kind : RequestKind) (seg w : ℕ) (p : Spot) → IsWord own_sdws own_spots seg w p → IsMarkedFrom core dbr now (core_marked now dbr kind seg w)
+      near_by : (now : List ℕ) → HasAll now → (kind : RequestKind) (seg w : ℕ) (p : Spot) → IsPlacedWord own_sdws own_spots seg w p → IsMarkedFrom core dbr now (core_marked now dbr kind seg w)
       near_by now has kind seg w p h = marked_near core dbr own now (matches_own now has) kind seg w p h
 
       marked_at : (now new : List ℕ) → IsMarkedFrom core dbr now new → (p : Spot) → LiesInSome p → core_word new p ≡ core_word now p
@@ -177,9 +177,9 @@ module _ (core : List ℕ) (dbrs : List DbrFields) where
           let inside = inside_at core lies.dbr (are_apart core lies.dbr (audited.each lies.process lies.dbr lies.at)) a lies.seg lies.w lies.word in
           words_put now puts a (subst (λ (n : ℕ). a < n) (sym (matches_own now has).size) inside)
 
-      puts_all : (now : List ℕ) → HasAll now → (puts : List Change) → Each (IsSpot own_sdws own_spots) puts → HasAll (core_put now puts)
+      puts_all : (now : List ℕ) → HasAll now → (puts : List Change) → Each (IsSegmentChange own_sdws own_spots) puts → HasAll (core_put now puts)
       puts_all now has puts spots j other there =
-          has_tables core other _ (puts_match j other there now puts (each_map (IsSpot own_sdws own_spots) (λ (p : Change). LiesInSome p.spot) (λ p k. lies_in_some k.seg k.w p.spot k.word) puts spots) (matches core other now (has j other there)))
+          has_tables core other _ (puts_match j other there now puts (each_map (IsSegmentChange own_sdws own_spots) (λ (p : Change). LiesInSome p.spot) (λ p k. lies_in_some k.seg k.w p.spot k.word) puts spots) (matches core other now (has j other there)))
 
       pub joint_lawful : Lawful core_store dbr HasAll LiesInSome (IsMarkedFrom core dbr)
       joint_lawful =
@@ -210,7 +210,7 @@ module _ (core : List ℕ) (dbrs : List DbrFields) where
         pub spot : p ≡ Core_word address
         pub word : IsSegmentWord core dbr seg w address
 
-      pub joint_word : (seg w : ℕ) (p : Spot) → IsWord joint_lawful.sdws joint_lawful.spots seg w p → LiesAt seg w p
+      pub joint_word : (seg w : ℕ) (p : Spot) → IsPlacedWord joint_lawful.sdws joint_lawful.spots seg w p → LiesAt seg w p
       unfolding joint_lawful
       joint_word seg w p h =
           let k = core_spot_inside core dbr h.sdw seg w p h.found in

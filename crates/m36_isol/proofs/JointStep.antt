@@ -6,11 +6,11 @@ use Rattle.std.proofs.lemmas.Bool.{eqb-false}
 use Rattle.m36_desc.specs.Fields.{SdwFields, DbrFields}
 use Rattle.m36_model.specs.Registers.{RegsFields}
 use Rattle.m36_model.specs.Store.{Spot, Core_word, Change}
-use Rattle.m36_model.specs.Place.{wrapped, sdw_place, sdw_at, sdw_words, core_sdw}
+use Rattle.m36_model.specs.Place.{wrapped_address, sdw_place, sdw_at, sdw_words, core_sdw}
 use Rattle.m36_model.specs.Core.{core_store}
 use Rattle.m36_model.specs.Sight.{content_in}
 use Rattle.m36_model.specs.Audit.{IsSegmentWord, IsGuarded}
-use Rattle.m36_model.specs.StoreLaw.{same_spot, overlay, IsWord, Lawful}
+use Rattle.m36_model.specs.StoreLaw.{same_spot, overlay, IsPlacedWord, Lawful}
 use Rattle.m36_model.specs.CoreLaw.{IsMarkedFrom}
 use Rattle.m36_model.specs.JointAudit.{AreSame, IsJointlyAudited}
 use Rattle.m36_model.specs.declared.outcome.Refusal.{Refusal}
@@ -25,11 +25,11 @@ use Rattle.m36_isol.proofs.JointLaw.{HasAll, LiesInSome, joint_lawful, joint_sdw
 same_descriptor : (core : List ℕ) (dbr other : DbrFields) (seg other_seg : ℕ) → AreSame core dbr other seg other_seg → core_sdw core other other_seg ≡ core_sdw core dbr seg
 unfolding core_sdw
 same_descriptor core dbr other seg other_seg h =
-    let here : sdw_at core (sdw_place core other other_seg) ≡ sdw_words (slice_get core h.other_at) (slice_get core (wrapped (h.other_at + 1))) = ap (sdw_at core) h.other_found in
-    let there : sdw_at core (sdw_place core dbr seg) ≡ sdw_words (slice_get core h.at) (slice_get core (wrapped (h.at + 1))) = ap (sdw_at core) h.found in
+    let here : sdw_at core (sdw_place core other other_seg) ≡ sdw_words (slice_get core h.other_at) (slice_get core (wrapped_address (h.other_at + 1))) = ap (sdw_at core) h.other_found in
+    let there : sdw_at core (sdw_place core dbr seg) ≡ sdw_words (slice_get core h.at) (slice_get core (wrapped_address (h.at + 1))) = ap (sdw_at core) h.found in
     let even = h.even in
     let odd = h.odd in
-    let words : sdw_words (slice_get core h.at) (slice_get core (wrapped (h.at + 1))) ≡ sdw_words (slice_get core h.other_at) (slice_get core (wrapped (h.other_at + 1))) = λ i. sdw_words (even i) (odd i) in
+    let words : sdw_words (slice_get core h.at) (slice_get core (wrapped_address (h.at + 1))) ≡ sdw_words (slice_get core h.other_at) (slice_get core (wrapped_address (h.other_at + 1))) = λ i. sdw_words (even i) (odd i) in
     here ∙ sym words ∙ sym there
 
 -- core spots that are the same have the same address
@@ -90,7 +90,7 @@ module _ (core : List ℕ) (dbrs : List DbrFields) (audited : IsJointlyAudited c
         let live : its.sdws other_seg ≡ Ok k.sdw = ap (λ (f : ℕ → Result SdwFields Refusal). f other_seg) theirs ∙ same_descriptor core g.dbr other seg other_seg same ∙ sym (ap (λ (f : ℕ → Result SdwFields Refusal). f seg) mine) ∙ k.live in
         record { sdw = k.sdw; live = live; opens = k.opens; high = k.high }
 
-    apart_by : (differ : (i == j) ≡ false) (seg w : ℕ) (p : Spot) → IsWord its.sdws its.spots seg w p → (Reaches its.sdws r seg → ⊥) → (c : Change) → IsReached law.sdws law.spots r c.spot → (t : Bool) → same_spot c.spot p ≡ t → same_spot c.spot p ≡ false
+    apart_by : (differ : (i == j) ≡ false) (seg w : ℕ) (p : Spot) → IsPlacedWord its.sdws its.spots seg w p → (Reaches its.sdws r seg → ⊥) → (c : Change) → IsReached law.sdws law.spots r c.spot → (t : Bool) → same_spot c.spot p ≡ t → same_spot c.spot p ≡ false
     apart_by differ seg w p word none c k false e = e
     apart_by differ seg w p word none c k true e =
         let mine = joint_word core dbrs audited i g.dbr at k.seg k.w c.spot k.word in

@@ -3,11 +3,11 @@
 use Rattle.std.proofs.Common.{◌≡◌, refl, sym, ◌∙◌, ap, subst, arith}
 use Rattle.std.specs.Prelude.{ℕ, zero, suc, ◌+◌, ◌≢◌, ◌≤◌, Bool, true, false, ◌==◌, List, [], ◌∷◌, ◌++◌, map, length, slice_get, Option, Some, None, Result, Ok, Err}
 use Rattle.m36_desc.specs.Fields.{SdwFields, DbrFields}
-use Rattle.m36_desc.specs.Access.{in_order}
+use Rattle.m36_desc.specs.Access.{has_ordered_brackets}
 use Rattle.m36_model.specs.Fields.{AtFields}
 use Rattle.m36_model.specs.Registers.{RegsFields}
 use Rattle.m36_model.specs.Act.{RequestKind, Fetch, Indirect, Odd, Read, Write, Transfer, Call, Locate, Put, Request, Answer, Act, done, ask, and_then}
-use Rattle.m36_model.specs.Store.{Spot, Change, Store, Midstep, Served, Ran, violation, fault_by, within, placed_next, placed_one, spots_of, places, bound_only, changes, change_of, denied, serve, serve_sdw, serve_rights, serve_places, with_reference, located, run}
+use Rattle.m36_model.specs.Store.{Spot, Change, Store, Midstep, Served, ProgramResult, violation, fault_by, is_within_bound, spots_with, spots_from, spots_of, places, bound_only, changes, change_of, refusing_violation, serve, serve_sdw, serve_rights, serve_places, with_reference, located_address, run}
 use Rattle.m36_model.specs.Isolation.{EachTwo}
 use Rattle.m36_model.specs.Residence.{absence}
 use Rattle.m36_model.specs.declared.outcome.Fault.{Fault}
@@ -16,9 +16,9 @@ use Rattle.m36_model.specs.declared.place.Reference.{Reference}
 use Rattle.m36_isol.proofs.Rights.{denied_order}
 
 -- a word of a segment: both stores have it, or the first lacks it
-pub data IsSpotted (Pair : Spot → Spot → Type 0) (Lacks : ℕ → ℕ → Type 0) (seg w : ℕ) (r r' : Result Spot Refusal) : Type 0 where
-  both : (p p' : Spot) → r ≡ Ok p → r' ≡ Ok p' → Pair p p' → IsSpotted Pair Lacks seg w r r'
-  lacking : r ≡ Err absence → Lacks seg w → IsSpotted Pair Lacks seg w r r'
+pub data IsSpotted (Pair : Spot → Spot → Type 0) (PageIsAbsent : ℕ → ℕ → Type 0) (seg w : ℕ) (r r' : Result Spot Refusal) : Type 0 where
+  both : (p p' : Spot) → r ≡ Ok p → r' ≡ Ok p' → Pair p p' → IsSpotted Pair PageIsAbsent seg w r r'
+  lacking : r ≡ Err absence → PageIsAbsent seg w → IsSpotted Pair PageIsAbsent seg w r r'
 
 -- one change of two stores
 pub record ArePaired (Pair : Spot → Spot → Type 0) (c d : Change) : Type 0 where
@@ -28,13 +28,13 @@ pub record ArePaired (Pair : Spot → Spot → Type 0) (c d : Change) : Type 0 w
 
 -- What holds of two stores, of which the second has no marks. M says which stores are related, and
 -- Pair which spots are those of one word.
-pub record Mirrors {S F : Type 0} (o : Store S) (o' : Store F) (dbr : DbrFields) (M : S → F → Type 0) (Pair : Spot → Spot → Type 0) (Lacks : ℕ → ℕ → Type 0) : Type 0 where
+pub record Mirrors {S F : Type 0} (o : Store S) (o' : Store F) (dbr : DbrFields) (M : S → F → Type 0) (Pair : Spot → Spot → Type 0) (PageIsAbsent : ℕ → ℕ → Type 0) : Type 0 where
   pub sdw : (s : S) (f : F) → M s f → (seg : ℕ) → o.sdw s dbr seg ≡ o'.sdw f dbr seg
   pub dead : (s : S) (f : F) → M s f → (seg : ℕ) (why : Refusal) → o.sdw s dbr seg ≡ Err why → why.number ≢ 17
-  pub spot : (s : S) (f : F) → M s f → (seg w : ℕ) (d : SdwFields) → o.sdw s dbr seg ≡ Ok d → in_order d ≡ true → within d w ≡ true → IsSpotted Pair Lacks seg w (o.spot s dbr d seg w) (o'.spot f dbr d seg w)
+  pub spot : (s : S) (f : F) → M s f → (seg w : ℕ) (d : SdwFields) → o.sdw s dbr seg ≡ Ok d → has_ordered_brackets d ≡ true → is_within_bound d w ≡ true → IsSpotted Pair PageIsAbsent seg w (o.spot s dbr d seg w) (o'.spot f dbr d seg w)
   pub word : (s : S) (f : F) → M s f → (p p' : Spot) → Pair p p' → o.word s p ≡ o'.word f p'
   pub put : (s : S) (f : F) → M s f → (c d : List Change) → EachTwo (ArePaired Pair) c d → M (o.put s c) (o'.put f d)
-  pub marked : (s : S) (f : F) → M s f → (kind : RequestKind) (seg w : ℕ) (d : SdwFields) → o.sdw s dbr seg ≡ Ok d → within d w ≡ true → M (o.marked s dbr kind seg w) (o'.marked f dbr kind seg w)
+  pub marked : (s : S) (f : F) → M s f → (kind : RequestKind) (seg w : ℕ) (d : SdwFields) → o.sdw s dbr seg ≡ Ok d → is_within_bound d w ≡ true → M (o.marked s dbr kind seg w) (o'.marked f dbr kind seg w)
   pub quiet : (f : F) (kind : RequestKind) (seg w : ℕ) → o'.marked f dbr kind seg w ≡ f
 
 -- other fault numbers than that of a page fault
@@ -78,29 +78,29 @@ paired_changes Pair claims others h (p ∷ puts) =
     change_by Pair p (slice_get claims p.claim) (slice_get others p.claim) (changes claims puts) (changes others puts) (get_two Pair claims others p.claim h) (paired_changes Pair claims others h puts)
 
 -- the spots of several words
-pub data AreSpotted (Pair : Spot → Spot → Type 0) (Lacks : ℕ → ℕ → Type 0) (seg : ℕ) (r r' : Result (List Spot) (ℕ × Refusal)) : Type 0 where
-  all_found : (ps qs : List Spot) → r ≡ Ok ps → r' ≡ Ok qs → EachTwo Pair ps qs → AreSpotted Pair Lacks seg r r'
-  refused_alike : (w : ℕ) (why : Refusal) → r ≡ Err (w, why) → r' ≡ Err (w, why) → why.number ≢ 17 → AreSpotted Pair Lacks seg r r'
-  one_lacking : (w : ℕ) → r ≡ Err (w, absence) → Lacks seg w → AreSpotted Pair Lacks seg r r'
+pub data AreSpotted (Pair : Spot → Spot → Type 0) (PageIsAbsent : ℕ → ℕ → Type 0) (seg : ℕ) (r r' : Result (List Spot) (ℕ × Refusal)) : Type 0 where
+  all_found : (ps qs : List Spot) → r ≡ Ok ps → r' ≡ Ok qs → EachTwo Pair ps qs → AreSpotted Pair PageIsAbsent seg r r'
+  refused_alike : (w : ℕ) (why : Refusal) → r ≡ Err (w, why) → r' ≡ Err (w, why) → why.number ≢ 17 → AreSpotted Pair PageIsAbsent seg r r'
+  one_lacking : (w : ℕ) → r ≡ Err (w, absence) → PageIsAbsent seg w → AreSpotted Pair PageIsAbsent seg r r'
 
-next_found : (Pair : Spot → Spot → Type 0) (Lacks : ℕ → ℕ → Type 0) (seg : ℕ) (p p' : Spot) → Pair p p' → (rest rest' : Result (List Spot) (ℕ × Refusal)) → AreSpotted Pair Lacks seg rest rest' → AreSpotted Pair Lacks seg (placed_next rest p) (placed_next rest' p')
-next_found Pair Lacks seg p p' pair rest rest' (all_found ps qs e f each) =
-    all_found (p ∷ ps) (p' ∷ qs) (ap (λ (r : Result (List Spot) (ℕ × Refusal)). placed_next r p) e) (ap (λ (r : Result (List Spot) (ℕ × Refusal)). placed_next r p') f) (pair, each)
-next_found Pair Lacks seg p p' pair rest rest' (refused_alike w why e f other) =
-    refused_alike w why (ap (λ (r : Result (List Spot) (ℕ × Refusal)). placed_next r p) e) (ap (λ (r : Result (List Spot) (ℕ × Refusal)). placed_next r p') f) other
-next_found Pair Lacks seg p p' pair rest rest' (one_lacking w e lacks) =
-    one_lacking w (ap (λ (r : Result (List Spot) (ℕ × Refusal)). placed_next r p) e) lacks
+next_found : (Pair : Spot → Spot → Type 0) (PageIsAbsent : ℕ → ℕ → Type 0) (seg : ℕ) (p p' : Spot) → Pair p p' → (rest rest' : Result (List Spot) (ℕ × Refusal)) → AreSpotted Pair PageIsAbsent seg rest rest' → AreSpotted Pair PageIsAbsent seg (spots_with rest p) (spots_with rest' p')
+next_found Pair PageIsAbsent seg p p' pair rest rest' (all_found ps qs e f each) =
+    all_found (p ∷ ps) (p' ∷ qs) (ap (λ (r : Result (List Spot) (ℕ × Refusal)). spots_with r p) e) (ap (λ (r : Result (List Spot) (ℕ × Refusal)). spots_with r p') f) (pair, each)
+next_found Pair PageIsAbsent seg p p' pair rest rest' (refused_alike w why e f other) =
+    refused_alike w why (ap (λ (r : Result (List Spot) (ℕ × Refusal)). spots_with r p) e) (ap (λ (r : Result (List Spot) (ℕ × Refusal)). spots_with r p') f) other
+next_found Pair PageIsAbsent seg p p' pair rest rest' (one_lacking w e lacks) =
+    one_lacking w (ap (λ (r : Result (List Spot) (ℕ × Refusal)). spots_with r p) e) lacks
 
-one_spotted : (Pair : Spot → Spot → Type 0) (Lacks : ℕ → ℕ → Type 0) (seg w : ℕ) (x x' : Result Spot Refusal) (rest rest' : Result (List Spot) (ℕ × Refusal)) → IsSpotted Pair Lacks seg w x x' → AreSpotted Pair Lacks seg rest rest' → AreSpotted Pair Lacks seg (placed_one true w x rest) (placed_one true w x' rest')
-one_spotted Pair Lacks seg w x x' rest rest' (both p p' e f pair) h =
-    rw (e, f) (next_found Pair Lacks seg p p' pair rest rest' h)
-one_spotted Pair Lacks seg w x x' rest rest' (lacking e lacks) h =
-    one_lacking w (ap (λ (r : Result Spot Refusal). placed_one true w r rest) e) lacks
+one_spotted : (Pair : Spot → Spot → Type 0) (PageIsAbsent : ℕ → ℕ → Type 0) (seg w : ℕ) (x x' : Result Spot Refusal) (rest rest' : Result (List Spot) (ℕ × Refusal)) → IsSpotted Pair PageIsAbsent seg w x x' → AreSpotted Pair PageIsAbsent seg rest rest' → AreSpotted Pair PageIsAbsent seg (spots_from true w x rest) (spots_from true w x' rest')
+one_spotted Pair PageIsAbsent seg w x x' rest rest' (both p p' e f pair) h =
+    rw (e, f) (next_found Pair PageIsAbsent seg p p' pair rest rest' h)
+one_spotted Pair PageIsAbsent seg w x x' rest rest' (lacking e lacks) h =
+    one_lacking w (ap (λ (r : Result Spot Refusal). spots_from true w r rest) e) lacks
 
-by_bound : (Pair : Spot → Spot → Type 0) (Lacks : ℕ → ℕ → Type 0) (seg w : ℕ) (b : Bool) (x x' : Result Spot Refusal) (rest rest' : Result (List Spot) (ℕ × Refusal)) → (b ≡ true → IsSpotted Pair Lacks seg w x x') → AreSpotted Pair Lacks seg rest rest' → AreSpotted Pair Lacks seg (placed_one b w x rest) (placed_one b w x' rest')
-by_bound Pair Lacks seg w false x x' rest rest' one h =
+by_bound : (Pair : Spot → Spot → Type 0) (PageIsAbsent : ℕ → ℕ → Type 0) (seg w : ℕ) (b : Bool) (x x' : Result Spot Refusal) (rest rest' : Result (List Spot) (ℕ × Refusal)) → (b ≡ true → IsSpotted Pair PageIsAbsent seg w x x') → AreSpotted Pair PageIsAbsent seg rest rest' → AreSpotted Pair PageIsAbsent seg (spots_from b w x rest) (spots_from b w x' rest')
+by_bound Pair PageIsAbsent seg w false x x' rest rest' one h =
     refused_alike w (violation 15) refl refl (other_number 20 refl)
-by_bound Pair Lacks seg w true x x' rest rest' one h = one_spotted Pair Lacks seg w x x' rest rest' (one refl) h
+by_bound Pair PageIsAbsent seg w true x x' rest rest' one h = one_spotted Pair PageIsAbsent seg w x x' rest rest' (one refl) h
 
 -- answers that differ at most in the core address
 pub record SameButPlace (a b : Answer) : Type 0 where
@@ -116,10 +116,10 @@ pub record AreMids {S F : Type 0} (M : S → F → Type 0) (Pair : Spot → Spot
   pub refs : x.refs ≡ y.refs
 
 -- one request to both
-pub data IsServed {S F : Type 0} (M : S → F → Type 0) (Pair : Spot → Spot → Type 0) (Lacks : ℕ → ℕ → Type 0) (start : F) (kind : RequestKind) (x : Midstep S) (t : Served S) (u : Served F) : Type 0 where
-  alike : t.reply ≡ u.reply → AreMids M Pair start t.mid u.mid → ((f : Fault) → t.reply ≡ Err f → f.number ≢ 17) → IsServed M Pair Lacks start kind x t u
-  cut : (f : Fault) → t.reply ≡ Err f → f.number ≡ 17 → Lacks f.at.seg f.at.word → t.mid ≡ x → IsServed M Pair Lacks start kind x t u
-  told_place : kind ≡ Locate → (a b : Answer) → t.reply ≡ Ok a → u.reply ≡ Ok b → SameButPlace a b → AreMids M Pair start t.mid u.mid → IsServed M Pair Lacks start kind x t u
+pub data IsPageFaultServed {S F : Type 0} (M : S → F → Type 0) (Pair : Spot → Spot → Type 0) (PageIsAbsent : ℕ → ℕ → Type 0) (start : F) (kind : RequestKind) (x : Midstep S) (t : Served S) (u : Served F) : Type 0 where
+  alike : t.reply ≡ u.reply → AreMids M Pair start t.mid u.mid → ((f : Fault) → t.reply ≡ Err f → f.number ≢ 17) → IsPageFaultServed M Pair PageIsAbsent start kind x t u
+  cut : (f : Fault) → t.reply ≡ Err f → f.number ≡ 17 → PageIsAbsent f.at.seg f.at.word → t.mid ≡ x → IsPageFaultServed M Pair PageIsAbsent start kind x t u
+  told_place : kind ≡ Locate → (a b : Answer) → t.reply ≡ Ok a → u.reply ≡ Ok b → SameButPlace a b → AreMids M Pair start t.mid u.mid → IsPageFaultServed M Pair PageIsAbsent start kind x t u
 
 -- a request from its parts
 abbrev pub asked : RequestKind → AtFields → ℕ → List Put → Request
@@ -153,12 +153,12 @@ plain_answer d place m =
 abbrev pub one_more : RequestKind → AtFields → ℕ → List Put → List Reference → List Reference
 one_more kind at count pending refs = with_reference kind (asked kind at count pending) refs
 
-module _ {S F : Type 0} (o : Store S) (o' : Store F) (g : RegsFields) (M : S → F → Type 0) (Pair : Spot → Spot → Type 0) (Lacks : ℕ → ℕ → Type 0) (L : Mirrors o o' g.dbr M Pair Lacks) (start : F) where
+module _ {S F : Type 0} (o : Store S) (o' : Store F) (g : RegsFields) (M : S → F → Type 0) (Pair : Spot → Spot → Type 0) (PageIsAbsent : ℕ → ℕ → Type 0) (L : Mirrors o o' g.dbr M Pair PageIsAbsent) (start : F) where
   abbrev Stand : Midstep S → Midstep F → Type 0
   Stand x y = AreMids M Pair start x y
 
   abbrev Serves : RequestKind → Midstep S → Served S → Served F → Type 0
-  Serves kind x t u = IsServed M Pair Lacks start kind x t u
+  Serves kind x t u = IsPageFaultServed M Pair PageIsAbsent start kind x t u
 
   -- the words at paired spots are equal
   words_alike : (s : S) (f : F) → M s f → (ps qs : List Spot) → EachTwo Pair ps qs → map (o.word s) ps ≡ map (o'.word f) qs
@@ -175,7 +175,7 @@ module _ {S F : Type 0} (o : Store S) (o' : Store F) (g : RegsFields) (M : S →
   refused_both kind f x y k other =
       alike refl k (λ e h. let same : f ≡ e = cc in subst (λ (z : Fault). z.number ≢ 17) same other)
 
-  served_reading : (kind : RequestKind) (at : AtFields) (pending : List Put) (d : SdwFields) (x : Midstep S) (y : Midstep F) → Stand x y → o.sdw x.store g.dbr at.seg ≡ Ok d → within d at.word ≡ true → (ps qs : List Spot) → EachTwo Pair ps qs → (refs more : List Reference) → refs ≡ more → Serves kind x (read_answer o g kind at pending d x ps refs) (read_answer o' g kind at pending d y qs more)
+  served_reading : (kind : RequestKind) (at : AtFields) (pending : List Put) (d : SdwFields) (x : Midstep S) (y : Midstep F) → Stand x y → o.sdw x.store g.dbr at.seg ≡ Ok d → is_within_bound d at.word ≡ true → (ps qs : List Spot) → EachTwo Pair ps qs → (refs more : List Reference) → refs ≡ more → Serves kind x (read_answer o g kind at pending d x ps refs) (read_answer o' g kind at pending d y qs more)
   served_reading kind at pending d x y k live inside ps qs pairs refs more same =
       let s = o.marked x.store g.dbr kind at.seg at.word in
       let f = o'.marked y.store g.dbr kind at.seg at.word in
@@ -185,7 +185,7 @@ module _ {S F : Type 0} (o : Store S) (o' : Store F) (g : RegsFields) (M : S →
       let number = two_lengths Pair x.claims y.claims k.claims in
       alike (λ i. Ok (record { sdw = d; words = read i; first = number i; place = 0 })) (record { mirrors = m; still = L.quiet y.store kind at.seg at.word ∙ k.still; claims = k.claims; refs = same }) (λ e h. cc)
 
-  served_writing : (at : AtFields) (d : SdwFields) (x : Midstep S) (y : Midstep F) → Stand x y → o.sdw x.store g.dbr at.seg ≡ Ok d → within d at.word ≡ true → (ps qs : List Spot) → EachTwo Pair ps qs → (refs more : List Reference) → refs ≡ more → Serves Write x (write_answer o g at d x ps refs) (write_answer o' g at d y qs more)
+  served_writing : (at : AtFields) (d : SdwFields) (x : Midstep S) (y : Midstep F) → Stand x y → o.sdw x.store g.dbr at.seg ≡ Ok d → is_within_bound d at.word ≡ true → (ps qs : List Spot) → EachTwo Pair ps qs → (refs more : List Reference) → refs ≡ more → Serves Write x (write_answer o g at d x ps refs) (write_answer o' g at d y qs more)
   served_writing at d x y k live inside ps qs pairs refs more same =
       let m = L.marked x.store y.store k.mirrors Write at.seg at.word d live inside in
       let number = two_lengths Pair x.claims y.claims k.claims in
@@ -201,19 +201,19 @@ module _ {S F : Type 0} (o : Store S) (o' : Store F) (g : RegsFields) (M : S →
       told_place refl _ _ refl refl (record { sdw = refl; words = refl; first = two_lengths Pair x.claims y.claims k.claims }) k
 
   -- the spots of words
-  spots_mirror : (s : S) (f : F) → M s f → (d : SdwFields) (seg : ℕ) → o.sdw s g.dbr seg ≡ Ok d → in_order d ≡ true → (w n : ℕ) → AreSpotted Pair Lacks seg (spots_of o s g.dbr d seg w n) (spots_of o' f g.dbr d seg w n)
+  spots_mirror : (s : S) (f : F) → M s f → (d : SdwFields) (seg : ℕ) → o.sdw s g.dbr seg ≡ Ok d → has_ordered_brackets d ≡ true → (w n : ℕ) → AreSpotted Pair PageIsAbsent seg (spots_of o s g.dbr d seg w n) (spots_of o' f g.dbr d seg w n)
   unfolding spots_of
   spots_mirror s f h d seg live ordered w zero = all_found [] [] refl refl tt
   spots_mirror s f h d seg live ordered w (suc n) =
-      by_bound Pair Lacks seg w (within d w) _ _ _ _ (λ inside. L.spot s f h seg w d live ordered inside) (spots_mirror s f h d seg live ordered (w + 1) n)
+      by_bound Pair PageIsAbsent seg w (is_within_bound d w) _ _ _ _ (λ inside. L.spot s f h seg w d live ordered inside) (spots_mirror s f h d seg live ordered (w + 1) n)
 
   -- the first of some words is within the bound
-  first_within : (s : S) (d : SdwFields) (seg w n : ℕ) → 1 ≤ n → (ps : List Spot) → spots_of o s g.dbr d seg w n ≡ Ok ps → within d w ≡ true
+  first_within : (s : S) (d : SdwFields) (seg w n : ℕ) → 1 ≤ n → (ps : List Spot) → spots_of o s g.dbr d seg w n ≡ Ok ps → is_within_bound d w ≡ true
   unfolding spots_of
   first_within s d seg w zero some ps h = absurd (omega arith)
-  first_within s d seg w (suc n) some ps h = by_test (within d w) _ _ ps h
+  first_within s d seg w (suc n) some ps h = by_test (is_within_bound d w) _ _ ps h
     where
-      by_test : (b : Bool) (x : Result Spot Refusal) (rest : Result (List Spot) (ℕ × Refusal)) (qs : List Spot) → placed_one b w x rest ≡ Ok qs → b ≡ true
+      by_test : (b : Bool) (x : Result Spot Refusal) (rest : Result (List Spot) (ℕ × Refusal)) (qs : List Spot) → spots_from b w x rest ≡ Ok qs → b ≡ true
       by_test true x rest qs e = refl
       by_test false x rest qs e = cc
 
@@ -222,7 +222,7 @@ module _ {S F : Type 0} (o : Store S) (o' : Store F) (g : RegsFields) (M : S →
   serves_list kind at count pending d x y v v' =
       Serves kind x (serve_places o g x (asked kind at count pending) d v) (serve_places o' g y (asked kind at count pending) d v')
 
-  lists_found : (kind : RequestKind) (at : AtFields) (count : ℕ) (pending : List Put) (d : SdwFields) (x : Midstep S) (y : Midstep F) → Stand x y → o.sdw x.store g.dbr at.seg ≡ Ok d → within d at.word ≡ true → (ps qs : List Spot) → EachTwo Pair ps qs → serves_list kind at count pending d x y (Ok ps) (Ok qs)
+  lists_found : (kind : RequestKind) (at : AtFields) (count : ℕ) (pending : List Put) (d : SdwFields) (x : Midstep S) (y : Midstep F) → Stand x y → o.sdw x.store g.dbr at.seg ≡ Ok d → is_within_bound d at.word ≡ true → (ps qs : List Spot) → EachTwo Pair ps qs → serves_list kind at count pending d x y (Ok ps) (Ok qs)
   lists_found Fetch at count pending d x y k live inside ps qs pairs =
       served_reading Fetch at pending d x y k live inside ps qs pairs _ _ (ap (one_more Fetch at count pending) k.refs)
   lists_found Indirect at count pending d x y k live inside ps qs pairs =
@@ -236,9 +236,9 @@ module _ {S F : Type 0} (o : Store S) (o' : Store F) (g : RegsFields) (M : S →
   lists_found Transfer at count pending d x y k live inside ps qs pairs = served_plain Transfer d 0 x y k
   lists_found Call at count pending d x y k live inside ps qs pairs = served_plain Call d 0 x y k
   lists_found Locate at count pending d x y k live inside ps qs pairs =
-      served_place d x y k (located Locate ps) (located Locate qs)
+      served_place d x y k (located_address Locate ps) (located_address Locate qs)
 
-  by_spots : (kind : RequestKind) (at : AtFields) (count : ℕ) (pending : List Put) (d : SdwFields) (x : Midstep S) (y : Midstep F) → Stand x y → o.sdw x.store g.dbr at.seg ≡ Ok d → (v v' : Result (List Spot) (ℕ × Refusal)) → ((ps : List Spot) → v ≡ Ok ps → within d at.word ≡ true) → AreSpotted Pair Lacks at.seg v v' → serves_list kind at count pending d x y v v'
+  by_spots : (kind : RequestKind) (at : AtFields) (count : ℕ) (pending : List Put) (d : SdwFields) (x : Midstep S) (y : Midstep F) → Stand x y → o.sdw x.store g.dbr at.seg ≡ Ok d → (v v' : Result (List Spot) (ℕ × Refusal)) → ((ps : List Spot) → v ≡ Ok ps → is_within_bound d at.word ≡ true) → AreSpotted Pair PageIsAbsent at.seg v v' → serves_list kind at count pending d x y v v'
   by_spots kind at count pending d x y k live v v' inside (all_found ps qs e f pairs) =
       rw (e, f) (lists_found kind at count pending d x y k live (inside ps e) ps qs pairs)
   by_spots kind at count pending d x y k live v v' inside (refused_alike w why e f other) =
@@ -251,16 +251,16 @@ module _ {S F : Type 0} (o : Store S) (o' : Store F) (g : RegsFields) (M : S →
   by_target kind at count pending d x y k false found =
       refused_both kind (fault_by (violation 15) at) x y k (other_number 20 refl)
 
-  by_places : (kind : RequestKind) (at : AtFields) (count : ℕ) (pending : List Put) → 1 ≤ count → (d : SdwFields) (x : Midstep S) (y : Midstep F) → Stand x y → o.sdw x.store g.dbr at.seg ≡ Ok d → in_order d ≡ true → serves_list kind at count pending d x y (places o x.store g.dbr d (asked kind at count pending)) (places o' y.store g.dbr d (asked kind at count pending))
+  by_places : (kind : RequestKind) (at : AtFields) (count : ℕ) (pending : List Put) → 1 ≤ count → (d : SdwFields) (x : Midstep S) (y : Midstep F) → Stand x y → o.sdw x.store g.dbr at.seg ≡ Ok d → has_ordered_brackets d ≡ true → serves_list kind at count pending d x y (places o x.store g.dbr d (asked kind at count pending)) (places o' y.store g.dbr d (asked kind at count pending))
   unfolding places
   by_places Transfer at count pending some d x y k live ordered =
-      by_target Transfer at count pending d x y k (within d at.word) (λ place. served_plain Transfer d 0 x y k)
+      by_target Transfer at count pending d x y k (is_within_bound d at.word) (λ place. served_plain Transfer d 0 x y k)
   by_places Call at count pending some d x y k live ordered =
-      by_target Call at count pending d x y k (within d at.word) (λ place. served_plain Call d 0 x y k)
+      by_target Call at count pending d x y k (is_within_bound d at.word) (λ place. served_plain Call d 0 x y k)
   by_places kind at count pending some d x y k live ordered =
       by_spots kind at count pending d x y k live _ _ (λ ps e. first_within x.store d at.seg at.word count some ps e) (spots_mirror x.store y.store k.mirrors d at.seg live ordered at.word count)
 
-  by_rights : (kind : RequestKind) (at : AtFields) (count : ℕ) (pending : List Put) → 1 ≤ count → (d : SdwFields) (x : Midstep S) (y : Midstep F) → Stand x y → o.sdw x.store g.dbr at.seg ≡ Ok d → (v : Option ℕ) → denied kind d at.ring g.ppr.prr (at.seg == g.ppr.psr) at.word ≡ v → Serves kind x (serve_rights o g x (asked kind at count pending) d v) (serve_rights o' g y (asked kind at count pending) d v)
+  by_rights : (kind : RequestKind) (at : AtFields) (count : ℕ) (pending : List Put) → 1 ≤ count → (d : SdwFields) (x : Midstep S) (y : Midstep F) → Stand x y → o.sdw x.store g.dbr at.seg ≡ Ok d → (v : Option ℕ) → refusing_violation kind d at.ring g.ppr.prr (at.seg == g.ppr.psr) at.word ≡ v → Serves kind x (serve_rights o g x (asked kind at count pending) d v) (serve_rights o' g y (asked kind at count pending) d v)
   by_rights kind at count pending some d x y k live (Some acv) e =
       refused_both kind (fault_by (violation acv) at) x y k (other_number 20 refl)
   by_rights kind at count pending some d x y k live None e =
@@ -316,14 +316,14 @@ asks_then post stop R post' stop' R' (ask q n) k h next stops ends =
     (h.0, (λ f. stops_then stop stop' f (n (Err f)) k (h.1 f) (stops f)), (λ a. asks_then post stop R post' stop' R' (n (Ok a)) k (h.2 a) next stops ends), (λ kind a b same. ends_then R R' (n (Ok a)) (n (Ok b)) k (h.3 kind a b same) ends))
 
 -- two runs of one program
-pub data AreRun {A S F : Type 0} (M : S → F → Type 0) (Pair : Spot → Spot → Type 0) (Lacks : ℕ → ℕ → Type 0) (start : F) (post : A → Type 0) (stop : Fault → A → Type 0) (R : A → A → Type 0) (x : Ran A S) (y : Ran A F) : Type 0 where
-  same : x.value ≡ y.value → AreMids M Pair start x.mid y.mid → post x.value → AreRun M Pair Lacks start post stop R x y
-  lacked : (f : Fault) → f.number ≡ 17 → Lacks f.at.seg f.at.word → stop f x.value → M x.mid.store start → AreRun M Pair Lacks start post stop R x y
-  placed_apart : R x.value y.value → AreMids M Pair start x.mid y.mid → AreRun M Pair Lacks start post stop R x y
+pub data AreRun {A S F : Type 0} (M : S → F → Type 0) (Pair : Spot → Spot → Type 0) (PageIsAbsent : ℕ → ℕ → Type 0) (start : F) (post : A → Type 0) (stop : Fault → A → Type 0) (R : A → A → Type 0) (x : ProgramResult A S) (y : ProgramResult A F) : Type 0 where
+  same : x.value ≡ y.value → AreMids M Pair start x.mid y.mid → post x.value → AreRun M Pair PageIsAbsent start post stop R x y
+  lacked : (f : Fault) → f.number ≡ 17 → PageIsAbsent f.at.seg f.at.word → stop f x.value → M x.mid.store start → AreRun M Pair PageIsAbsent start post stop R x y
+  placed_apart : R x.value y.value → AreMids M Pair start x.mid y.mid → AreRun M Pair PageIsAbsent start post stop R x y
 
-module _ {A S F : Type 0} (o : Store S) (o' : Store F) (g : RegsFields) (M : S → F → Type 0) (Pair : Spot → Spot → Type 0) (Lacks : ℕ → ℕ → Type 0) (L : Mirrors o o' g.dbr M Pair Lacks) (start : F) (post : A → Type 0) (stop : Fault → A → Type 0) (R : A → A → Type 0) (present : (f : Fault) (a : A) → f.number ≢ 17 → stop f a → post a) where
-  abbrev Ends : Ran A S → Ran A F → Type 0
-  Ends x y = AreRun M Pair Lacks start post stop R x y
+module _ {A S F : Type 0} (o : Store S) (o' : Store F) (g : RegsFields) (M : S → F → Type 0) (Pair : Spot → Spot → Type 0) (PageIsAbsent : ℕ → ℕ → Type 0) (L : Mirrors o o' g.dbr M Pair PageIsAbsent) (start : F) (post : A → Type 0) (stop : Fault → A → Type 0) (R : A → A → Type 0) (present : (f : Fault) (a : A) → f.number ≢ 17 → stop f a → post a) where
+  abbrev Ends : ProgramResult A S → ProgramResult A F → Type 0
+  Ends x y = AreRun M Pair PageIsAbsent start post stop R x y
 
   stopped : (m : Act A) (f : Fault) → Stops stop f m → f.number ≢ 17 → Asks post stop R m
   stopped (done a) f h other = present f a other h
@@ -333,7 +333,7 @@ module _ {A S F : Type 0} (o : Store S) (o' : Store F) (g : RegsFields) (M : S �
   asks_reply q next h (Ok a) others = h.2 a
   asks_reply q next h (Err f) others = stopped (next (Err f)) f (h.1 f) (others f refl)
 
-  cut_run : (m : Act A) (f : Fault) → Stops stop f m → f.number ≡ 17 → Lacks f.at.seg f.at.word → (x : Midstep S) (y : Ran A F) → M x.store start → Ends (run o g m x) y
+  cut_run : (m : Act A) (f : Fault) → Stops stop f m → f.number ≡ 17 → PageIsAbsent f.at.seg f.at.word → (x : Midstep S) (y : ProgramResult A F) → M x.store start → Ends (run o g m x) y
   unfolding run
   cut_run (done a) f h is lacks x y mirrors = lacked f is lacks h mirrors
   cut_run (ask q next) f h is lacks x y mirrors = absurd h
@@ -344,7 +344,7 @@ module _ {A S F : Type 0} (o : Store S) (o' : Store F) (g : RegsFields) (M : S �
   two_run (done a) (ask q next) h x y k = absurd h
   two_run (ask q next) n h x y k = absurd h
 
-  by_served : (q : Request) (next : Result Answer Fault → Act A) → Asks post stop R (ask q next) → (x : Midstep S) → M x.store start → (t : Served S) (u : Served F) → IsServed M Pair Lacks start q.kind x t u → ((reply : Result Answer Fault) (a : Midstep S) (b : Midstep F) → Asks post stop R (next reply) → AreMids M Pair start a b → Ends (run o g (next reply) a) (run o' g (next reply) b)) → Ends (run o g (next t.reply) t.mid) (run o' g (next u.reply) u.mid)
+  by_served : (q : Request) (next : Result Answer Fault → Act A) → Asks post stop R (ask q next) → (x : Midstep S) → M x.store start → (t : Served S) (u : Served F) → IsPageFaultServed M Pair PageIsAbsent start q.kind x t u → ((reply : Result Answer Fault) (a : Midstep S) (b : Midstep F) → Asks post stop R (next reply) → AreMids M Pair start a b → Ends (run o g (next reply) a) (run o' g (next reply) b)) → Ends (run o g (next t.reply) t.mid) (run o' g (next u.reply) u.mid)
   by_served q next h x mirrors t u (alike e mids others) rest =
       subst (λ (r : Result Answer Fault). Ends (run o g (next t.reply) t.mid) (run o' g (next r) u.mid)) e (rest t.reply t.mid u.mid (asks_reply q next h t.reply others) mids)
   by_served q next h x mirrors t u (cut f e is lacks mid) rest =
@@ -358,4 +358,4 @@ module _ {A S F : Type 0} (o : Store S) (o' : Store F) (g : RegsFields) (M : S �
   unfolding run
   run_mirrors (done a) x y h k = same refl k h
   run_mirrors (ask q next) x y h k =
-      by_served q next h x (subst (M x.store) k.still k.mirrors) (serve o g x q) (serve o' g y q) (serve_mirrors o o' g M Pair Lacks L start x y k q h.0) (λ reply a b asks mids. run_mirrors (next reply) a b asks mids)
+      by_served q next h x (subst (M x.store) k.still k.mirrors) (serve o g x q) (serve o' g y q) (serve_mirrors o o' g M Pair PageIsAbsent L start x y k q h.0) (λ reply a b asks mids. run_mirrors (next reply) a b asks mids)

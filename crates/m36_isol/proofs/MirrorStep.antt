@@ -12,16 +12,16 @@ use Rattle.m36_inst.specs.declared.operand.Operand.TheVariants as kind
 use Rattle.m36_model.specs.Fields.{FinalFields}
 use Rattle.m36_model.specs.Registers.{RegsFields}
 use Rattle.m36_model.specs.Act.{Part, Whole, Left, Right, Answer, Act, either}
-use Rattle.m36_model.specs.Modification.{Point, Move, Ends, Fails, Reads, Counts, ends_at, ends_direct, direct_upper, direct_lower, is_direct, here, fault_at, move_of_point, move_register, move_register_then_indirect, move_indirect_then_tally, move_indirect_then_register, index_of}
+use Rattle.m36_model.specs.Modification.{Point, Move, Ends, Fails, Reads, Counts, ends_at, ends_direct, direct_upper, direct_lower, is_direct, here, halt_at, move_of_point, move_register, move_register_then_indirect, move_indirect_then_tally, move_indirect_then_register, modifier_value}
 use Rattle.m36_model.specs.Tally.{indirect_only}
 use Rattle.m36_model.specs.FirstPoint.{first_point}
-use Rattle.m36_model.specs.Chain.{ChainEnd, Formation, Found, Its, Itp, Plain, found, after_word, after_tally, chain_by, chain_exhausted, chain}
+use Rattle.m36_model.specs.Chain.{ChainEnd, Formation, IndirectKind, Its, Itp, Plain, found, after_word, after_tally, chain_by, chain_exhausted, chain}
 use Rattle.m36_model.specs.Results.{OperandFields, EffectFields}
 use Rattle.m36_model.specs.Effect.{exec, is_absa}
 use Rattle.m36_model.specs.WordsPut.{words_written}
 use Rattle.m36_model.specs.Transfers.{is_taken}
-use Rattle.m36_model.specs.Step.{Performed, Operation, performed, tallied, no_operand, reading_word, reading_words, writing, changing, addressing, transferring, calling, by_kind, by_direct, operate_on, operate, Ending, outcome_of, outcome_by, outcome_after, halted, completed, operated, indirect_words, addressed, no_address, started, admitted, decode, decoded, program}
-use Rattle.m36_model.specs.PagedStep.{DifferInA, IsPresent}
+use Rattle.m36_model.specs.Step.{Performed, Operation, operation_result, with_chain_tally, no_operand, reading_word, reading_words, writing, changing, addressing, transferring, calling, operate_by_kind, operate_direct, operate_on, operate, Ending, outcome_of, outcome_by, outcome_after, halted, completed, operated, indirect_words, addressed, no_address, started, admitted, decode, decoded, program}
+use Rattle.m36_model.specs.PagedStep.{DifferInA, IsNoPageFault}
 use Rattle.m36_model.proofs.Computed.{everything}
 use Rattle.m36_model.proofs.PutLaw.{PutsSo, puts_so}
 use Rattle.m36_model.specs.declared.outcome.Fault.{Fault}
@@ -62,7 +62,7 @@ OwnMove (Fails h) = OwnHalt h
 OwnMove (Reads word held) = Unit {0}
 OwnMove Counts = Unit {0}
 
-register_tests : (g : RegsFields) (p : Point) (td : ℕ) (upper lower : Bool) → OwnMove (if upper then ends_direct p (p.y * 2 ^ 18) else if lower then ends_direct p p.y else ends_at p ((p.y + index_of g td) % 2 ^ 18))
+register_tests : (g : RegsFields) (p : Point) (td : ℕ) (upper lower : Bool) → OwnMove (if upper then ends_direct p (p.y * 2 ^ 18) else if lower then ends_direct p p.y else ends_at p ((p.y + modifier_value g td) % 2 ^ 18))
 register_tests g p td true lower = tt
 register_tests g p td false true = tt
 register_tests g p td false false = tt
@@ -71,7 +71,7 @@ register_owns : (g : RegsFields) (p : Point) (td : ℕ) (held : Option ℕ) → 
 register_owns g p td (Some held) = tt
 register_owns g p td None = register_tests g p td (td == direct_upper) (td == direct_lower)
 
-direct_tests : (g : RegsFields) (direct : Bool) (word : ℕ) (held : Option ℕ) → OwnMove (if direct then Fails (fault_at 10 (here g)) else Reads word held)
+direct_tests : (g : RegsFields) (direct : Bool) (word : ℕ) (held : Option ℕ) → OwnMove (if direct then Fails (halt_at 10 (here g)) else Reads word held)
 direct_tests g true word held = below 10 (omega arith)
 direct_tests g false word held = tt
 
@@ -107,7 +107,7 @@ module _ (g : RegsFields) where
   exhausted_asks p (Reads word held) own = below 7 (omega arith)
   exhausted_asks p Counts own = below 7 (omega arith)
 
-  word_asks : (next : Point → Formation) → ((p : Point) → AsksChain (next p)) → (p : Point) (word : ℕ) (held : Option ℕ) (a : Answer) (f : Found) → AsksChain (after_word next g p word held a f)
+  word_asks : (next : Point → Formation) → ((p : Point) → AsksChain (next p)) → (p : Point) (word : ℕ) (held : Option ℕ) (a : Answer) (f : IndirectKind) → AsksChain (after_word next g p word held a f)
   word_asks next h p word held a Plain = h _
   word_asks next h p word held a Its = (one, (λ f. refl), (λ b. h _), (λ k x y same. absurd cc))
   word_asks next h p word held a Itp = (one, (λ f. refl), (λ b. h _), (λ k x y same. absurd cc))
@@ -148,14 +148,14 @@ module _ (g : RegsFields) where
   abbrev AsksOperation : Effect → Operation → Type 0
   AsksOperation e m = Asks (Either (LeavesDbr e) OwnHalt) FailsSo (ArePlaced e) m
 
-  effect_by : (e : Effect) (n : ℕ) (c : ChainEnd) (part : Part) (first : ℕ) (o : OperandFields) (v : Result EffectFields ℕ) → exec e n (tallied g c) c.last o ≡ v → PutsSo (words_written (operand_of e)) v → Either (LeavesDbr e) OwnHalt (performed g c part first v)
-  unfolding tallied
+  effect_by : (e : Effect) (n : ℕ) (c : ChainEnd) (part : Part) (first : ℕ) (o : OperandFields) (v : Result EffectFields ℕ) → exec e n (with_chain_tally g c) c.last o ≡ v → PutsSo (words_written (operand_of e)) v → Either (LeavesDbr e) OwnHalt (operation_result g c part first v)
+  unfolding with_chain_tally
   effect_by e n c part first o (Err number) h k = below number k
-  effect_by e n c part first o (Ok x) h k = (effect_law e n (tallied g c) c.last o x h).dbr
+  effect_by e n c part first o (Ok x) h k = (effect_law e n (with_chain_tally g c) c.last o x h).dbr
 
-  performed_asks : (e : Effect) (n : ℕ) (c : ChainEnd) (part : Part) (first : ℕ) (o : OperandFields) → Either (LeavesDbr e) OwnHalt (performed g c part first (exec e n (tallied g c) c.last o))
+  performed_asks : (e : Effect) (n : ℕ) (c : ChainEnd) (part : Part) (first : ℕ) (o : OperandFields) → Either (LeavesDbr e) OwnHalt (operation_result g c part first (exec e n (with_chain_tally g c) c.last o))
   performed_asks e n c part first o =
-      effect_by e n c part first o (exec e n (tallied g c) c.last o) refl (puts_so e n (tallied g c) c.last o)
+      effect_by e n c part first o (exec e n (with_chain_tally g c) c.last o) refl (puts_so e n (with_chain_tally g c) c.last o)
 
   reading_asks : (e : Effect) (n : ℕ) (c : ChainEnd) → AsksOperation e (reading_word e n g c)
   reading_asks e n c =
@@ -177,7 +177,7 @@ module _ (g : RegsFields) where
   absa_is effect.Absa h = refl
   absa_is _ h = cc
 
-  two_places : (n : ℕ) (c : ChainEnd) (a b : ℕ) → ArePlaced effect.Absa (performed g c Whole 0 (exec effect.Absa n (tallied g c) c.last (record { got = []; ring = 0; place = a }))) (performed g c Whole 0 (exec effect.Absa n (tallied g c) c.last (record { got = []; ring = 0; place = b })))
+  two_places : (n : ℕ) (c : ChainEnd) (a b : ℕ) → ArePlaced effect.Absa (operation_result g c Whole 0 (exec effect.Absa n (with_chain_tally g c) c.last (record { got = []; ring = 0; place = a }))) (operation_result g c Whole 0 (exec effect.Absa n (with_chain_tally g c) c.last (record { got = []; ring = 0; place = b })))
   unfolding everything
   two_places n c a b =
       record {
@@ -192,9 +192,9 @@ module _ (g : RegsFields) where
         quiet = (refl, refl);
       }
 
-  placed_two : (e : Effect) → e ≡ effect.Absa → (n : ℕ) (c : ChainEnd) (a b : ℕ) → ArePlaced e (performed g c Whole 0 (exec e n (tallied g c) c.last (record { got = []; ring = 0; place = a }))) (performed g c Whole 0 (exec e n (tallied g c) c.last (record { got = []; ring = 0; place = b })))
+  placed_two : (e : Effect) → e ≡ effect.Absa → (n : ℕ) (c : ChainEnd) (a b : ℕ) → ArePlaced e (operation_result g c Whole 0 (exec e n (with_chain_tally g c) c.last (record { got = []; ring = 0; place = a }))) (operation_result g c Whole 0 (exec e n (with_chain_tally g c) c.last (record { got = []; ring = 0; place = b })))
   placed_two e is n c a b =
-      subst (λ (x : Effect). ArePlaced x (performed g c Whole 0 (exec x n (tallied g c) c.last (record { got = []; ring = 0; place = a }))) (performed g c Whole 0 (exec x n (tallied g c) c.last (record { got = []; ring = 0; place = b })))) (sym is) (two_places n c a b)
+      subst (λ (x : Effect). ArePlaced x (operation_result g c Whole 0 (exec x n (with_chain_tally g c) c.last (record { got = []; ring = 0; place = a }))) (operation_result g c Whole 0 (exec x n (with_chain_tally g c) c.last (record { got = []; ring = 0; place = b })))) (sym is) (two_places n c a b)
 
   addressing_asks : (e : Effect) (n : ℕ) (c : ChainEnd) (place : Bool) → is_absa e ≡ place → AsksOperation e (addressing e n g c place)
   addressing_asks e n c false h = performed_asks e n c Whole 0 no_operand
@@ -210,7 +210,7 @@ module _ (g : RegsFields) where
   calling_asks e n c =
       (one, (λ f. refl), (λ a. performed_asks e n c Whole 0 _), (λ k x y same. absurd cc))
 
-  kind_asks : (e : Effect) (n : ℕ) (c : ChainEnd) (k : Operand) → AsksOperation e (by_kind e n g c k)
+  kind_asks : (e : Effect) (n : ℕ) (c : ChainEnd) (k : Operand) → AsksOperation e (operate_by_kind e n g c k)
   kind_asks e n c kind.R = reading_asks e n c
   kind_asks e n c kind.R2 = readings_ask e n c 2 (omega arith)
   kind_asks e n c kind.R16 = readings_ask e n c 16 (omega arith)
@@ -222,11 +222,11 @@ module _ (g : RegsFields) where
   kind_asks e n c kind.Rw = changing_asks e n c Whole
   kind_asks e n c kind.Rwl = changing_asks e n c Left
   kind_asks e n c kind.A = addressing_asks e n c (is_absa e) refl
-  kind_asks e n c kind.T = transferring_asks e n c (is_taken e (tallied g c))
+  kind_asks e n c kind.T = transferring_asks e n c (is_taken e (with_chain_tally g c))
   kind_asks e n c kind.N = performed_asks e n c Whole 0 no_operand
   kind_asks e n c kind.Call6 = calling_asks e n c
 
-  direct_asks : (e : Effect) (n : ℕ) (c : ChainEnd) (w : ℕ) (t : Bool) → AsksOperation e (by_direct e n g c w t)
+  direct_asks : (e : Effect) (n : ℕ) (c : ChainEnd) (w : ℕ) (t : Bool) → AsksOperation e (operate_direct e n g c w t)
   direct_asks e n c w true = performed_asks e n c Whole 0 _
   direct_asks e n c w false = below 10 (omega arith)
 
@@ -247,7 +247,7 @@ module _ (g : RegsFields) where
     pub next : e.outcome ≡ Next
 
   pub record EndsSo (e : Ending) : Type 0 where
-    pub present : IsPresent e.outcome
+    pub present : IsNoPageFault e.outcome
     pub dbr : (e.after.dbr ≡ g.dbr) ⊎ EndsWithLdbr e
 
   -- after a refusal: the registers are unchanged, nothing is to be written, and the outcome is the
@@ -273,16 +273,16 @@ module _ (g : RegsFields) where
 
   pub present_at : (f : Fault) (e : Ending) → f.number ≢ 17 → StopsSo f e → EndsSo e
   present_at f e other h =
-      record { present = subst IsPresent (sym h.outcome) other; dbr = inl (ap (λ (r : RegsFields). r.dbr) h.after) }
+      record { present = subst IsNoPageFault (sym h.outcome) other; dbr = inl (ap (λ (r : RegsFields). r.dbr) h.after) }
 
-  own_present : (h : Halt) → OwnHalt h → IsPresent (outcome_of h)
+  own_present : (h : Halt) → OwnHalt h → IsNoPageFault (outcome_of h)
   own_present (halt.Fault f) k = k
   own_present (halt.Stop s) k = tt
 
   halted_asks : (word : Option ℕ) (at : Option FinalFields) (h : Halt) → OwnHalt h → AsksStep (halted g word at h)
   halted_asks word at h own = record { present = own_present h own; dbr = inl refl }
 
-  overflow_present : (b : Bool) → IsPresent (outcome_by b g)
+  overflow_present : (b : Bool) → IsNoPageFault (outcome_by b g)
   overflow_present true = below 13 (omega arith)
   overflow_present false = tt
 
@@ -330,8 +330,8 @@ module _ (g : RegsFields) where
       asks_then (Either AnyEnd OwnHalt) FailsSo NoTwo EndsSo StopsSo EndPlaced (chain indirect_words g (first_point g (inst_of w))) _ (chain_asks indirect_words (first_point g (inst_of w))) (formed_asks e n w row) (stopped_by (operated e n g w) (Some w) None) (λ a b none. absurd none)
 
   no_address_asks : (e : Effect) (w : ℕ) → AsksStep (no_address e g w)
-  no_address_asks effect.Mme w = halted_asks (Some w) None (fault_at 2 (here g)) (below 2 (omega arith))
-  no_address_asks effect.Drl w = halted_asks (Some w) None (fault_at 6 (here g)) (below 6 (omega arith))
+  no_address_asks effect.Mme w = halted_asks (Some w) None (halt_at 2 (here g)) (below 2 (omega arith))
+  no_address_asks effect.Drl w = halted_asks (Some w) None (halt_at 6 (here g)) (below 6 (omega arith))
   no_address_asks _ w = halted_asks (Some w) None (halt.Stop stop.Dis) tt
 
   started_asks : (e : Effect) (n w : ℕ) → decode w ≡ Some (e, n) → (k : Operand) → AsksStep (started e n g w k)
@@ -339,7 +339,7 @@ module _ (g : RegsFields) where
   started_asks e n w row _ = addressed_asks e n w row
 
   admitted_asks : (e : Effect) (n w : ℕ) → decode w ≡ Some (e, n) → (b : Bool) → AsksStep (admitted e n g w b)
-  admitted_asks e n w row true = halted_asks (Some w) None (fault_at 10 (here g)) (below 10 (omega arith))
+  admitted_asks e n w row true = halted_asks (Some w) None (halt_at 10 (here g)) (below 10 (omega arith))
   admitted_asks e n w row false = started_asks e n w row (operand_of e)
 
   decoded_asks : (w : ℕ) (right : Bool) (row : Option (Effect × ℕ)) → decode w ≡ row → AsksStep (decoded g w right row)

@@ -3,8 +3,8 @@
 use Rattle.std.proofs.Common.{◌≡◌, refl, sym, ◌∙◌, ap, inl, inr, arith, eqb-true}
 use Rattle.std.specs.Prelude.{ℕ, ◌+◌, ◌*◌, ◌/◌, ◌%◌, ◌⊎◌, Bool, true, false, ◌==◌, if◌then◌else◌, List, length, take, slice_index, Option, Some, None, Result, Ok, Err}
 use Rattle.m36_desc.specs.Fields.{SdwFields}
-use Rattle.m36_desc.specs.Access.{in_order}
-use Rattle.m36_model.specs.Store.{Spot, within, place, place_by, place_within, when_ordered}
+use Rattle.m36_desc.specs.Access.{has_ordered_brackets}
+use Rattle.m36_model.specs.Store.{Spot, is_within_bound, place, place_by, place_within, when_ordered}
 use Rattle.m36_model.specs.Place.{core_sdw, core_spot}
 use Rattle.m36_model.specs.Flat.{Flat}
 use Rattle.m36_model.specs.BootedCore.{descriptor_words, booted_dbr, resident_ptw, absent_ptw, IsPage, page_word, IsInFrame, IsLaid}
@@ -55,7 +55,7 @@ laid_by core frames laid now size low frame_of r =
         inr (frame, record { word = frame_as now frames frame_of r seg page p (Some frame) e; pageable = k })
 
 module _ (m : Paged) (frames : ℕ) (laid : IsLaid m.core frames) (frame_of : ℕ → ℕ → Option ℕ) (r : IsResidence m.core frames frame_of) where
-  spot_word : (seg w : ℕ) (d : SdwFields) → core_sdw m.core booted_dbr seg ≡ Ok d → within d w ≡ true → (v : Option ℕ) → frame_of seg (w / 1024) ≡ v → word_at m seg w (core_spot m.core booted_dbr d seg w) ≡ resident_word m v seg w
+  spot_word : (seg w : ℕ) (d : SdwFields) → core_sdw m.core booted_dbr seg ≡ Ok d → is_within_bound d w ≡ true → (v : Option ℕ) → frame_of seg (w / 1024) ≡ v → word_at m seg w (core_spot m.core booted_dbr d seg w) ≡ resident_word m v seg w
   spot_word seg w d live inside None e =
       let p = page_of_word m.core frames laid seg w d live inside in
       ap (word_at m seg w) (absent_spot m.core frames laid seg w d live inside (frame_as m.core frames frame_of r seg (w / 1024) p None e))
@@ -85,7 +85,7 @@ module _ (frames : ℕ) (old new : Paged) (laid : IsLaid old.core frames) (moved
       dead_word why other false e =
           ap (λ (b : Bool). if b then new.kept seg w else 0) e ∙ sym (ap (λ (b : Bool). if b then old.kept seg w else 0) e)
   content_by seg w (Ok d) live now =
-      word_by new old seg w (in_order d) (within d w) _ _ (λ ordered inside. spot_word new frames now_laid moved.after moved.residence_after seg w d now inside (moved.after seg (w / 1024)) refl ∙ moved.words seg w (page_of_word old.core frames laid seg w d live inside) ∙ sym (spot_word old frames laid moved.before moved.residence_before seg w d live inside (moved.before seg (w / 1024)) refl))
+      word_by new old seg w (has_ordered_brackets d) (is_within_bound d w) _ _ (λ ordered inside. spot_word new frames now_laid moved.after moved.residence_after seg w d now inside (moved.after seg (w / 1024)) refl ∙ moved.words seg w (page_of_word old.core frames laid seg w d live inside) ∙ sym (spot_word old frames laid moved.before moved.residence_before seg w d live inside (moved.before seg (w / 1024)) refl))
 
   same_content : (seg w : ℕ) → paged_content new seg w ≡ paged_content old seg w
   unfolding paged_content place

@@ -2,10 +2,10 @@
 use Rattle.std.proofs.Common.{◌≡◌, refl, sym, ◌∙◌, ap, subst}
 use Rattle.std.specs.Prelude.{ℕ, ◌≤◌, Bool, true, false, List, []}
 use Rattle.m36_model.specs.Registers.{RegsFields}
-use Rattle.m36_model.specs.Store.{Spot, Change, Store, Ran, run, changes}
+use Rattle.m36_model.specs.Store.{Spot, Change, Store, ProgramResult, run, changes}
 use Rattle.m36_model.specs.Sight.{content_in}
 use Rattle.m36_model.specs.Step.{Ending, program, step_record}
-use Rattle.m36_model.specs.StoreLaw.{Each, same_spot, overlay, IsWord, IsSpot, Lawful}
+use Rattle.m36_model.specs.StoreLaw.{Each, same_spot, overlay, IsPlacedWord, IsSegmentChange, Lawful}
 use Rattle.m36_model.specs.Audit.{IsGuarded}
 use Rattle.m36_isol.proofs.Program.{AreRan, run_alike}
 use Rattle.m36_isol.proofs.Alike.{Sees, Reaches, IsReached, May, Known, Alike, SeeEqual}
@@ -15,7 +15,7 @@ use Rattle.m36_isol.proofs.Programs.{IsEnded, program_meets}
 use Rattle.m36_isol.proofs.Contents.{overlay_none, content_equal, words_equal}
 
 module _ {S : Type 0} (o : Store S) (g : RegsFields) (Has : S → Type 0) (Lies : Spot → Type 0) (Near : S → S → Type 0) (L : Lawful o g.dbr Has Lies Near) (guarded : IsGuarded g.dbr L.sdws) (r : ℕ) (low : r ≤ g.ppr.prr) where
-  abbrev pub step_run : S → Ran Ending S
+  abbrev pub step_run : S → ProgramResult Ending S
   step_run s = run o g (program g) (record { store = s; claims = []; refs = [] })
 
   abbrev pub after_run : S → S
@@ -46,9 +46,9 @@ module _ {S : Type 0} (o : Store S) (g : RegsFields) (Has : S → Type 0) (Lies 
   pub reached_writes : (s : S) → Has s → Each (λ (c : Change). IsReached L.sdws L.spots r c.spot) (writes_of s)
   reached_writes s h = each_change (IsReached L.sdws L.spots r) _ (one_run s h).mid.claimed _
 
-  spot_writes : (s : S) → Has s → Each (IsSpot L.sdws L.spots) (writes_of s)
+  spot_writes : (s : S) → Has s → Each (IsSegmentChange L.sdws L.spots) (writes_of s)
   spot_writes s h =
-      each_map (λ (c : Change). IsReached L.sdws L.spots r c.spot) (IsSpot L.sdws L.spots) (λ c k. record { seg = k.seg; w = k.w; word = k.word }) (writes_of s) (reached_writes s h)
+      each_map (λ (c : Change). IsReached L.sdws L.spots r c.spot) (IsSegmentChange L.sdws L.spots) (λ c k. record { seg = k.seg; w = k.w; word = k.word }) (writes_of s) (reached_writes s h)
 
   pub after_has : (s : S) → Has s → Has (after_run s)
   after_has s h = L.put_tables _ (one_run s h).mid.kept.has (writes_of s) (spot_writes s h)
@@ -60,13 +60,13 @@ module _ {S : Type 0} (o : Store S) (g : RegsFields) (Has : S → Type 0) (Lies 
       L.put_word _ k.has (writes_of s) (spot_writes s h) p lies ∙ ap (overlay (writes_of s) p) (k.words p lies)
 
   -- out of reach nothing changes
-  apart_by : (seg w : ℕ) (p : Spot) → IsWord L.sdws L.spots seg w p → (Reaches L.sdws r seg → ⊥) → (c : Change) → IsReached L.sdws L.spots r c.spot → (t : Bool) → same_spot c.spot p ≡ t → same_spot c.spot p ≡ false
+  apart_by : (seg w : ℕ) (p : Spot) → IsPlacedWord L.sdws L.spots seg w p → (Reaches L.sdws r seg → ⊥) → (c : Change) → IsReached L.sdws L.spots r c.spot → (t : Bool) → same_spot c.spot p ≡ t → same_spot c.spot p ≡ false
   apart_by seg w p word none c k false e = e
   apart_by seg w p word none c k true e =
       let same = L.apart k.seg k.w seg w c.spot p k.word word e in
       absurd (none (subst (λ (x : ℕ). Reaches L.sdws r x) same.0 k.reaches))
 
-  pub unreached_word : (s : S) → Has s → (seg w : ℕ) (p : Spot) → IsWord L.sdws L.spots seg w p → (Reaches L.sdws r seg → ⊥) → o.word (after_run s) p ≡ o.word s p
+  pub unreached_word : (s : S) → Has s → (seg w : ℕ) (p : Spot) → IsPlacedWord L.sdws L.spots seg w p → (Reaches L.sdws r seg → ⊥) → o.word (after_run s) p ≡ o.word s p
   unreached_word s h seg w p word none =
       after_word s h p (L.lies seg w p word) ∙ overlay_none (writes_of s) p (o.word s p) (each_map (λ (c : Change). IsReached L.sdws L.spots r c.spot) (λ (c : Change). same_spot c.spot p ≡ false) (λ c k. apart_by seg w p word none c k (same_spot c.spot p) refl) (writes_of s) (reached_writes s h))
 

@@ -3,7 +3,7 @@ use Rattle.std.proofs.Common.{◌≡◌, refl, sym, ◌∙◌, ap, subst, inl, i
 use Rattle.std.proofs.lemmas.Bool.{cases_lt}
 use Rattle.std.specs.Prelude.{ℕ, ◌+◌, ◌*◌, ◌<◌, ◌≤◌, ◌⊎◌, Bool, true, false, ◌==◌, nat_lt, if◌then◌else◌, List, [], slice_get, Option, Some, None, Result, Ok, Err}
 use Rattle.m36_desc.specs.Fields.{SdwFields}
-use Rattle.m36_desc.specs.Access.{ring_called}
+use Rattle.m36_desc.specs.Access.{ring_after_call}
 use Rattle.m36_inst.specs.Operands.{operand_of, takes_direct}
 use Rattle.m36_inst.specs.declared.effect.Effect.{Effect}
 use Rattle.m36_inst.specs.declared.effect.Effect.TheVariants as effect
@@ -17,7 +17,7 @@ use Rattle.m36_model.specs.Results.{OperandFields, EffectFields}
 use Rattle.m36_model.specs.Effect.{exec, is_absa}
 use Rattle.m36_model.specs.Transfers.{is_taken}
 use Rattle.m36_model.specs.CallReturn.{stack_segment, stack_pointer}
-use Rattle.m36_model.specs.Step.{Performed, Operation, performed, tallied, no_operand, reading_word, reading_words, writing, changing, addressing, transferring, calling, by_kind, by_direct, operate_on, operate}
+use Rattle.m36_model.specs.Step.{Performed, Operation, operation_result, with_chain_tally, no_operand, reading_word, reading_words, writing, changing, addressing, transferring, calling, operate_by_kind, operate_direct, operate_on, operate}
 use Rattle.m36_model.specs.Audit.{is_stack_of, IsGuarded}
 use Rattle.m36_model.specs.Isolation.{HasPointers}
 use Rattle.m36_model.specs.Laws.{IsCalled}
@@ -57,11 +57,11 @@ module _ (sdws : ℕ → Result SdwFields Refusal) (r : ℕ) (g : RegsFields) wh
     abbrev MeetsEffect : Effect → ChainEnd → Result Performed Halt → Type 0
     MeetsEffect e c v = Either (IsPerformed e c) AnyHalt v
 
-    plain_by : (e : Effect) (n : ℕ) (c : ChainEnd) (part : Part) (first : ℕ) (o : OperandFields) → (e ≡ effect.Call6 → ⊥) → r ≤ c.last.at.ring → (v : Result EffectFields ℕ) → exec e n (tallied g c) c.last o ≡ v → MeetsEffect e c (performed g c part first v)
-    unfolding tallied
+    plain_by : (e : Effect) (n : ℕ) (c : ChainEnd) (part : Part) (first : ℕ) (o : OperandFields) → (e ≡ effect.Call6 → ⊥) → r ≤ c.last.at.ring → (v : Result EffectFields ℕ) → exec e n (with_chain_tally g c) c.last o ≡ v → MeetsEffect e c (operation_result g c part first v)
+    unfolding with_chain_tally
     plain_by e n c part first o plain high (Err number) h = tt
     plain_by e n c part first o plain high (Ok x) h =
-        let k = effect_law e n (tallied g c) c.last o x h in
+        let k = effect_law e n (with_chain_tally g c) c.last o x h in
         record {
           ring = inl (⊎_elim (λ same. subst (λ (m : ℕ). r ≤ m) (sym same) low) (λ other. ⊎_elim (λ call. absurd (plain call.0)) (λ back. le_trans high back.1) other) k.ring);
           dbr = k.dbr;
@@ -123,8 +123,8 @@ module _ (sdws : ℕ → Result SdwFields Refusal) (r : ℕ) (g : RegsFields) wh
             by_test true e = let same = eqb-true ring g.ppr.prr e in absurd (omega arith)
             by_test false e = refl
 
-        fallen : (e : Effect) → e ≡ effect.Call6 → (c : ChainEnd) (d : SdwFields) (x : EffectFields) (puts : List Put) → sdws c.last.at.seg ≡ Ok d → MayCall d c.last.at.ring (c.last.at.seg == g.ppr.psr) c.last.at.word → r ≤ c.last.at.ring → d.r2 < r → (o : OperandFields) → o.ring ≡ d.r2 → IsCalled (tallied g c) c.last o x → IsFallen e c (record { regs = x.regs; puts = puts; overflow = x.overflow })
-        unfolding tallied
+        fallen : (e : Effect) → e ≡ effect.Call6 → (c : ChainEnd) (d : SdwFields) (x : EffectFields) (puts : List Put) → sdws c.last.at.seg ≡ Ok d → MayCall d c.last.at.ring (c.last.at.seg == g.ppr.psr) c.last.at.word → r ≤ c.last.at.ring → d.r2 < r → (o : OperandFields) → o.ring ≡ d.r2 → IsCalled (with_chain_tally g c) c.last o x → IsFallen e c (record { regs = x.regs; puts = puts; overflow = x.overflow })
+        unfolding with_chain_tally
         fallen e is c d x puts live may high below o ring call =
             let outer : d.r2 < d.r3 = lt_of_lt_of_le below (le_trans high may.high) in
             let gate = guarded.gates c.last.at.seg d live may.executable outer in
@@ -143,17 +143,17 @@ module _ (sdws : ℕ → Result SdwFields Refusal) (r : ℕ) (g : RegsFields) wh
               overflow = call.overflow;
             }
 
-        called_ring : (e : Effect) → e ≡ effect.Call6 → (c : ChainEnd) (d : SdwFields) (x : EffectFields) (puts : List Put) → sdws c.last.at.seg ≡ Ok d → MayCall d c.last.at.ring (c.last.at.seg == g.ppr.psr) c.last.at.word → r ≤ c.last.at.ring → (t : Bool) → nat_lt d.r2 c.last.at.ring ≡ t → (o : OperandFields) → o.ring ≡ (if t then d.r2 else c.last.at.ring) → IsCalled (tallied g c) c.last o x → (r ≤ x.regs.ppr.prr) ⊎ IsFallen e c (record { regs = x.regs; puts = puts; overflow = x.overflow })
+        called_ring : (e : Effect) → e ≡ effect.Call6 → (c : ChainEnd) (d : SdwFields) (x : EffectFields) (puts : List Put) → sdws c.last.at.seg ≡ Ok d → MayCall d c.last.at.ring (c.last.at.seg == g.ppr.psr) c.last.at.word → r ≤ c.last.at.ring → (t : Bool) → nat_lt d.r2 c.last.at.ring ≡ t → (o : OperandFields) → o.ring ≡ (if t then d.r2 else c.last.at.ring) → IsCalled (with_chain_tally g c) c.last o x → (r ≤ x.regs.ppr.prr) ⊎ IsFallen e c (record { regs = x.regs; puts = puts; overflow = x.overflow })
         called_ring e is c d x puts live may high false test o ring call =
             inl (subst (λ (m : ℕ). r ≤ m) (sym (call.ring ∙ ring)) high)
         called_ring e is c d x puts live may high true test o ring call =
             ⊎_elim (λ below. inr (fallen e is c d x puts live may high below o ring call)) (λ above. inl (subst (λ (m : ℕ). r ≤ m) (sym (call.ring ∙ ring)) above)) (cases_lt d.r2 r)
 
-        call_by : (e : Effect) (n : ℕ) (c : ChainEnd) (d : SdwFields) → sdws c.last.at.seg ≡ Ok d → MayCall d c.last.at.ring (c.last.at.seg == g.ppr.psr) c.last.at.word → r ≤ c.last.at.ring → (v : Result EffectFields ℕ) → exec e n (tallied g c) c.last (record { got = []; ring = ring_called d c.last.at.ring; place = 0 }) ≡ v → MeetsEffect e c (performed g c Whole 0 v)
-        unfolding tallied
+        call_by : (e : Effect) (n : ℕ) (c : ChainEnd) (d : SdwFields) → sdws c.last.at.seg ≡ Ok d → MayCall d c.last.at.ring (c.last.at.seg == g.ppr.psr) c.last.at.word → r ≤ c.last.at.ring → (v : Result EffectFields ℕ) → exec e n (with_chain_tally g c) c.last (record { got = []; ring = ring_after_call d c.last.at.ring; place = 0 }) ≡ v → MeetsEffect e c (operation_result g c Whole 0 v)
+        unfolding with_chain_tally
         call_by e n c d live may high (Err number) h = tt
         call_by e n c d live may high (Ok x) h =
-            let k = effect_law e n (tallied g c) c.last _ x h in
+            let k = effect_law e n (with_chain_tally g c) c.last _ x h in
             record {
               ring = ⊎_elim (λ same. inl (subst (λ (m : ℕ). r ≤ m) (sym same) low)) (λ other. ⊎_elim (λ call. called_ring e call.0 c d x _ live may high (nat_lt d.r2 c.last.at.ring) refl _ refl call.1) (λ back. inl (le_trans high back.1)) other) k.ring;
               dbr = k.dbr;
@@ -165,7 +165,7 @@ module _ (sdws : ℕ → Result SdwFields Refusal) (r : ℕ) (g : RegsFields) wh
             (record { some = omega arith; ring = tt }, (λ f. tt), (λ a known. call_by e n c a.sdw known.live (call_rights a.sdw c.last.at.ring g.ppr.prr (c.last.at.seg == g.ppr.psr) c.last.at.word known.allowed) high _ refl))
 
         -- by operand kind
-        kind_meets : (e : Effect) (n : ℕ) (c : ChainEnd) (k : Operand) → operand_of e ≡ k → r ≤ c.last.at.ring → MeetsOperation e c (by_kind e n g c k)
+        kind_meets : (e : Effect) (n : ℕ) (c : ChainEnd) (k : Operand) → operand_of e ≡ k → r ≤ c.last.at.ring → MeetsOperation e c (operate_by_kind e n g c k)
         kind_meets e n c kind.R is high = word_meets e n c (no_call e kind.R is (λ x. cc)) high
         kind_meets e n c kind.R2 is high = words_meet e n c 2 (omega arith) (no_call e kind.R2 is (λ x. cc)) high
         kind_meets e n c kind.R16 is high = words_meet e n c 16 (omega arith) (no_call e kind.R16 is (λ x. cc)) high
@@ -177,7 +177,7 @@ module _ (sdws : ℕ → Result SdwFields Refusal) (r : ℕ) (g : RegsFields) wh
         kind_meets e n c kind.Rw is high = changing_meets e n c Whole (no_call e kind.Rw is (λ x. cc)) high
         kind_meets e n c kind.Rwl is high = changing_meets e n c Left (no_call e kind.Rwl is (λ x. cc)) high
         kind_meets e n c kind.A is high = addressing_meets e n c (is_absa e) (no_call e kind.A is (λ x. cc)) high
-        kind_meets e n c kind.T is high = transferring_meets e n c (is_taken e (tallied g c)) (no_call e kind.T is (λ x. cc)) high
+        kind_meets e n c kind.T is high = transferring_meets e n c (is_taken e (with_chain_tally g c)) (no_call e kind.T is (λ x. cc)) high
         kind_meets e n c kind.N is high = plain_by e n c Whole 0 no_operand (no_call e kind.N is (λ x. cc)) high _ refl
         kind_meets e n c kind.Call6 is high = calling_meets e n c high
 
@@ -185,7 +185,7 @@ module _ (sdws : ℕ → Result SdwFields Refusal) (r : ℕ) (g : RegsFields) wh
         direct_call : (e : Effect) → takes_direct e ≡ true → e ≡ effect.Call6 → ⊥
         direct_call e takes call = let k = ap takes_direct call in true≢false (sym takes ∙ k)
 
-        direct_meets : (e : Effect) (n : ℕ) (c : ChainEnd) (w : ℕ) (t : Bool) → takes_direct e ≡ t → r ≤ c.last.at.ring → MeetsOperation e c (by_direct e n g c w t)
+        direct_meets : (e : Effect) (n : ℕ) (c : ChainEnd) (w : ℕ) (t : Bool) → takes_direct e ≡ t → r ≤ c.last.at.ring → MeetsOperation e c (operate_direct e n g c w t)
         direct_meets e n c w true takes high = plain_by e n c Whole 0 _ (direct_call e takes) high _ refl
         direct_meets e n c w false takes high = tt
 

@@ -11,11 +11,11 @@ use Rattle.m36_model.specs.Step.{Ending, program, record_of}
 use Rattle.m36_model.specs.Flat.{Flat}
 use Rattle.m36_model.specs.BootedCore.{booted_dbr, resident_ptw, absent_ptw, IsPage, IsLaid}
 use Rattle.m36_model.specs.Residence.{Paged, flat_of, ptw_of_page, IsMoved, StaysIn}
-use Rattle.m36_model.specs.PagedStep.{IsPresent}
+use Rattle.m36_model.specs.PagedStep.{IsNoPageFault}
 use Rattle.m36_model.specs.declared.outcome.Fault.{Fault}
 use Rattle.m36_model.specs.declared.outcome.Outcome.{Outcome}
 use Rattle.m36_model.specs.declared.outcome.Outcome.TheVariants.{Faulted}
-use Rattle.m36_isol.specs.PageServices.{PagedState, core_state, stepped_memory, IsServed, AreServed, PagesLaw}
+use Rattle.m36_isol.specs.PageServices.{PagedState, core_state, stepped_memory, IsPageFaultServed, ArePageFaultsServed, PagesLaw}
 use Rattle.m36_isol.proofs.MirrorStep.{EndsSo, StopsSo, EndPlaced, present_at, program_asks}
 use Rattle.m36_isol.proofs.Booted.{StandsFor, stands_first}
 use Rattle.m36_isol.proofs.PagedStep.{paged_step_law}
@@ -94,7 +94,7 @@ module _ (frames : ℕ) where
       one_fault o a b e f = cc
 
       by_end : EndsSo g (run core_store g (program g) (begin core)).value ⊎ EndsCut g (EndsSo g) (StopsSo g) (EndPlaced g) (present_at g) (program g) (begin core) → IsCut g fault (program g) (begin core)
-      by_end (inl h) = absurd (subst IsPresent outcome h.present number)
+      by_end (inl h) = absurd (subst IsNoPageFault outcome h.present number)
       by_end (inr k) =
           subst (λ (f : Fault). IsCut g f (program g) (begin core)) (one_fault _ k.fault fault k.stops.outcome outcome) k.is_cut
 
@@ -109,7 +109,7 @@ module _ (frames : ℕ) where
   next_reaches k g dbr core laid kept now now_laid now_kept same fault outcome number refs at r =
       gets g dbr (flat_of (record { core = core; kept = kept })) (EndsSo g) (StopsSo g) (EndPlaced g) (present_at g) Any frames core laid kept now now_laid now_kept (program g) k 18 20 None (begin core) (begin now) _ fault (program_plan g) (program_asks g) (first_stands g dbr core laid kept _ refl) (first_stands g dbr now now_laid now_kept _ same) tt tt r (cut_from g core fault outcome number) refs at
 
-  one_service : (k : ℕ) (old new : PagedState) → IsReady k old → IsServed frames old new → IsReady (suc k) new
+  one_service : (k : ℕ) (old new : PagedState) → IsReady k old → IsPageFaultServed frames old new → IsReady (suc k) new
   one_service k old new ready served =
       let g = old.regs in
       let core = old.memory.core in
@@ -131,8 +131,8 @@ module _ (frames : ℕ) where
         reaches = subst (λ (r : RegsFields). ReachesState (suc k) r new.memory.core) (sym served.regs) reaches;
       }
 
-  all_services : (n k : ℕ) (old new : PagedState) → IsReady k old → AreServed frames n old new → IsReady (k + n) new
-  unfolding AreServed
+  all_services : (n k : ℕ) (old new : PagedState) → IsReady k old → ArePageFaultsServed frames n old new → IsReady (k + n) new
+  unfolding ArePageFaultsServed
   all_services zero k old new ready same =
       let m : k ≡ k + 0 = omega arith in
       subst (λ (i : ℕ). IsReady i new) m (subst (IsReady k) (sym same) ready)
@@ -141,12 +141,12 @@ module _ (frames : ℕ) where
       subst (λ (i : ℕ). IsReady i new) m (all_services n (suc k) served.0 new (one_service k old served.0 ready served.1) served.2)
 
   -- a step that reaches 18 new pages has no page fault
-  ends_present : (g : RegsFields) (dbr : g.dbr ≡ booted_dbr) (core : List ℕ) (laid : IsLaid core frames) (kept : ℕ → ℕ → ℕ) → ReachesState 18 g core → IsPresent (record_of core_store (record { regs = g; store = core })).outcome
+  ends_present : (g : RegsFields) (dbr : g.dbr ≡ booted_dbr) (core : List ℕ) (laid : IsLaid core frames) (kept : ℕ → ℕ → ℕ) → ReachesState 18 g core → IsNoPageFault (record_of core_store (record { regs = g; store = core })).outcome
   unfolding record_of
   ends_present g dbr core laid kept reaches =
       by_end (cut_or g (EndsSo g) (StopsSo g) (EndPlaced g) (present_at g) (program g) (begin core) (program_asks g))
     where
-      by_end : EndsSo g (run core_store g (program g) (begin core)).value ⊎ EndsCut g (EndsSo g) (StopsSo g) (EndPlaced g) (present_at g) (program g) (begin core) → IsPresent (run core_store g (program g) (begin core)).value.outcome
+      by_end : EndsSo g (run core_store g (program g) (begin core)).value ⊎ EndsCut g (EndsSo g) (StopsSo g) (EndPlaced g) (present_at g) (program g) (begin core) → IsNoPageFault (run core_store g (program g) (begin core)).value.outcome
       by_end (inl h) = h.present
       by_end (inr k) =
           absurd (no_cut g dbr (flat_of (record { core = core; kept = kept })) (EndsSo g) (StopsSo g) (EndPlaced g) (present_at g) Any core frames laid kept (program g) 18 20 18 None (begin core) _ k.fault (program_plan g) (program_asks g) (first_stands g dbr core laid kept _ refl) tt (omega arith) reaches k.is_cut)

@@ -4,13 +4,13 @@ use Rattle.std.specs.Prelude.{ℕ, ◌⊎◌, List, []}
 use Rattle.m36_desc.specs.Fields.{DbrFields}
 use Rattle.m36_model.specs.Registers.{RegsFields}
 use Rattle.m36_model.specs.Act.{Put}
-use Rattle.m36_model.specs.Store.{Spot, Midstep, Ran, State, changes}
+use Rattle.m36_model.specs.Store.{Spot, Midstep, ProgramResult, State, changes}
 use Rattle.m36_model.specs.Core.{core_store, core_put}
 use Rattle.m36_model.specs.Laws.{ExecutesLdbr}
-use Rattle.m36_model.specs.Step.{Ending, program, start, ran, step_record, stepped, record_of, state_after}
+use Rattle.m36_model.specs.Step.{Ending, program, start, run_of_step, step_record, stepped, record_of, state_after}
 use Rattle.m36_model.specs.Flat.{Flat, flat_put, flat_store}
 use Rattle.m36_model.specs.BootedCore.{booted_dbr, IsLaid}
-use Rattle.m36_model.specs.Residence.{Lacks}
+use Rattle.m36_model.specs.Residence.{PageIsAbsent}
 use Rattle.m36_model.specs.PagedStep.{flat_state, IsFlatStep, IsPageFault, IsAbsaStep, IsPagedStep, PagedStepLaw}
 use Rattle.m36_model.proofs.StepLaw.{core_quiet}
 use Rattle.m36_isol.proofs.Mirror.{Mirrors, AreMids, AreRun, same, lacked, placed_apart, paired_changes, run_mirrors}
@@ -34,9 +34,9 @@ module _ (frames : ℕ) (kept : ℕ → ℕ → ℕ) (g : RegsFields) (core : Li
   abbrev Pair : Spot → Spot → Type 0
   Pair p q = IsPair core frames laid kept p q
 
-  mirrors : Mirrors core_store flat_store g.dbr M Pair (Lacks core)
+  mirrors : Mirrors core_store flat_store g.dbr M Pair (PageIsAbsent core)
   mirrors =
-      subst (λ (d : DbrFields). Mirrors core_store flat_store d M Pair (Lacks core)) (sym dbr) (booted_mirrors core frames laid kept)
+      subst (λ (d : DbrFields). Mirrors core_store flat_store d M Pair (PageIsAbsent core)) (sym dbr) (booted_mirrors core frames laid kept)
 
   begins : AreMids M Pair there.store (start here) (start there)
   begins = record { mirrors = stands_first core frames laid kept; still = refl; claims = tt; refs = refl }
@@ -57,14 +57,14 @@ module _ (frames : ℕ) (kept : ℕ → ℕ → ℕ) (g : RegsFields) (core : Li
       let pairs = paired_changes Pair x.claims y.claims k.claims puts in
       subst (λ (l : List Put). M (core_put x.store (changes x.claims puts)) (flat_put y.store (changes y.claims l))) e (mirrors.put x.store y.store k.mirrors (changes x.claims puts) (changes y.claims puts) pairs)
 
-  ldbr_of : (x : Ran Ending (List ℕ)) → EndsWithLdbr g x.value → ExecutesLdbr (step_record g x)
+  ldbr_of : (x : ProgramResult Ending (List ℕ)) → EndsWithLdbr g x.value → ExecutesLdbr (step_record g x)
   ldbr_of x k = record { word = k.word; fetched = k.fetched; number = k.number; does = k.loads; next = k.next }
 
-  by_run : AreRun M Pair (Lacks core) there.store (EndsSo g) (StopsSo g) (EndPlaced g) (ran core_store here) (ran flat_store there) → IsPagedStep frames kept here
+  by_run : AreRun M Pair (PageIsAbsent core) there.store (EndsSo g) (StopsSo g) (EndPlaced g) (run_of_step core_store here) (run_of_step flat_store there) → IsPagedStep frames kept here
   unfolding record_of state_after
   by_run (same value mids post) =
-      let x = ran core_store here in
-      let y = ran flat_store there in
+      let x = run_of_step core_store here in
+      let y = run_of_step flat_store there in
       let m = puts_alike x.mid y.mid mids x.value.puts y.value.puts (ap (λ (e : Ending). e.puts) value) in
       let store = flat_back core frames laid kept (state_after core_store here).store _ m in
       let refs = mids.refs in
@@ -79,7 +79,7 @@ module _ (frames : ℕ) (kept : ℕ → ℕ → ℕ) (g : RegsFields) (core : Li
       let state : flat_state kept (stepped core_store x) ≡ stepped flat_store y = λ i. record { regs = (value i).after; store = store i } in
       keeps (λ now f k. inl (record { told = told; state = state; present = post.present; dbr = ⊎_elim (λ e. inl (e ∙ dbr)) (λ k. inr (ldbr_of x k)) post.dbr })) _ m
   by_run (lacked fault number lacks stop m) =
-      let x = ran core_store here in
+      let x = run_of_step core_store here in
       let puts = stop.puts in
       let claims = x.mid.claims in
       let nothing : changes claims x.value.puts ≡ [] = ap (changes claims) puts ∙ no_changes claims in
@@ -90,8 +90,8 @@ module _ (frames : ℕ) (kept : ℕ → ℕ → ℕ) (g : RegsFields) (core : Li
       let state : flat_state kept (stepped core_store x) ≡ there = λ i. record { regs = after i; store = store i } in
       keeps (λ now f k. inr (inl (record { fault = fault; outcome = stop.outcome; number = number; lacks = lacks; state = state }))) there.store m'
   by_run (placed_apart two mids) =
-      let x = ran core_store here in
-      let y = ran flat_store there in
+      let x = run_of_step core_store here in
+      let y = run_of_step flat_store there in
       let m = puts_alike x.mid y.mid mids x.value.puts y.value.puts two.puts in
       let store = flat_back core frames laid kept (state_after core_store here).store _ m in
       keeps (λ now f k. inr (inr (record {
@@ -103,7 +103,7 @@ module _ (frames : ℕ) (kept : ℕ → ℕ → ℕ) (g : RegsFields) (core : Li
 
   paged_step : IsPagedStep frames kept here
   paged_step =
-      by_run (run_mirrors core_store flat_store g M Pair (Lacks core) mirrors there.store (EndsSo g) (StopsSo g) (EndPlaced g) (present_at g) (program g) (start here) (start there) (program_asks g) begins)
+      by_run (run_mirrors core_store flat_store g M Pair (PageIsAbsent core) mirrors there.store (EndsSo g) (StopsSo g) (EndPlaced g) (present_at g) (program g) (start here) (start there) (program_asks g) begins)
 
 pub paged_step_law : PagedStepLaw
 paged_step_law frames kept s dbr laid = paged_step frames kept s.regs s.store dbr laid

@@ -2,11 +2,11 @@
 use Rattle.std.proofs.Common.{◌≡◌, refl, sym, ◌∙◌, ap, subst, arith}
 use Rattle.std.specs.Prelude.{ℕ, zero, suc, ◌+◌, ◌-◌, ◌/◌, ◌<◌, ◌≤◌, ◌≢◌, Bool, true, false, ◌==◌, List, [], ◌∷◌, ◌++◌, length, Option, Some, None, Result, Ok, Err}
 use Rattle.m36_desc.specs.Fields.{SdwFields}
-use Rattle.m36_desc.specs.Access.{in_order}
+use Rattle.m36_desc.specs.Access.{has_ordered_brackets}
 use Rattle.m36_model.specs.Fields.{AtFields}
 use Rattle.m36_model.specs.Registers.{RegsFields}
 use Rattle.m36_model.specs.Act.{RequestKind, Fetch, Indirect, Odd, Read, Write, Transfer, Call, Locate, Request, Answer, Act, done, ask}
-use Rattle.m36_model.specs.Store.{Spot, Store, Midstep, Served, violation, refused, within, placed_next, placed_one, spots_of, places_by, places, bound_only, is_target, touches, denied, serve, serve_sdw, serve_rights, serve_places, with_odd, with_reference, run}
+use Rattle.m36_model.specs.Store.{Spot, Store, Midstep, Served, violation, refused_reply, is_within_bound, spots_with, spots_from, spots_of, spots_of_request_by, places, bound_only, is_target, touches, refusing_violation, serve, serve_sdw, serve_rights, serve_places, with_odd, with_reference, run}
 use Rattle.m36_model.specs.StoreLaw.{Each}
 use Rattle.m36_model.specs.Core.{core_store}
 use Rattle.m36_model.specs.Step.{record_of, start, program}
@@ -29,17 +29,17 @@ module _ {S : Type 0} (o : Store S) (g : RegsFields) where
 
   -- a request is refused at one of its words and changes nothing, or its words have spots
   pub data IsReplied (m : Midstep S) (q : Request) (t : Served S) : Type 0 where
-    is_refused : (why : Refusal) (w : ℕ) → t ≡ refused m q w why → q.at.word ≤ w → w < q.at.word + q.count → IsCause m q why w → IsReplied m q t
-    is_answered : (a : Answer) → t.reply ≡ Ok a → t.mid.refs ≡ with_reference q.kind q m.refs → (d : SdwFields) → o.sdw m.store g.dbr q.at.seg ≡ Ok d → in_order d ≡ true → (spots : List Spot) → places o m.store g.dbr d q ≡ Ok spots → IsReplied m q t
+    is_refused : (why : Refusal) (w : ℕ) → t ≡ refused_reply m q w why → q.at.word ≤ w → w < q.at.word + q.count → IsCause m q why w → IsReplied m q t
+    is_answered : (a : Answer) → t.reply ≡ Ok a → t.mid.refs ≡ with_reference q.kind q m.refs → (d : SdwFields) → o.sdw m.store g.dbr q.at.seg ≡ Ok d → has_ordered_brackets d ≡ true → (spots : List Spot) → places o m.store g.dbr d q ≡ Ok spots → IsReplied m q t
 
-  by_next : (r : Result (List Spot) (ℕ × Refusal)) (spot : Spot) (e : ℕ × Refusal) → placed_next r spot ≡ Err e → r ≡ Err e
+  by_next : (r : Result (List Spot) (ℕ × Refusal)) (spot : Spot) (e : ℕ × Refusal) → spots_with r spot ≡ Err e → r ≡ Err e
   by_next (Ok spots) spot e h = cc
   by_next (Err f) spot e h = h
 
   err_first : (w : ℕ) (why : Refusal) (e : ℕ × Refusal) → (r : Result (List Spot) (ℕ × Refusal)) → r ≡ Err (w, why) → r ≡ Err e → w ≡ e.0
   err_first w why e r h f = let k : (w, why) ≡ e = cc in ap (λ (x : ℕ × Refusal). x.0) k
 
-  by_one : (b : Bool) (w : ℕ) (x : Result Spot Refusal) (r : Result (List Spot) (ℕ × Refusal)) (e : ℕ × Refusal) (n : ℕ) → ((e : ℕ × Refusal) → r ≡ Err e → (w + 1 ≤ e.0) × (e.0 < w + 1 + n)) → placed_one b w x r ≡ Err e → (w ≤ e.0) × (e.0 < w + suc n)
+  by_one : (b : Bool) (w : ℕ) (x : Result Spot Refusal) (r : Result (List Spot) (ℕ × Refusal)) (e : ℕ × Refusal) (n : ℕ) → ((e : ℕ × Refusal) → r ≡ Err e → (w + 1 ≤ e.0) × (e.0 < w + 1 + n)) → spots_from b w x r ≡ Err e → (w ≤ e.0) × (e.0 < w + suc n)
   by_one false w x r e n rest h = let k = err_first w _ e _ refl h in (omega arith, omega arith)
   by_one true w (Err why) r e n rest h = let k = err_first w why e _ refl h in (omega arith, omega arith)
   by_one true w (Ok spot) r e n rest h =
@@ -53,27 +53,27 @@ module _ {S : Type 0} (o : Store S) (g : RegsFields) where
   unfolding spots_of
   spots_range s d seg w zero e h = cc
   spots_range s d seg w (suc n) e h =
-      by_one (within d w) w (o.spot s g.dbr d seg w) (spots_of o s g.dbr d seg (w + 1) n) e n (λ e k. spots_range s d seg (w + 1) n e k) h
+      by_one (is_within_bound d w) w (o.spot s g.dbr d seg w) (spots_of o s g.dbr d seg (w + 1) n) e n (λ e k. spots_range s d seg (w + 1) n e k) h
 
   bound_range : (b : Bool) (w n : ℕ) (e : ℕ × Refusal) → 1 ≤ n → bound_only b w ≡ Err e → (w ≤ e.0) × (e.0 < w + n)
   bound_range true w n e some h = cc
   bound_range false w n e some h = let k = err_first w _ e _ refl h in (omega arith, omega arith)
 
-  parts_range : (b : Bool) (s : S) (d : SdwFields) (q : Request) (e : ℕ × Refusal) → 1 ≤ q.count → places_by b (bound_only (within d q.at.word) q.at.word) (spots_of o s g.dbr d q.at.seg q.at.word q.count) ≡ Err e → (q.at.word ≤ e.0) × (e.0 < q.at.word + q.count)
-  parts_range true s d q e some h = bound_range (within d q.at.word) q.at.word q.count e some h
+  parts_range : (b : Bool) (s : S) (d : SdwFields) (q : Request) (e : ℕ × Refusal) → 1 ≤ q.count → spots_of_request_by b (bound_only (is_within_bound d q.at.word) q.at.word) (spots_of o s g.dbr d q.at.seg q.at.word q.count) ≡ Err e → (q.at.word ≤ e.0) × (e.0 < q.at.word + q.count)
+  parts_range true s d q e some h = bound_range (is_within_bound d q.at.word) q.at.word q.count e some h
   parts_range false s d q e some h = spots_range s d q.at.seg q.at.word q.count e h
 
   places_range : (s : S) (d : SdwFields) (q : Request) (e : ℕ × Refusal) → 1 ≤ q.count → places o s g.dbr d q ≡ Err e → (q.at.word ≤ e.0) × (e.0 < q.at.word + q.count)
   unfolding places
   places_range s d q e some h = parts_range (is_target q.kind) s d q e some h
 
-  replied_places : (m : Midstep S) (q : Request) (d : SdwFields) → 1 ≤ q.count → o.sdw m.store g.dbr q.at.seg ≡ Ok d → in_order d ≡ true → (v : Result (List Spot) (ℕ × Refusal)) → places o m.store g.dbr d q ≡ v → IsReplied m q (serve_places o g m q d v)
+  replied_places : (m : Midstep S) (q : Request) (d : SdwFields) → 1 ≤ q.count → o.sdw m.store g.dbr q.at.seg ≡ Ok d → has_ordered_brackets d ≡ true → (v : Result (List Spot) (ℕ × Refusal)) → places o m.store g.dbr d q ≡ v → IsReplied m q (serve_places o g m q d v)
   replied_places m q d some live ordered (Err e) h =
       let k = places_range m.store d q e some h in
       is_refused e.1 e.0 refl k.0 k.1 (no_place d h)
   replied_places m q d some live ordered (Ok spots) h = is_answered _ refl refl d live ordered spots h
 
-  replied_rights : (m : Midstep S) (q : Request) (d : SdwFields) → 1 ≤ q.count → o.sdw m.store g.dbr q.at.seg ≡ Ok d → (v : Option ℕ) → denied q.kind d q.at.ring g.ppr.prr (q.at.seg == g.ppr.psr) q.at.word ≡ v → IsReplied m q (serve_rights o g m q d v)
+  replied_rights : (m : Midstep S) (q : Request) (d : SdwFields) → 1 ≤ q.count → o.sdw m.store g.dbr q.at.seg ≡ Ok d → (v : Option ℕ) → refusing_violation q.kind d q.at.ring g.ppr.prr (q.at.seg == g.ppr.psr) q.at.word ≡ v → IsReplied m q (serve_rights o g m q d v)
   replied_rights m q d some live (Some acv) h =
       is_refused (violation acv) q.at.word refl (omega arith) (omega arith) (no_right refl)
   replied_rights m q d some live None h =
@@ -90,11 +90,11 @@ module _ {S : Type 0} (o : Store S) (g : RegsFields) where
 
   -- the first word of an answered reference has a place
   pub record IsPlaced (s : S) (d : SdwFields) (seg w : ℕ) : Type 0 where
-    pub inside : within d w ≡ true
+    pub inside : is_within_bound d w ≡ true
     pub spot : Spot
     pub found : o.spot s g.dbr d seg w ≡ Ok spot
 
-  first_by : (s : S) (d : SdwFields) (seg w : ℕ) (b : Bool) (x : Result Spot Refusal) (r : Result (List Spot) (ℕ × Refusal)) (ps : List Spot) → within d w ≡ b → o.spot s g.dbr d seg w ≡ x → placed_one b w x r ≡ Ok ps → IsPlaced s d seg w
+  first_by : (s : S) (d : SdwFields) (seg w : ℕ) (b : Bool) (x : Result Spot Refusal) (r : Result (List Spot) (ℕ × Refusal)) (ps : List Spot) → is_within_bound d w ≡ b → o.spot s g.dbr d seg w ≡ x → spots_from b w x r ≡ Ok ps → IsPlaced s d seg w
   first_by s d seg w false x r ps i e h = cc
   first_by s d seg w true (Err why) r ps i e h = cc
   first_by s d seg w true (Ok spot) r ps i e h = record { inside = i; spot = spot; found = e }
@@ -102,9 +102,9 @@ module _ {S : Type 0} (o : Store S) (g : RegsFields) where
   first_placed : (s : S) (d : SdwFields) (seg w n : ℕ) (ps : List Spot) → 1 ≤ n → spots_of o s g.dbr d seg w n ≡ Ok ps → IsPlaced s d seg w
   unfolding spots_of
   first_placed s d seg w zero ps some h = absurd (omega arith)
-  first_placed s d seg w (suc n) ps some h = first_by s d seg w (within d w) (o.spot s g.dbr d seg w) _ ps refl refl h
+  first_placed s d seg w (suc n) ps some h = first_by s d seg w (is_within_bound d w) (o.spot s g.dbr d seg w) _ ps refl refl h
 
-  parts_placed : (b : Bool) (s : S) (d : SdwFields) (q : Request) (ps : List Spot) → b ≡ false → 1 ≤ q.count → places_by b (bound_only (within d q.at.word) q.at.word) (spots_of o s g.dbr d q.at.seg q.at.word q.count) ≡ Ok ps → IsPlaced s d q.at.seg q.at.word
+  parts_placed : (b : Bool) (s : S) (d : SdwFields) (q : Request) (ps : List Spot) → b ≡ false → 1 ≤ q.count → spots_of_request_by b (bound_only (is_within_bound d q.at.word) q.at.word) (spots_of o s g.dbr d q.at.seg q.at.word q.count) ≡ Ok ps → IsPlaced s d q.at.seg q.at.word
   parts_placed true s d q ps plain some h = cc
   parts_placed false s d q ps plain some h = first_placed s d q.at.seg q.at.word q.count ps some h
 
@@ -119,8 +119,8 @@ module _ {S : Type 0} (o : Store S) (g : RegsFields) where
       let k : (w, violation 15) ≡ (x, why) = cc in
       sym (ap (λ (e : ℕ × Refusal). e.1.number) k)
 
-  parts_number : (b : Bool) (s : S) (d : SdwFields) (q : Request) (x : ℕ) (why : Refusal) → b ≡ true → places_by b (bound_only (within d q.at.word) q.at.word) (spots_of o s g.dbr d q.at.seg q.at.word q.count) ≡ Err (x, why) → why.number ≡ 20
-  parts_number true s d q x why target h = bound_number (within d q.at.word) q.at.word x why h
+  parts_number : (b : Bool) (s : S) (d : SdwFields) (q : Request) (x : ℕ) (why : Refusal) → b ≡ true → spots_of_request_by b (bound_only (is_within_bound d q.at.word) q.at.word) (spots_of o s g.dbr d q.at.seg q.at.word q.count) ≡ Err (x, why) → why.number ≡ 20
+  parts_number true s d q x why target h = bound_number (is_within_bound d q.at.word) q.at.word x why h
   parts_number false s d q x why target h = cc
 
   places_number : (s : S) (d : SdwFields) (q : Request) (x : ℕ) (why : Refusal) → is_target q.kind ≡ true → places o s g.dbr d q ≡ Err (x, why) → why.number ≡ 20

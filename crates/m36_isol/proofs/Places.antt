@@ -3,9 +3,9 @@ use Rattle.std.proofs.Common.{◌≡◌, refl, ◌∙◌, ap}
 use Rattle.std.specs.Prelude.{ℕ, ◌<◌, Bool, true, false, ◌&&◌, List, length, nat_lt, Some, Result, Ok, Err}
 use Rattle.std.proofs.lemmas.Bool.{ltb-true}
 use Rattle.m36_desc.specs.Fields.{SdwFields, DbrFields}
-use Rattle.m36_desc.specs.Access.{in_order}
-use Rattle.m36_model.specs.Store.{Spot, Core_word, Store, within, placed, place, place_by, when_ordered, place_within}
-use Rattle.m36_model.specs.Place.{core_spot, inside_core, inside_core_by}
+use Rattle.m36_desc.specs.Access.{has_ordered_brackets}
+use Rattle.m36_model.specs.Store.{Spot, Core_word, Store, is_within_bound, placed, place, place_by, when_ordered, place_within}
+use Rattle.m36_model.specs.Place.{core_spot, spot_in_core, spot_in_core_by}
 use Rattle.m36_model.specs.Sight.{content_in, word_of}
 use Rattle.m36_model.specs.declared.outcome.Refusal.{Refusal}
 
@@ -24,7 +24,7 @@ pub record IsPlaced {S : Type 0} (o : Store S) (s : S) (dbr : DbrFields) (seg w 
 pub place_is : {S : Type 0} (o : Store S) (s : S) (dbr : DbrFields) (seg w : ℕ) (p : Spot) → IsPlaced o s dbr seg w p → place o s dbr seg w ≡ Ok p
 unfolding place
 place_is o s dbr seg w p h =
-    ap (λ (v : Result SdwFields Refusal). place_by v (λ d. o.spot s dbr d seg w) w) h.live ∙ place_joined (in_order h.sdw) (within h.sdw w) (o.spot s dbr h.sdw seg w) h.inside ∙ h.found
+    ap (λ (v : Result SdwFields Refusal). place_by v (λ d. o.spot s dbr d seg w) w) h.live ∙ place_joined (has_ordered_brackets h.sdw) (is_within_bound h.sdw w) (o.spot s dbr h.sdw seg w) h.inside ∙ h.found
 
 placed_parts : (a b : Bool) (spot : Result Spot Refusal) (p : Spot) → when_ordered a (place_within b spot) ≡ Ok p → ((a && b) ≡ true) × (spot ≡ Ok p)
 placed_parts true true spot p h = (refl, h)
@@ -34,7 +34,7 @@ placed_parts false b spot p h = cc
 place_taken : {S : Type 0} (o : Store S) (s : S) (dbr : DbrFields) (seg w : ℕ) (p : Spot) (v : Result SdwFields Refusal) → o.sdw s dbr seg ≡ v → place_by v (λ d. o.spot s dbr d seg w) w ≡ Ok p → IsPlaced o s dbr seg w p
 place_taken o s dbr seg w p (Err e) live h = cc
 place_taken o s dbr seg w p (Ok d) live h =
-    let k = placed_parts (in_order d) (within d w) (o.spot s dbr d seg w) p h in
+    let k = placed_parts (has_ordered_brackets d) (is_within_bound d w) (o.spot s dbr d seg w) p h in
     record { sdw = d; live = live; inside = k.0; found = k.1 }
 
 pub place_parts : {S : Type 0} (o : Store S) (s : S) (dbr : DbrFields) (seg w : ℕ) (p : Spot) → place o s dbr seg w ≡ Ok p → IsPlaced o s dbr seg w p
@@ -52,13 +52,13 @@ pub record IsInside (core : List ℕ) (p : Spot) : Type 0 where
   pub spot : p ≡ Core_word address
   pub inside : address < length core
 
-inside_by : (core : List ℕ) (a : ℕ) (b : Bool) → nat_lt a (length core) ≡ b → (p : Spot) → inside_core_by b a ≡ Ok p → IsInside core p
+inside_by : (core : List ℕ) (a : ℕ) (b : Bool) → nat_lt a (length core) ≡ b → (p : Spot) → spot_in_core_by b a ≡ Ok p → IsInside core p
 inside_by core a true e p h =
     let same : p ≡ Core_word a = cc in
     record { address = a; spot = same; inside = ltb-true a (length core) e }
 inside_by core a false e p h = cc
 
-inside_of : (core : List ℕ) (v : Result ℕ Refusal) (p : Spot) → inside_core (length core) v ≡ Ok p → IsInside core p
+inside_of : (core : List ℕ) (v : Result ℕ Refusal) (p : Spot) → spot_in_core (length core) v ≡ Ok p → IsInside core p
 inside_of core (Ok a) p h = inside_by core a (nat_lt a (length core)) refl p h
 inside_of core (Err e) p h = cc
 

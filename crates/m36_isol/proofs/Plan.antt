@@ -16,10 +16,10 @@ use Rattle.m36_model.specs.Act as act
 use Rattle.m36_model.specs.Modification.{Point, Move, Ends, Fails, Reads, Counts, at_point, move_of_point}
 use Rattle.m36_model.specs.FirstPoint.{first_point}
 use Rattle.m36_model.specs.Tally.{indirect_only}
-use Rattle.m36_model.specs.Chain.{indirect, ChainEnd, Formation, Found, Its, Itp, Plain, found, found_by_tag, after_word, after_tally, chain_by, chain_exhausted, chain}
+use Rattle.m36_model.specs.Chain.{indirect, ChainEnd, Formation, IndirectKind, Its, Itp, Plain, found, kind_by_tag, after_word, after_tally, chain_by, chain_exhausted, chain}
 use Rattle.m36_model.specs.Transfers.{is_taken}
 use Rattle.m36_model.specs.Effect.{is_absa}
-use Rattle.m36_model.specs.Step.{Performed, Operation, request_at, tallied, reading_word, changing, addressing, transferring, by_kind, by_direct, operate_on, operate, Ending, halted, completed, fetched, operated, indirect_words, addressed, no_address, started, admitted, decode, decoded, program}
+use Rattle.m36_model.specs.Step.{Performed, Operation, request_at, with_chain_tally, reading_word, changing, addressing, transferring, operate_by_kind, operate_direct, operate_on, operate, Ending, halted, completed, fetched, operated, indirect_words, addressed, no_address, started, admitted, decode, decoded, program}
 use Rattle.m36_model.specs.declared.outcome.Fault.{Fault}
 use Rattle.m36_model.specs.declared.outcome.Halt.{Halt}
 use Rattle.m36_model.specs.declared.outcome.Halt.TheVariants as halt
@@ -130,13 +130,13 @@ one_in w = (omega arith, omega arith)
 abbrev Left : {A : Type 0} → ℕ → ℕ → A → Type 0
 Left n k a = (1 ≤ n) × (2 ≤ k)
 
-field_even : (w : ℕ) (b : Bool) (f : Found) → (w % 2 == 0) ≡ b → (if b then f else Plain) ≢ Plain → w % 2 ≡ 0
+field_even : (w : ℕ) (b : Bool) (f : IndirectKind) → (w % 2 == 0) ≡ b → (if b then f else Plain) ≢ Plain → w % 2 ≡ 0
 field_even w true f e h = eqb-true (w % 2) 0 e
 field_even w false f e h = absurd (h refl)
 
 pair_even : (w v : ℕ) → found w v ≢ Plain → w % 2 ≡ 0
 unfolding found
-pair_even w v h = field_even w (w % 2 == 0) (found_by_tag (field v 30 6)) refl h
+pair_even w v h = field_even w (w % 2 == 0) (kind_by_tag (field v 30 6)) refl h
 
 module _ (g : RegsFields) where
   abbrev PlansChain : ℕ → ℕ → Option AtFields → Formation → Type 0
@@ -167,7 +167,7 @@ module _ (g : RegsFields) where
   odd_plan c n k next h x y p word even point =
       (one_in (word + 1), (refl, refl, even), n, k, free _ n (odd_free p word even), omega arith, (λ reply. answered_plan Left n k None (λ b. next (point b)) (λ b. h n k None (point b) x y) (λ why. (omega arith, omega arith)) reply))
 
-  word_plan : (c n k : ℕ) (next : Point → Formation) → PlansOn c next → c + 1 ≤ n → c + 3 ≤ k → (p : Point) (word : ℕ) (held : Option ℕ) (a : Answer) (f : Found) → (f ≢ Plain → word % 2 ≡ 0) → PlansChain n k (Some (at_point p word)) (after_word next g p word held a f)
+  word_plan : (c n k : ℕ) (next : Point → Formation) → PlansOn c next → c + 1 ≤ n → c + 3 ≤ k → (p : Point) (word : ℕ) (held : Option ℕ) (a : Answer) (f : IndirectKind) → (f ≢ Plain → word % 2 ≡ 0) → PlansChain n k (Some (at_point p word)) (after_word next g p word held a f)
   word_plan c n k next h x y p word held a Plain even = h n k _ _ x y
   word_plan c n k next h x y p word held a Its even =
       odd_plan c n k next h x y p word (even (λ e. cc)) (λ b. _)
@@ -234,7 +234,7 @@ module _ (g : RegsFields) where
   transferring_plan e i n k last x y c false = tt
   transferring_plan e i n k last x y c true = one_plan n k last x y (request_at Transfer c 1) (one_in c.last.at.word) tt _ (λ a. tt)
 
-  kind_plan : (e : Effect) (i : ℕ) (n k : ℕ) (last : Option AtFields) → 1 ≤ n → 2 ≤ k → (c : ChainEnd) (o : Operand) → PlansOperation n k last (by_kind e i g c o)
+  kind_plan : (e : Effect) (i : ℕ) (n k : ℕ) (last : Option AtFields) → 1 ≤ n → 2 ≤ k → (c : ChainEnd) (o : Operand) → PlansOperation n k last (operate_by_kind e i g c o)
   kind_plan e i n k last x y c kind.R = reading_plan e i n k last x y c
   kind_plan e i n k last x y c kind.R2 = one_plan n k last x y (request_at Read c 2) (pair_in c.last.at.word) tt _ (λ a. tt)
   kind_plan e i n k last x y c kind.R16 = one_plan n k last x y (request_at Read c 16) (block_in c.last.at.word) tt _ (λ a. tt)
@@ -246,11 +246,11 @@ module _ (g : RegsFields) where
   kind_plan e i n k last x y c kind.Rw = changing_plan e i n k last x y c Whole
   kind_plan e i n k last x y c kind.Rwl = changing_plan e i n k last x y c act.Left
   kind_plan e i n k last x y c kind.A = addressing_plan e i n k last x y c (is_absa e)
-  kind_plan e i n k last x y c kind.T = transferring_plan e i n k last x y c (is_taken e (tallied g c))
+  kind_plan e i n k last x y c kind.T = transferring_plan e i n k last x y c (is_taken e (with_chain_tally g c))
   kind_plan e i n k last x y c kind.N = tt
   kind_plan e i n k last x y c kind.Call6 = one_plan n k last x y (request_at Call c 1) (one_in c.last.at.word) tt _ (λ a. tt)
 
-  direct_plan : (e : Effect) (i : ℕ) (n k : ℕ) (last : Option AtFields) → (c : ChainEnd) (w : ℕ) (taken : Bool) → PlansOperation n k last (by_direct e i g c w taken)
+  direct_plan : (e : Effect) (i : ℕ) (n k : ℕ) (last : Option AtFields) → (c : ChainEnd) (w : ℕ) (taken : Bool) → PlansOperation n k last (operate_direct e i g c w taken)
   direct_plan e i n k last c w true = tt
   direct_plan e i n k last c w false = tt
 

@@ -4,7 +4,7 @@ use Rattle.std.proofs.Common.{◌≡◌, refl, subst}
 use Rattle.std.specs.Prelude.{Result, Ok, Err}
 use Rattle.m36_model.specs.Registers.{RegsFields}
 use Rattle.m36_model.specs.Act.{Request, Answer, Act, done, ask, and_then}
-use Rattle.m36_model.specs.Store.{Store, Midstep, Served, Ran, serve, run}
+use Rattle.m36_model.specs.Store.{Store, Midstep, Served, ProgramResult, serve, run}
 use Rattle.m36_model.specs.declared.outcome.Fault.{Fault}
 use Rattle.m36_model.specs.declared.outcome.Halt.{Halt}
 
@@ -28,12 +28,12 @@ Either ok halted (Ok a) = ok a
 Either ok halted (Err h) = halted h
 
 -- the replies to one request to two stores
-pub record AreServed {S S' : Type 0} (Alike : Midstep S → Midstep S' → Type 0) (Known : Answer → Type 0) (t : Served S) (u : Served S') : Type 0 where
+pub record ArePageFaultsServed {S S' : Type 0} (Alike : Midstep S → Midstep S' → Type 0) (Known : Answer → Type 0) (t : Served S) (u : Served S') : Type 0 where
   pub reply : t.reply ≡ u.reply
   pub mid : Alike t.mid u.mid
   pub known : (a : Answer) → t.reply ≡ Ok a → Known a
 
-pub record AreRan {A S S' : Type 0} (Alike : Midstep S → Midstep S' → Type 0) (Post : A → Type 0) (t : Ran A S) (u : Ran A S') : Type 0 where
+pub record AreRan {A S S' : Type 0} (Alike : Midstep S → Midstep S' → Type 0) (Post : A → Type 0) (t : ProgramResult A S) (u : ProgramResult A S') : Type 0 where
   pub value : t.value ≡ u.value
   pub mid : Alike t.mid u.mid
   pub post : Post t.value
@@ -45,7 +45,7 @@ meets_reply may fact post q next h (Err f) known = h.1 f
 
 -- Two runs of one program have the same results if each request that may be made has the same
 -- reply.
-module _ {A S S' : Type 0} (o : Store S) (o' : Store S') (g : RegsFields) (may : Request → Type 0) (fact : Request → Answer → Type 0) (Alike : Midstep S → Midstep S' → Type 0) (alike : (x : Midstep S) (y : Midstep S') (q : Request) → may q → Alike x y → AreServed Alike (fact q) (serve o g x q) (serve o' g y q)) (post : A → Type 0) where
+module _ {A S S' : Type 0} (o : Store S) (o' : Store S') (g : RegsFields) (may : Request → Type 0) (fact : Request → Answer → Type 0) (Alike : Midstep S → Midstep S' → Type 0) (alike : (x : Midstep S) (y : Midstep S') (q : Request) → may q → Alike x y → ArePageFaultsServed Alike (fact q) (serve o g x q) (serve o' g y q)) (post : A → Type 0) where
   pub run_alike : (m : Act A) (x : Midstep S) (y : Midstep S') → Meets may fact post m → Alike x y → AreRan Alike post (run o g m x) (run o' g m y)
   unfolding run
   run_alike (done a) x y h k = record { value = refl; mid = k; post = h }

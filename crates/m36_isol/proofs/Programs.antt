@@ -14,7 +14,7 @@ use Rattle.m36_inst.specs.declared.operand.Operand.TheVariants as kind
 use Rattle.m36_model.specs.Fields.{FinalFields}
 use Rattle.m36_model.specs.Registers.{RegsFields}
 use Rattle.m36_model.specs.Act.{Act, either}
-use Rattle.m36_model.specs.Modification.{here, fault_at}
+use Rattle.m36_model.specs.Modification.{here, halt_at}
 use Rattle.m36_model.specs.FirstPoint.{first_point, first_point_by}
 use Rattle.m36_model.specs.Chain.{ChainEnd, chain}
 use Rattle.m36_model.specs.Step.{Performed, Ending, outcome_after, halted, completed, operate, operated, indirect_words, addressed, no_address, started, admitted, decode, decoded, has_right, program}
@@ -131,8 +131,8 @@ module _ (sdws : ℕ → Result SdwFields Refusal) (r : ℕ) (g : RegsFields) wh
     first_point_low i = first_low i.by_pr i
 
     no_address_meets : (e : Effect) (w : ℕ) → MeetsEnd (no_address e g w)
-    no_address_meets effect.Mme w = halted_meets (Some w) None (fault_at 2 (here g))
-    no_address_meets effect.Drl w = halted_meets (Some w) None (fault_at 6 (here g))
+    no_address_meets effect.Mme w = halted_meets (Some w) None (halt_at 2 (here g))
+    no_address_meets effect.Drl w = halted_meets (Some w) None (halt_at 6 (here g))
     no_address_meets _ w = halted_meets (Some w) None (halt.Stop stop.Dis)
 
     module _ (guarded : IsGuarded g.dbr sdws) (executes : Sees sdws r g.ppr.psr) where
@@ -154,7 +154,7 @@ module _ (sdws : ℕ → Result SdwFields Refusal) (r : ℕ) (g : RegsFields) wh
       started_meets e n w row lowest _ = addressed_meets e n w row lowest
 
       admitted_meets : (e : Effect) (n w : ℕ) → decode w ≡ Some (e, n) → (refused : Bool) → (refused ≡ false → e ≡ effect.Ldbr → g.ppr.prr ≡ 0) → MeetsEnd (admitted e n g w refused)
-      admitted_meets e n w row true lowest = halted_meets (Some w) None (fault_at 10 (here g))
+      admitted_meets e n w row true lowest = halted_meets (Some w) None (halt_at 10 (here g))
       admitted_meets e n w row false lowest = started_meets e n w row (lowest refl) (operand_of e)
 
       -- LDBR is privileged

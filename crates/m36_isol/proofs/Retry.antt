@@ -3,22 +3,22 @@ use Rattle.std.proofs.Common.{◌≡◌, refl, sym, ◌∙◌, ap, subst, inl, i
 use Rattle.std.specs.Prelude.{ℕ, ◌/◌, ◌≤◌, ◌≢◌, ◌⊎◌, Bool, true, false, ◌&&◌, ◌==◌, List, Option, Some, None, Result, Ok, Err}
 use Rattle.std.proofs.lemmas.Bool.{and_parts, not-false}
 use Rattle.m36_desc.specs.Fields.{SdwFields, DbrFields}
-use Rattle.m36_desc.specs.Access.{in_order}
+use Rattle.m36_desc.specs.Access.{has_ordered_brackets}
 use Rattle.m36_model.specs.Fields.{AtFields}
 use Rattle.m36_model.specs.Registers.{RegsFields}
 use Rattle.m36_model.specs.Act.{RequestKind, Fetch, Indirect, Odd, Read, Write, Transfer, Call, Locate, Request, Answer, Act, done, ask}
-use Rattle.m36_model.specs.Store.{Spot, Midstep, Served, violation, fault_by, within, place, place_by, place_within, when_ordered, places, is_target, touches, with_reference, serve}
+use Rattle.m36_model.specs.Store.{Spot, Midstep, Served, violation, fault_by, is_within_bound, place, place_by, place_within, when_ordered, places, is_target, touches, with_reference, serve}
 use Rattle.m36_model.specs.Core.{core_store}
 use Rattle.m36_model.specs.Place.{core_sdw, core_spot}
 use Rattle.m36_model.specs.Flat.{Flat, flat_store}
 use Rattle.m36_model.specs.BootedCore.{booted_dbr, absent_ptw, IsPage, page_word, IsLaid}
-use Rattle.m36_model.specs.Residence.{absence, Lacks}
+use Rattle.m36_model.specs.Residence.{absence, PageIsAbsent}
 use Rattle.m36_model.specs.declared.outcome.Fault.{Fault}
 use Rattle.m36_model.specs.declared.outcome.Refusal.{Refusal}
 use Rattle.m36_isol.proofs.CoreTables.{same_sdw, same_spot_of}
 use Rattle.m36_isol.proofs.Laid.{page_of_word, absent_spot, resident_spot}
 use Rattle.m36_isol.proofs.Booted.{StandsFor, IsPair, booted_mirrors}
-use Rattle.m36_isol.proofs.Mirror.{Mirrors, AreMids, IsServed, alike, cut, told_place, serve_mirrors, Stops, EndTwo, Asks}
+use Rattle.m36_isol.proofs.Mirror.{Mirrors, AreMids, IsPageFaultServed, alike, cut, told_place, serve_mirrors, Stops, EndTwo, Asks}
 use Rattle.m36_isol.proofs.Plan.{has_page, same_page, fresh_by, fresh, last_by, InPage}
 use Rattle.m36_isol.proofs.Pages.{IsReplied, is_refused, is_answered, serve_replied, places_placed, target_number}
 
@@ -123,7 +123,7 @@ not_lacking : (v : Result Spot Refusal) (spot : Spot) → v ≡ Ok spot → v �
 not_lacking v spot e f = cc
 
 module _ (core : List ℕ) (frames : ℕ) (laid : IsLaid core frames) where
-  by_tests : (seg w : ℕ) (d : SdwFields) → core_sdw core booted_dbr seg ≡ Ok d → (a b : Bool) → within d w ≡ b → when_ordered a (place_within b (core_spot core booted_dbr d seg w)) ≡ Err absence → IsAbsent core seg (w / 1024)
+  by_tests : (seg w : ℕ) (d : SdwFields) → core_sdw core booted_dbr seg ≡ Ok d → (a b : Bool) → is_within_bound d w ≡ b → when_ordered a (place_within b (core_spot core booted_dbr d seg w)) ≡ Err absence → IsAbsent core seg (w / 1024)
   by_tests seg w d live true true inside h =
       let p = page_of_word core frames laid seg w d live inside in
       ⊎_elim (λ e. record { page_is = p; word = e }) (λ k. absurd (not_lacking _ _ (resident_spot core frames laid seg w k.0 d live inside k.1) h)) (laid.pages seg (w / 1024) p)
@@ -134,10 +134,10 @@ module _ (core : List ℕ) (frames : ℕ) (laid : IsLaid core frames) where
   lacks_by seg w (Err why) live h =
       let k : why ≡ absence = cc in
       absurd (laid.dead seg why live (ap (λ (r : Refusal). r.number) k))
-  lacks_by seg w (Ok d) live h = by_tests seg w d live (in_order d) (within d w) refl h
+  lacks_by seg w (Ok d) live h = by_tests seg w d live (has_ordered_brackets d) (is_within_bound d w) refl h
 
   -- a word without a place is of a page that is in no frame
-  pub lacks_page : (seg w : ℕ) → Lacks core seg w → IsAbsent core seg (w / 1024)
+  pub lacks_page : (seg w : ℕ) → PageIsAbsent core seg w → IsAbsent core seg (w / 1024)
   unfolding place
   lacks_page seg w h = lacks_by seg w (core_sdw core booted_dbr seg) refl h
 
@@ -151,9 +151,9 @@ module _ (core : List ℕ) (frames : ℕ) (laid : IsLaid core frames) where
     abbrev pub Stand : Midstep (List ℕ) → Midstep Flat → Type 0
     Stand x y = AreMids M Pair start x y
 
-    mirrors : Mirrors core_store flat_store g.dbr M Pair (Lacks core)
+    mirrors : Mirrors core_store flat_store g.dbr M Pair (PageIsAbsent core)
     mirrors =
-        subst (λ (d : DbrFields). Mirrors core_store flat_store d M Pair (Lacks core)) (sym dbr) (booted_mirrors core frames laid kept)
+        subst (λ (d : DbrFields). Mirrors core_store flat_store d M Pair (PageIsAbsent core)) (sym dbr) (booted_mirrors core frames laid kept)
 
     -- the page of an answered reference is in a frame
     answered_holds : (x : Midstep (List ℕ)) (y : Midstep Flat) → Stand x y → (q : Request) → is_target q.kind ≡ false → 1 ≤ q.count → (d : SdwFields) → core_sdw x.store g.dbr q.at.seg ≡ Ok d → (spots : List Spot) → places core_store x.store g.dbr d q ≡ Ok spots → HoldsAt core q.at
@@ -182,7 +182,7 @@ module _ (core : List ℕ) (frames : ℕ) (laid : IsLaid core frames) where
         (sym (ap (λ (x : Fault). x.at.seg) same), omega arith)
     fault_place x q inside t (is_answered a reply refs d live ordered spots found) f h = cc
 
-    cut_here : (x : Midstep (List ℕ)) (q : Request) → InPage q → (f : Fault) → (serve core_store g x q).reply ≡ Err f → Lacks core f.at.seg f.at.word → IsCutHere q f
+    cut_here : (x : Midstep (List ℕ)) (q : Request) → InPage q → (f : Fault) → (serve core_store g x q).reply ≡ Err f → PageIsAbsent core f.at.seg f.at.word → IsCutHere q f
     cut_here x q inside f h lacks =
         let at = fault_place x q inside (serve core_store g x q) (serve_replied core_store g x q inside.1) f h in
         let seg = at.0 in
@@ -206,7 +206,7 @@ module _ (core : List ℕ) (frames : ℕ) (laid : IsLaid core frames) where
     on_reply post stop R x y q next asks both mids others (Err f) e =
         is_over (Err f) e (stops_over stop f (next (Err f)) (asks.1 f)) (others f e)
 
-    on_served : {A : Type 0} (post : A → Type 0) (stop : Fault → A → Type 0) (R : A → A → Type 0) (x : Midstep (List ℕ)) (y : Midstep Flat) (q : Request) (next : Result Answer Fault → Act A) → Asks post stop R (ask q next) → InPage q → IsServed M Pair (Lacks core) start q.kind x (serve core_store g x q) (serve flat_store g y q) → IsOn x y q next
+    on_served : {A : Type 0} (post : A → Type 0) (stop : Fault → A → Type 0) (R : A → A → Type 0) (x : Midstep (List ℕ)) (y : Midstep Flat) (q : Request) (next : Result Answer Fault → Act A) → Asks post stop R (ask q next) → InPage q → IsPageFaultServed M Pair (PageIsAbsent core) start q.kind x (serve core_store g x q) (serve flat_store g y q) → IsOn x y q next
     on_served post stop R x y q next asks inside (alike e mids others) =
         on_reply post stop R x y q next asks e mids others _ refl
     on_served post stop R x y q next asks inside (cut f e is lacks mid) =
@@ -216,7 +216,7 @@ module _ (core : List ℕ) (frames : ℕ) (laid : IsLaid core frames) where
 
     pub one_request : {A : Type 0} (post : A → Type 0) (stop : Fault → A → Type 0) (R : A → A → Type 0) (x : Midstep (List ℕ)) (y : Midstep Flat) (q : Request) (next : Result Answer Fault → Act A) → Asks post stop R (ask q next) → InPage q → Stand x y → IsOn x y q next
     one_request post stop R x y q next asks inside k =
-        on_served post stop R x y q next asks inside (serve_mirrors core_store flat_store g M Pair (Lacks core) mirrors start x y k q inside.1)
+        on_served post stop R x y q next asks inside (serve_mirrors core_store flat_store g M Pair (PageIsAbsent core) mirrors start x y k q inside.1)
 
     -- a target has no page
     target_by : (x : Midstep (List ℕ)) (y : Midstep Flat) → Stand x y → (q : Request) → is_target q.kind ≡ true → (t : Served (List ℕ)) → IsReplied core_store g x q t → (f : Fault) → t.reply ≡ Err f → f.number ≢ 17

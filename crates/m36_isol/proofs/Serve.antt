@@ -5,17 +5,17 @@ use Rattle.std.proofs.Math.Nat.{le_trans}
 use Rattle.std.specs.Prelude.{ℕ, ◌+◌, ◌≤◌, true, ◌==◌, List, [], ◌∷◌, ◌++◌, map, length, Option, Some, None, Result, Ok, Err}
 use Rattle.std.proofs.lemmas.Bool.{eqb-true, or_left, or_right}
 use Rattle.m36_desc.specs.Fields.{SdwFields}
-use Rattle.m36_desc.specs.Access.{in_order}
+use Rattle.m36_desc.specs.Access.{has_ordered_brackets}
 use Rattle.m36_model.specs.Fields.{AtFields}
 use Rattle.m36_model.specs.Registers.{RegsFields}
 use Rattle.m36_model.specs.Act.{RequestKind, Fetch, Indirect, Odd, Read, Write, Transfer, Call, Locate, Put, Request, Answer}
-use Rattle.m36_model.specs.Store.{Spot, Change, Store, Midstep, Served, spots_of, places, changes, denied, serve, serve_sdw, serve_rights, serve_places, with_odd, located}
-use Rattle.m36_model.specs.StoreLaw.{Each, IsWord, IsSpot, Lawful, overlay}
+use Rattle.m36_model.specs.Store.{Spot, Change, Store, Midstep, Served, spots_of, places, changes, refusing_violation, serve, serve_sdw, serve_rights, serve_places, with_odd, located_address}
+use Rattle.m36_model.specs.StoreLaw.{Each, IsPlacedWord, IsSegmentChange, Lawful, overlay}
 use Rattle.m36_model.specs.declared.outcome.Fault.{Fault}
 use Rattle.m36_model.specs.declared.outcome.Refusal.{Refusal}
 use Rattle.m36_model.specs.declared.place.Reference.{Reference}
 use Rattle.m36_isol.proofs.Mirror.{asked, one_more}
-use Rattle.m36_isol.proofs.Program.{AreServed}
+use Rattle.m36_isol.proofs.Program.{ArePageFaultsServed}
 use Rattle.m36_isol.proofs.Rights.{denied_order, fetch_rights, read_rights, indirect_rights, odd_rights, write_rights}
 use Rattle.m36_isol.specs.Rights.{MayRead, MayFetch}
 use Rattle.m36_isol.proofs.Alike.{Sees, Reaches, IsReached, IsAllowedReference, May, MayRing, Known, IsKept, Alike, SeeEqual}
@@ -26,10 +26,10 @@ module _ {S : Type 0} (o : Store S) (g : RegsFields) (Has : S → Type 0) (Lies 
   Stand = Alike o Has Lies Near L.sdws L.spots r first other
 
   abbrev Serves : Request → Served S → Served S → Type 0
-  Serves q t u = AreServed Stand (Known L.sdws g q) t u
+  Serves q t u = ArePageFaultsServed Stand (Known L.sdws g q) t u
 
   -- marks preserve what is known of a store
-  after_mark : (start now : S) → IsKept o Has Lies Near start now → (kind : RequestKind) (seg w : ℕ) (p : Spot) → IsWord L.sdws L.spots seg w p → IsKept o Has Lies Near start (o.marked now g.dbr kind seg w)
+  after_mark : (start now : S) → IsKept o Has Lies Near start now → (kind : RequestKind) (seg w : ℕ) (p : Spot) → IsPlacedWord L.sdws L.spots seg w p → IsKept o Has Lies Near start (o.marked now g.dbr kind seg w)
   after_mark start now k kind seg w p word =
       record {
         has = L.marks_tables now k.has kind seg w p word;
@@ -38,13 +38,13 @@ module _ {S : Type 0} (o : Store S) (g : RegsFields) (Has : S → Type 0) (Lies 
       }
 
   -- the words of a segment that ring r can see are read with equal values, also with pending writes
-  one_read : (s t : S) → IsKept o Has Lies Near first s → IsKept o Has Lies Near other t → (puts : List Change) → Each (IsSpot L.sdws L.spots) puts → (seg w : ℕ) (p : Spot) → Sees L.sdws r seg → IsWord L.sdws L.spots seg w p → o.word (o.put s puts) p ≡ o.word (o.put t puts) p
+  one_read : (s t : S) → IsKept o Has Lies Near first s → IsKept o Has Lies Near other t → (puts : List Change) → Each (IsSegmentChange L.sdws L.spots) puts → (seg w : ℕ) (p : Spot) → Sees L.sdws r seg → IsPlacedWord L.sdws L.spots seg w p → o.word (o.put s puts) p ≡ o.word (o.put t puts) p
   one_read s t k l puts spots seg w p sees word =
       let lies = L.lies seg w p word in
       let here = k.words p lies ∙ equal seg w p sees word ∙ sym (l.words p lies) in
       L.put_word s k.has puts spots p lies ∙ ap (overlay puts p) here ∙ sym (L.put_word t l.has puts spots p lies)
 
-  words_read : (s t : S) → IsKept o Has Lies Near first s → IsKept o Has Lies Near other t → (puts : List Change) → Each (IsSpot L.sdws L.spots) puts → (seg w : ℕ) → Sees L.sdws r seg → (list : List Spot) → AreWords L.sdws L.spots seg w list → map (o.word (o.put s puts)) list ≡ map (o.word (o.put t puts)) list
+  words_read : (s t : S) → IsKept o Has Lies Near first s → IsKept o Has Lies Near other t → (puts : List Change) → Each (IsSegmentChange L.sdws L.spots) puts → (seg w : ℕ) → Sees L.sdws r seg → (list : List Spot) → AreWords L.sdws L.spots seg w list → map (o.word (o.put s puts)) list ≡ map (o.word (o.put t puts)) list
   words_read s t k l puts spots seg w sees [] h = refl
   words_read s t k l puts spots seg w sees (p ∷ list) h =
       let here = one_read s t k l puts spots seg w p sees h.0 in
@@ -57,7 +57,7 @@ module _ {S : Type 0} (o : Store S) (g : RegsFields) (Has : S → Type 0) (Lies 
   all_reached seg w reaches (p ∷ list) h =
       (record { seg = seg; w = w; word = h.0; reaches = reaches }, all_reached seg (w + 1) reaches list h.1)
 
-  spot_of_reached : (p : Change) → IsReached L.sdws L.spots r p.spot → IsSpot L.sdws L.spots p
+  spot_of_reached : (p : Change) → IsReached L.sdws L.spots r p.spot → IsSegmentChange L.sdws L.spots p
   spot_of_reached p h = record { seg = h.seg; w = h.w; word = h.word }
 
   -- ring r can see what may be read
@@ -73,7 +73,7 @@ module _ {S : Type 0} (o : Store S) (g : RegsFields) (Has : S → Type 0) (Lies 
       record { sdw = d; live = live; opens = or_right d.readable d.executable m.executable; high = le_trans low m.high }
 
   abbrev Allows : RequestKind → AtFields → SdwFields → Type 0
-  Allows kind at d = denied kind d at.ring g.ppr.prr (at.seg == g.ppr.psr) at.word ≡ None
+  Allows kind at d = refusing_violation kind d at.ring g.ppr.prr (at.seg == g.ppr.psr) at.word ≡ None
 
   -- the replies to a kind that reads, to a Write, and to a kind that leaves the store unchanged
   abbrev read_answer : RequestKind → AtFields → List Put → SdwFields → Midstep S → List Spot → List Reference → Served S
@@ -93,13 +93,13 @@ module _ {S : Type 0} (o : Store S) (g : RegsFields) (Has : S → Type 0) (Lies 
       let same : b ≡ a = cc in
       subst (λ (c : Answer). Known L.sdws g q c) same (record { live = live; allowed = allowed })
 
-  served_reading : (kind : RequestKind) (at : AtFields) (count : ℕ) (pending : List Put) (d : SdwFields) → L.sdws at.seg ≡ Ok d → Allows kind at d → Sees L.sdws r at.seg → (x y : Midstep S) → Stand x y → (list : List Spot) (p : Spot) → IsWord L.sdws L.spots at.seg at.word p → AreWords L.sdws L.spots at.seg at.word list → (refs more : List Reference) → refs ≡ more → Each (IsAllowedReference L.sdws r) refs → Serves (asked kind at count pending) (read_answer kind at pending d x list refs) (read_answer kind at pending d y list more)
+  served_reading : (kind : RequestKind) (at : AtFields) (count : ℕ) (pending : List Put) (d : SdwFields) → L.sdws at.seg ≡ Ok d → Allows kind at d → Sees L.sdws r at.seg → (x y : Midstep S) → Stand x y → (list : List Spot) (p : Spot) → IsPlacedWord L.sdws L.spots at.seg at.word p → AreWords L.sdws L.spots at.seg at.word list → (refs more : List Reference) → refs ≡ more → Each (IsAllowedReference L.sdws r) refs → Serves (asked kind at count pending) (read_answer kind at pending d x list refs) (read_answer kind at pending d y list more)
   served_reading kind at count pending d live allowed sees x y k list p word words refs more same each =
       let s = o.marked x.store g.dbr kind at.seg at.word in
       let t = o.marked y.store g.dbr kind at.seg at.word in
       let kept = after_mark first x.store k.kept kind at.seg at.word p word in
       let kept_other = after_mark other y.store k.kept_other kind at.seg at.word p word in
-      let puts = each_map _ (IsSpot L.sdws L.spots) spot_of_reached (changes x.claims pending) (each_change (IsReached L.sdws L.spots r) x.claims k.claimed pending) in
+      let puts = each_map _ (IsSegmentChange L.sdws L.spots) spot_of_reached (changes x.claims pending) (each_change (IsReached L.sdws L.spots r) x.claims k.claimed pending) in
       let here = words_read s t kept kept_other (changes x.claims pending) puts at.seg at.word sees list words in
       let read : map (o.word (o.put s (changes x.claims pending))) list ≡ map (o.word (o.put t (changes y.claims pending))) list = here ∙ ap (λ (c : List Spot). map (o.word (o.put t (changes c pending))) list) k.claims in
       let number : length x.claims ≡ length y.claims = ap length k.claims in
@@ -116,7 +116,7 @@ module _ {S : Type 0} (o : Store S) (g : RegsFields) (Has : S → Type 0) (Lies 
         mid = record { store = o.marked m.store g.dbr Write at.seg at.word; claims = m.claims ++ list; refs = refs };
       }
 
-  served_writing : (at : AtFields) (count : ℕ) (pending : List Put) (d : SdwFields) → L.sdws at.seg ≡ Ok d → Allows Write at d → Reaches L.sdws r at.seg → (x y : Midstep S) → Stand x y → (list : List Spot) (p : Spot) → IsWord L.sdws L.spots at.seg at.word p → AreWords L.sdws L.spots at.seg at.word list → (refs more : List Reference) → refs ≡ more → Each (IsAllowedReference L.sdws r) refs → Serves (asked Write at count pending) (write_answer at d x list refs) (write_answer at d y list more)
+  served_writing : (at : AtFields) (count : ℕ) (pending : List Put) (d : SdwFields) → L.sdws at.seg ≡ Ok d → Allows Write at d → Reaches L.sdws r at.seg → (x y : Midstep S) → Stand x y → (list : List Spot) (p : Spot) → IsPlacedWord L.sdws L.spots at.seg at.word p → AreWords L.sdws L.spots at.seg at.word list → (refs more : List Reference) → refs ≡ more → Each (IsAllowedReference L.sdws r) refs → Serves (asked Write at count pending) (write_answer at d x list refs) (write_answer at d y list more)
   served_writing at count pending d live allowed reaches x y k list p word words refs more same each =
       let number : length x.claims ≡ length y.claims = ap length k.claims in
       record {
@@ -167,7 +167,7 @@ module _ {S : Type 0} (o : Store S) (g : RegsFields) (Has : S → Type 0) (Lies 
   by_list kind at count pending some ring d live allowed x y k (Err e) found = served_refused _ _ x y k
   by_list Transfer at count pending some ring d live allowed x y k (Ok list) found = served_plain (asked Transfer at count pending) d 0 live allowed x y k
   by_list Call at count pending some ring d live allowed x y k (Ok list) found = served_plain (asked Call at count pending) d 0 live allowed x y k
-  by_list Locate at count pending some ring d live allowed x y k (Ok list) found = served_plain (asked Locate at count pending) d (located Locate list) live allowed x y k
+  by_list Locate at count pending some ring d live allowed x y k (Ok list) found = served_plain (asked Locate at count pending) d (located_address Locate list) live allowed x y k
   by_list Fetch at count pending some ring d live allowed x y k (Ok list) found =
       let sees = fetcher at.seg d live (fetch_rights d at.ring g.ppr.prr (at.seg == g.ppr.psr) at.word allowed) in
       found_reading Fetch at count pending some d live allowed sees x y k list found _ _ (ap (one_more Fetch at count pending) k.refs) (each_append (IsAllowedReference L.sdws r) x.refs _ k.allowed (sees, tt))
@@ -190,7 +190,7 @@ module _ {S : Type 0} (o : Store S) (g : RegsFields) (Has : S → Type 0) (Lies 
       served_writing at count pending d live allowed reaches x y k list b.spot b.word words _ _ refs (each_append (IsAllowedReference L.sdws r) x.refs _ k.allowed (reaches, tt))
 
   -- both stores find the same places
-  same_places : (kind : RequestKind) (at : AtFields) (count : ℕ) (pending : List Put) (d : SdwFields) → L.sdws at.seg ≡ Ok d → in_order d ≡ true → (s t : S) → Has s → Has t → places o s g.dbr d (asked kind at count pending) ≡ places o t g.dbr d (asked kind at count pending)
+  same_places : (kind : RequestKind) (at : AtFields) (count : ℕ) (pending : List Put) (d : SdwFields) → L.sdws at.seg ≡ Ok d → has_ordered_brackets d ≡ true → (s t : S) → Has s → Has t → places o s g.dbr d (asked kind at count pending) ≡ places o t g.dbr d (asked kind at count pending)
   unfolding places
   same_places Transfer at count pending d live ordered s t h l = refl
   same_places Call at count pending d live ordered s t h l = refl
@@ -203,14 +203,14 @@ module _ {S : Type 0} (o : Store S) (g : RegsFields) (Has : S → Type 0) (Lies 
       let same = same_places q.kind q.at q.count q.pending d live ordered x.store y.store k.kept.has k.kept_other.has in
       subst (λ (v : Result (List Spot) (ℕ × Refusal)). Serves q (serve_places o g x q d (places o x.store g.dbr d q)) (serve_places o g y q d v)) same (by_list q.kind q.at q.count q.pending may.some may.ring d live allowed x y k (places o x.store g.dbr d q) refl)
 
-  by_rights : (q : Request) → May L.sdws r g q → (d : SdwFields) → L.sdws q.at.seg ≡ Ok d → (v : Option ℕ) → denied q.kind d q.at.ring g.ppr.prr (q.at.seg == g.ppr.psr) q.at.word ≡ v → (x y : Midstep S) → Stand x y → Serves q (serve_rights o g x q d v) (serve_rights o g y q d v)
+  by_rights : (q : Request) → May L.sdws r g q → (d : SdwFields) → L.sdws q.at.seg ≡ Ok d → (v : Option ℕ) → refusing_violation q.kind d q.at.ring g.ppr.prr (q.at.seg == g.ppr.psr) q.at.word ≡ v → (x y : Midstep S) → Stand x y → Serves q (serve_rights o g x q d v) (serve_rights o g y q d v)
   by_rights q may d live (Some acv) e x y k = served_refused q _ x y k
   by_rights q may d live None e x y k = by_places q may d live e x y k
 
   by_sdw : (q : Request) → May L.sdws r g q → (v : Result SdwFields Refusal) → L.sdws q.at.seg ≡ v → (x y : Midstep S) → Stand x y → Serves q (serve_sdw o g x q v) (serve_sdw o g y q v)
   by_sdw q may (Err why) e x y k = served_refused q _ x y k
   by_sdw q may (Ok d) e x y k =
-      by_rights q may d e (denied q.kind d q.at.ring g.ppr.prr (q.at.seg == g.ppr.psr) q.at.word) refl x y k
+      by_rights q may d e (refusing_violation q.kind d q.at.ring g.ppr.prr (q.at.seg == g.ppr.psr) q.at.word) refl x y k
 
   -- A request that may be made has equal replies from both stores.
   pub serve_alike : (x y : Midstep S) (q : Request) → May L.sdws r g q → Stand x y → Serves q (serve o g x q) (serve o g y q)

@@ -3,14 +3,14 @@ use Rattle.std.proofs.Common.{◌≡◌, refl, sym, ◌∙◌, subst, arith}
 use Rattle.std.specs.Prelude.{ℕ, zero, suc, ◌+◌, ◌≤◌, Bool, true, false, List, [], ◌∷◌, ◌++◌, slice_get, Option, Some, None, Result, Ok, Err}
 use Rattle.std.proofs.lemmas.Bool.{and_from}
 use Rattle.m36_desc.specs.Fields.{SdwFields, DbrFields}
-use Rattle.m36_desc.specs.Access.{in_order}
+use Rattle.m36_desc.specs.Access.{has_ordered_brackets}
 use Rattle.m36_model.specs.Act.{Put}
-use Rattle.m36_model.specs.Store.{Spot, Change, Store, within, placed, placed_one, spots_of, changes, change_of}
-use Rattle.m36_model.specs.StoreLaw.{Each, IsWord, Lawful}
+use Rattle.m36_model.specs.Store.{Spot, Change, Store, is_within_bound, placed, spots_from, spots_of, changes, change_of}
+use Rattle.m36_model.specs.StoreLaw.{Each, IsPlacedWord, Lawful}
 use Rattle.m36_model.specs.declared.outcome.Refusal.{Refusal}
 
-pub placed_by : (d : SdwFields) (w : ℕ) → in_order d ≡ true → within d w ≡ true → placed d w ≡ true
-placed_by d w h k = and_from (in_order d) (within d w) h k
+pub placed_by : (d : SdwFields) (w : ℕ) → has_ordered_brackets d ≡ true → is_within_bound d w ≡ true → placed d w ≡ true
+placed_by d w h k = and_from (has_ordered_brackets d) (is_within_bound d w) h k
 
 pub each_append : {A : Type 0} (P : A → Type 0) (xs ys : List A) → Each P xs → Each P ys → Each P (xs ++ ys)
 each_append P [] ys h k = k
@@ -19,11 +19,11 @@ each_append P (x ∷ xs) ys h k = (h.0, each_append P xs ys h.1 k)
 -- these are the spots of the words of a segment from word w on
 abbrev pub AreWords : (ℕ → Result SdwFields Refusal) → (SdwFields → ℕ → ℕ → Result Spot Refusal) → ℕ → ℕ → List Spot → Type 0
 AreWords sdws spots seg w [] = Unit {0}
-AreWords sdws spots seg w (p ∷ ps) = IsWord sdws spots seg w p × AreWords sdws spots seg (w + 1) ps
+AreWords sdws spots seg w (p ∷ ps) = IsPlacedWord sdws spots seg w p × AreWords sdws spots seg (w + 1) ps
 
-module _ {S : Type 0} (o : Store S) (dbr : DbrFields) (Has : S → Type 0) (Lies : Spot → Type 0) (Near : S → S → Type 0) (L : Lawful o dbr Has Lies Near) (seg : ℕ) (d : SdwFields) (live : L.sdws seg ≡ Ok d) (ordered : in_order d ≡ true) where
+module _ {S : Type 0} (o : Store S) (dbr : DbrFields) (Has : S → Type 0) (Lies : Spot → Type 0) (Near : S → S → Type 0) (L : Lawful o dbr Has Lies Near) (seg : ℕ) (d : SdwFields) (live : L.sdws seg ≡ Ok d) (ordered : has_ordered_brackets d ≡ true) where
   -- two stores with the same tables have the same spots
-  same_one : (s t : S) → Has s → Has t → (w : ℕ) (b : Bool) → within d w ≡ b → (rest more : Result (List Spot) (ℕ × Refusal)) → rest ≡ more → placed_one b w (o.spot s dbr d seg w) rest ≡ placed_one b w (o.spot t dbr d seg w) more
+  same_one : (s t : S) → Has s → Has t → (w : ℕ) (b : Bool) → is_within_bound d w ≡ b → (rest more : Result (List Spot) (ℕ × Refusal)) → rest ≡ more → spots_from b w (o.spot s dbr d seg w) rest ≡ spots_from b w (o.spot t dbr d seg w) more
   same_one s t h k w false e rest more f = refl
   same_one s t h k w true e rest more f =
       let p = placed_by d w ordered e in
@@ -33,17 +33,17 @@ module _ {S : Type 0} (o : Store S) (dbr : DbrFields) (Has : S → Type 0) (Lies
   pub same_spots : (s t : S) → Has s → Has t → (w n : ℕ) → spots_of o s dbr d seg w n ≡ spots_of o t dbr d seg w n
   unfolding spots_of
   same_spots s t h k w zero = refl
-  same_spots s t h k w (suc n) = same_one s t h k w (within d w) refl _ _ (same_spots s t h k (w + 1) n)
+  same_spots s t h k w (suc n) = same_one s t h k w (is_within_bound d w) refl _ _ (same_spots s t h k (w + 1) n)
 
   -- the spots of a reference begin with that of its first word
   pub record Begins (w : ℕ) (list : List Spot) : Type 0 where
     pub spot : Spot
     pub more : List Spot
     pub whole : list ≡ spot ∷ more
-    pub word : IsWord L.sdws L.spots seg w spot
+    pub word : IsPlacedWord L.sdws L.spots seg w spot
     pub words : AreWords L.sdws L.spots seg (w + 1) more
 
-  begins_by : (s : S) → Has s → (w : ℕ) (b : Bool) → within d w ≡ b → (v : Result Spot Refusal) → o.spot s dbr d seg w ≡ v → (rest : Result (List Spot) (ℕ × Refusal)) → ((ps : List Spot) → rest ≡ Ok ps → AreWords L.sdws L.spots seg (w + 1) ps) → (list : List Spot) → placed_one b w v rest ≡ Ok list → Begins w list
+  begins_by : (s : S) → Has s → (w : ℕ) (b : Bool) → is_within_bound d w ≡ b → (v : Result Spot Refusal) → o.spot s dbr d seg w ≡ v → (rest : Result (List Spot) (ℕ × Refusal)) → ((ps : List Spot) → rest ≡ Ok ps → AreWords L.sdws L.spots seg (w + 1) ps) → (list : List Spot) → spots_from b w v rest ≡ Ok list → Begins w list
   begins_by s h w false e v f rest k list whole = cc
   begins_by s h w true e (Err why) f rest k list whole = cc
   begins_by s h w true e (Ok spot) f (Err why) k list whole = cc
@@ -68,13 +68,13 @@ module _ {S : Type 0} (o : Store S) (dbr : DbrFields) (Has : S → Type 0) (Lies
   unfolding spots_of
   are_words s h w zero list e = let f : list ≡ [] = cc in rw f tt
   are_words s h w (suc n) list e =
-      words_of_begins w list (begins_by s h w (within d w) refl (o.spot s dbr d seg w) refl (spots_of o s dbr d seg (w + 1) n) (λ ps f. are_words s h (w + 1) n ps f) list e)
+      words_of_begins w list (begins_by s h w (is_within_bound d w) refl (o.spot s dbr d seg w) refl (spots_of o s dbr d seg (w + 1) n) (λ ps f. are_words s h (w + 1) n ps f) list e)
 
   pub begins : (s : S) → Has s → (w n : ℕ) (list : List Spot) → 1 ≤ n → spots_of o s dbr d seg w n ≡ Ok list → Begins w list
   unfolding spots_of
   begins s h w zero list some e = absurd (omega arith)
   begins s h w (suc n) list some e =
-      begins_by s h w (within d w) refl (o.spot s dbr d seg w) refl (spots_of o s dbr d seg (w + 1) n) (λ ps f. are_words s h (w + 1) n ps f) list e
+      begins_by s h w (is_within_bound d w) refl (o.spot s dbr d seg w) refl (spots_of o s dbr d seg (w + 1) n) (λ ps f. are_words s h (w + 1) n ps f) list e
 
 -- the claim with a number
 each_at : {A : Type 0} (P : A → Type 0) (xs : List A) → Each P xs → (i : ℕ) (x : A) → slice_get xs i ≡ Some x → P x

@@ -10,7 +10,7 @@ use Rattle.m36_model.specs.Audit.{is_stack_of, IsGuarded}
 use Rattle.m36_model.specs.Step.{program, record_of, state_after}
 use Rattle.m36_model.specs.StoreLaw.{Each, Lawful}
 use Rattle.m36_model.specs.Isolation.{IsGateCall, HasPointers}
-use Rattle.m36_model.specs.Laws.{IsAbove, MayRefer, IsWithin, SightLaw, DependsLaw, ReachLaw, FallLaw, MarksAlterNothing, MarksLaw, IsAlike, AgreeLaw, ExecutesLdbr}
+use Rattle.m36_model.specs.Laws.{IsAbove, MayRefer, IsPermittedReference, SightLaw, DependsLaw, ReachLaw, FallLaw, MarksAlterNothing, MarksLaw, IsAlike, AgreeLaw, ExecutesLdbr}
 use Rattle.m36_model.specs.declared.outcome.Refusal.{Refusal}
 use Rattle.m36_model.specs.declared.place.Kind.{Kind}
 use Rattle.m36_model.specs.declared.place.Kind.TheVariants as reference
@@ -69,11 +69,11 @@ module _ {S : Type 0} (o : Store S) (T : Tables) (g : RegsFields) (B : Backed o 
   allowed_within seg reference.Read k = in_sight seg k
   allowed_within seg reference.Write k = in_reach seg k
 
-  refs_within : Each (IsWithin o r here) (record_of o here).refs.items
+  refs_within : Each (IsPermittedReference o r here) (record_of o here).refs.items
   unfolding record_of
   refs_within =
       let k = one_run o g B.Has B.Lies B.Near B.law B.guarded r low store has_here in
-      each_map (IsAllowedReference B.law.sdws r) (IsWithin o r here) (λ e h. allowed_within e.at.seg e.kind h) _ k.mid.allowed
+      each_map (IsAllowedReference B.law.sdws r) (IsPermittedReference o r here) (λ e h. allowed_within e.at.seg e.kind h) _ k.mid.allowed
 
   -- above ring 0 the DBR does not change
   pub dbr_stays : 1 ≤ r → (state_after o here).regs.dbr ≡ g.dbr

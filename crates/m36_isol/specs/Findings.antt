@@ -2,7 +2,7 @@
 use Rattle.std.specs.Prelude.{◌≡◌, ℕ, List, []}
 use Rattle.m36_desc.specs.Fields.{DbrFields}
 use Rattle.m36_model.specs.Audit.{AreFindings, IsAudited}
-use Rattle.m36_model.specs.JointAudit.{JointFound, AreJointFindings, IsJointlyAudited}
+use Rattle.m36_model.specs.JointAudit.{JointFindingFields, AreJointFindings, IsJointlyAudited}
 
 -- An audit finds nothing exactly if all six conditions hold, and there is only one list of
 -- findings.
@@ -22,9 +22,9 @@ pub record JointFindingsLaw : Type 0 where
       (core : List ℕ) (dbrs : List DbrFields) → AreJointFindings core dbrs []
       → IsJointlyAudited core dbrs
   pub complete :
-      (core : List ℕ) (dbrs : List DbrFields) (findings : List JointFound)
+      (core : List ℕ) (dbrs : List DbrFields) (findings : List JointFindingFields)
       → IsJointlyAudited core dbrs
       → AreJointFindings core dbrs findings → findings ≡ []
   pub unique :
-      (core : List ℕ) (dbrs : List DbrFields) (findings others : List JointFound)
+      (core : List ℕ) (dbrs : List DbrFields) (findings others : List JointFindingFields)
       → AreJointFindings core dbrs findings → AreJointFindings core dbrs others → findings ≡ others

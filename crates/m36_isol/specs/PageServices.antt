@@ -11,7 +11,7 @@ use Rattle.m36_model.specs.Step.{indirect_words, record_of, state_after}
 use Rattle.m36_model.specs.BootedCore.{booted_dbr, table_at, resident_ptw, absent_ptw}
 use Rattle.m36_model.specs.BootedCore.{IsPage, page_word, IsLaid}
 use Rattle.m36_model.specs.Residence.{Paged, IsMoved, StaysIn}
-use Rattle.m36_model.specs.PagedStep.{IsPageFault, IsPresent}
+use Rattle.m36_model.specs.PagedStep.{IsPageFault, IsNoPageFault}
 use Rattle.m36_model.specs.declared.place.Reference.{Reference}
 
 -- a page of the image is in this frame
@@ -25,7 +25,7 @@ IsUnreferenced refs seg page =
     Each (λ e. (e.at.seg ≡ seg) × (e.at.word / 1024 ≡ page) → ⊥) refs
 
 -- The core word at an address is the PTW of a page that is in a frame and that no reference is to.
-pub record MayLoseUsed (core : List ℕ) (refs : List Reference) (a : ℕ) : Type 0 where
+pub record MayLoseUsedBit (core : List ℕ) (refs : List Reference) (a : ℕ) : Type 0 where
   pub seg : ℕ
   pub page : ℕ
   pub frame : ℕ
@@ -57,7 +57,7 @@ pub record IsPageService
       → ((s q : ℕ) → Occupies old.core s q frame → a ≢ table_at s + q)
       → IsOutsideFrame frame a
       → (slice_index new.core a ≡ slice_index old.core a)
-      ⊎ (MayLoseUsed old.core refs a
+      ⊎ (MayLoseUsedBit old.core refs a
       × (slice_index new.core a ≡ without_used (slice_index old.core a)))
   pub kept :
       (s w : ℕ) → (Occupies old.core s (w / 1024) frame → ⊥) → new.kept s w ≡ old.kept s w
@@ -77,18 +77,18 @@ stepped_memory s =
     record { core = (state_after core_store (core_state s)).store; kept = s.memory.kept }
 
 -- a step that ends with a page fault, and the service of that page; the registers are unchanged
-pub record IsServed (frames : ℕ) (old new : PagedState) : Type 0 where
+pub record IsPageFaultServed (frames : ℕ) (old new : PagedState) : Type 0 where
   pub fault : IsPageFault old.memory.kept (core_state old)
   pub regs : new.regs ≡ old.regs
   pub service :
       IsPageService frames fault.fault.at.seg (fault.fault.at.word / 1024)
       (record_of core_store (core_state old)).refs.items (stepped_memory old) new.memory
 
--- n page faults with their services, as in `IsServed`, one after another
-unfoldable pub AreServed : ℕ → ℕ → PagedState → PagedState → Type 0
-AreServed frames zero old new = new ≡ old
-AreServed frames (suc n) old new =
-    (mid : PagedState) × IsServed frames old mid × AreServed frames n mid new
+-- n page faults with their services, as in `IsPageFaultServed`, one after another
+unfoldable pub ArePageFaultsServed : ℕ → ℕ → PagedState → PagedState → Type 0
+ArePageFaultsServed frames zero old new = new ≡ old
+ArePageFaultsServed frames (suc n) old new =
+    (mid : PagedState) × IsPageFaultServed frames old mid × ArePageFaultsServed frames n mid new
 
 -- the most pages that an instruction references: its own, one for each indirect word, and that of
 -- its operand
@@ -99,5 +99,5 @@ pages_of_an_instruction = indirect_words + 2
 abbrev pub PagesLaw : Type 0
 PagesLaw =
     (frames : ℕ) (old new : PagedState) → old.regs.dbr ≡ booted_dbr → IsLaid old.memory.core frames
-    → AreServed frames pages_of_an_instruction old new
-    → IsPresent (record_of core_store (core_state new)).outcome
+    → ArePageFaultsServed frames pages_of_an_instruction old new
+    → IsNoPageFault (record_of core_store (core_state new)).outcome

@@ -2,10 +2,10 @@
 use Rattle.std.specs.Prelude.{◌≡◌, ℕ, ◌<◌, ◌≤◌, ◌⊎◌, Bool, true, false, None}
 use Rattle.m36_desc.specs.Fields.{SdwFields}
 use Rattle.m36_model.specs.Act.{RequestKind, Fetch, Indirect, Odd, Read, Write, Transfer, Call}
-use Rattle.m36_model.specs.Store.{denied}
+use Rattle.m36_model.specs.Store.{refusing_violation}
 
 -- the brackets of a segment are in order: R1 ≤ R2 ≤ R3; every allowed reference needs this
-pub record IsOrdered (d : SdwFields) : Type 0 where
+pub record HasOrderedBrackets (d : SdwFields) : Type 0 where
   pub first : d.r1 ≤ d.r2
   pub second : d.r2 ≤ d.r3
 
@@ -42,25 +42,25 @@ pub record MayCall (d : SdwFields) (trr : ℕ) (same : Bool) (word : ℕ) : Type
 pub record RightsLaw : Type 0 where
   pub order :
       (kind : RequestKind) (d : SdwFields) (trr prr : ℕ) (same : Bool) (word : ℕ)
-      → denied kind d trr prr same word ≡ None → IsOrdered d
+      → refusing_violation kind d trr prr same word ≡ None → HasOrderedBrackets d
   pub fetch :
       (d : SdwFields) (trr prr : ℕ) (same : Bool) (word : ℕ)
-      → denied Fetch d trr prr same word ≡ None → MayFetch d prr
+      → refusing_violation Fetch d trr prr same word ≡ None → MayFetch d prr
   pub indirect :
       (d : SdwFields) (trr prr : ℕ) (same : Bool) (word : ℕ)
-      → denied Indirect d trr prr same word ≡ None → MayRead d trr same
+      → refusing_violation Indirect d trr prr same word ≡ None → MayRead d trr same
   pub odd :
-      (d : SdwFields) (trr prr : ℕ) (same : Bool) (word : ℕ) → denied Odd d trr prr same word ≡ None
+      (d : SdwFields) (trr prr : ℕ) (same : Bool) (word : ℕ) → refusing_violation Odd d trr prr same word ≡ None
       → MayRead d trr same
   pub read :
       (d : SdwFields) (trr prr : ℕ) (same : Bool) (word : ℕ)
-      → denied Read d trr prr same word ≡ None → MayRead d trr same
+      → refusing_violation Read d trr prr same word ≡ None → MayRead d trr same
   pub write :
       (d : SdwFields) (trr prr : ℕ) (same : Bool) (word : ℕ)
-      → denied Write d trr prr same word ≡ None → MayWrite d trr
+      → refusing_violation Write d trr prr same word ≡ None → MayWrite d trr
   pub transfer :
       (d : SdwFields) (trr prr : ℕ) (same : Bool) (word : ℕ)
-      → denied Transfer d trr prr same word ≡ None → MayTransfer d trr prr
+      → refusing_violation Transfer d trr prr same word ≡ None → MayTransfer d trr prr
   pub call :
       (d : SdwFields) (trr prr : ℕ) (same : Bool) (word : ℕ)
-      → denied Call d trr prr same word ≡ None → MayCall d trr same word
+      → refusing_violation Call d trr prr same word ≡ None → MayCall d trr same word

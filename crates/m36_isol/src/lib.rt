@@ -39,7 +39,7 @@ ghost use Rattle.m36_isol.specs.BootedNumbers.{BootedNumbersLaw};
 ghost use Rattle.m36_isol.specs.PageServices.{PagesLaw};
 ghost use Rattle.m36_isol.specs.References.{FewReferencesLaw};
 ghost use Rattle.m36_model.specs.Laws.{EffectLaw, EffectRefusals, DependsLaw, SightLaw, ReachLaw, CoreReachLaw};
-ghost use Rattle.m36_model.specs.Laws.{FallLaw, MarksLaw, AgreeLaw, KeptLaw};
+ghost use Rattle.m36_model.specs.Laws.{FallLaw, MarksLaw, AgreeLaw, AuditKeptLaw};
 
 /// An audit finds nothing exactly if all six conditions hold, and there is only one list of
 /// findings.
@@ -127,7 +127,7 @@ pub fn law_window()
 
 /// A step in any ring preserves the audit conditions, unless it executes LDBR.
 pub fn law_audit_preserved()
-    ensures { KeptLaw }
+    ensures { AuditKeptLaw }
 {}
 
 /// A joint audit of several processes finds nothing exactly if all its conditions hold, and there

@@ -12,14 +12,14 @@ use Rattle.obj36_parts.specs.Names.{same}
 use Rattle.obj36_parts.proofs.SizeLaws.{same_is}
 use Rattle.m36_link.specs.Fields.{RingNameFields}
 use Rattle.m36_link.specs.Names.{IsInitiated, AreNames}
-use Rattle.m36_link.specs.Known.{is_same_name, initiated}
+use Rattle.m36_link.specs.Known.{is_same_name, initiated_segment}
 
 other_length : (a b : List ℕ) → length b < length a → same a b ≡ false
 other_length a b h = false_from_ne_true (same a b) (λ e. let n : length a ≡ length b = ap length (same_is a b e) in omega (arith, n))
 
 -- a name that is too long is not among them
-pub long_absent : (ring : ℕ) (name : List ℕ) (names : List (RingNameFields × ℕ)) → AreNames names → ¬ (length name ≤ 32) → None ≡ initiated names ring name
-unfolding initiated
+pub long_absent : (ring : ℕ) (name : List ℕ) (names : List (RingNameFields × ℕ)) → AreNames names → ¬ (length name ≤ 32) → None ≡ initiated_segment names ring name
+unfolding initiated_segment
 long_absent ring name [] all long = refl
 long_absent ring name (e ∷ es) all long =
     let n = (All-head IsInitiated e es all).name in
@@ -36,9 +36,9 @@ found_below r test names e all =
     subst P (sym e) (All-lookup (λ seg. seg < 2 ^ 15) test names (λ k d h. (all k d h).seg))
 
 -- a name that is not found is added at the end
-pub goes_last : (m : IndexMap RingNameFields ℕ HashSeed) (name : RingNameFields) (target : ℕ) → None ≡ initiated m.entries name.ring name.name
+pub goes_last : (m : IndexMap RingNameFields ℕ HashSeed) (name : RingNameFields) (target : ℕ) → None ≡ initiated_segment m.entries name.ring name.name
     → insert_entry is_same_name m.entries name target ≡ m.entries ++ (name, target) ∷ []
-unfolding initiated
+unfolding initiated_segment
 goes_last m name target none = insert_entry-new is_same_name m name target (sym none)
 
 -- the invariant holds with one more name

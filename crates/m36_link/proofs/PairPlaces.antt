@@ -8,7 +8,7 @@ use Rattle.std.proofs.lemmas.List.Folds.{find_at}
 use Rattle.m36_desc.specs.Fields.{ItsFields}
 use Rattle.m36_desc.specs.Descriptors.{its_even, its_tag, itp_tag, tag_of}
 use Rattle.m36_model.specs.Fields.{AtFields}
-use Rattle.m36_model.specs.Chain.{Its, Itp, Plain, found_by_tag, indirect_tag, found}
+use Rattle.m36_model.specs.Chain.{Its, Itp, Plain, kind_by_tag, indirect_tag, found}
 use Rattle.m36_model.specs.declared.endings.LinkCode.{LinkCode}
 use Rattle.m36_model.specs.declared.endings.LinkCode.TheVariants.{L3, L4}
 use Rattle.m36_dir.specs.Fields.{SegmentFields}
@@ -21,12 +21,12 @@ use Rattle.obj36_parts.specs.declared.section.Section.TheVariants.{Text, Linkage
 use Rattle.obj36_parts.proofs.Formed.{is_formed}
 use Rattle.obj36.specs.ObjectOf.{object_of}
 use Rattle.obj36.specs.declared.fault.ObjectFault.{ObjectFault}
-use Rattle.m36_link.specs.Fields.{LaidFields, LandingFields, KnownFields, SnapFields}
+use Rattle.m36_link.specs.Fields.{PlacedSectionFields, TargetFields, KnownFields, SnapFields}
 use Rattle.m36_link.specs.Known.{linkage_segment, segment_of, file_of, object_in, section_ring}
-use Rattle.m36_link.specs.Search.{searched}
+use Rattle.m36_link.specs.Search.{search_result}
 use Rattle.m36_link.specs.Links.{link_from, link_in, holds_link, section_at}
-use Rattle.m36_link.specs.Target.{point_of, pair_to, pair_from, pair_of, home_of, own_by, own_landing, may_not_use, is_plain, plain_landing, landing_in, landing_at, object_landing, landing_by, target_landing}
-use Rattle.m36_link.specs.Snap.{found_landing, candidate_landing, outer_landing, directory_of, landing_of, lay_of, snap_by, snap_for, snap_in, snap_of}
+use Rattle.m36_link.specs.Target.{object_place_of, pair_to, pair_from, pair_of, placement_of, own_target_by, own_target, may_not_use, is_plain, plain_target, target_in_section, target_at_place, object_target, target_by_object, segment_target}
+use Rattle.m36_link.specs.Snap.{target_if_found, candidate_target, outer_target, directory_of, target_of_link, section_with_words, snap_of_target, snap_for, snap_in, snap_of}
 use Rattle.m36_link.specs.Laws.{IsWholeSection, PairsAreRead}
 use Rattle.m36_link.specs.declared.points.ObjectPlace.{ObjectPlace}
 use Rattle.m36_link.specs.declared.sections.Placement.{Placement}
@@ -42,78 +42,78 @@ tag_to : (seg ring word : ℕ) (link : LinkFields) → tag_of (pair_to seg ring 
 unfolding pair_to
 tag_to seg ring word link = tag_in (record { seg = seg; ring = ring; word = word % 2 ^ 18; bit = 0; tag = link.modifier })
 
-tag_from : (section : Section) (value ring : ℕ) (l : LaidFields) (linkage : ℕ) (link : LinkFields) → tag_of (pair_from section value ring l linkage link).even ≡ its_tag
+tag_from : (section : Section) (value ring : ℕ) (l : PlacedSectionFields) (linkage : ℕ) (link : LinkFields) → tag_of (pair_from section value ring l linkage link).even ≡ its_tag
 tag_from Text value ring l linkage link = tag_to l.seg ring (value + link.expr) link
 tag_from Linkage value ring l linkage link = tag_to (linkage_segment l.ring) ring (l.base + value + link.expr) link
 tag_from Symbol value ring l linkage link = tag_to l.seg ring (value + link.expr) link
 tag_from Static value ring l linkage link = tag_to (linkage_segment l.ring) ring (l.base + linkage + value + link.expr) link
 
-tag_at : (point : ObjectPlace) (ring : ℕ) (l : LaidFields) (linkage : ℕ) (link : LinkFields) → tag_of (pair_of point ring l linkage link).even ≡ its_tag
+tag_at : (point : ObjectPlace) (ring : ℕ) (l : PlacedSectionFields) (linkage : ℕ) (link : LinkFields) → tag_of (pair_of point ring l linkage link).even ≡ its_tag
 unfolding pair_of
 tag_at point ring l linkage link = tag_from point.section point.value ring l linkage link
 
-abbrev HasTag : Result LandingFields LinkCode → Type 0
+abbrev HasTag : Result TargetFields LinkCode → Type 0
 HasTag (Err code) = Unit {0}
 HasTag (Ok landing) = tag_of landing.pair.even ≡ its_tag
 
-own_tag : (ring : ℕ) (l : LaidFields) (o : PartsFields) (link : LinkFields) (p : Result ObjectPlace LinkCode) → HasTag (own_by ring l o link p)
+own_tag : (ring : ℕ) (l : PlacedSectionFields) (o : PartsFields) (link : LinkFields) (p : Result ObjectPlace LinkCode) → HasTag (own_target_by ring l o link p)
 own_tag ring l o link (Ok point) = tag_at point ring l (length (linkage_section o)) link
 own_tag ring l o link (Err code) = tt
 
-plain_tag : (ring seg : ℕ) (link : LinkFields) → HasTag (plain_landing ring seg link)
-unfolding plain_landing
+plain_tag : (ring seg : ℕ) (link : LinkFields) → HasTag (plain_target ring seg link)
+unfolding plain_target
 plain_tag ring seg link = by (has_entry link.kind)
   where
     by : (b : Bool) → HasTag (cond b (Err L3) (Ok (record { pair = pair_to seg ring link.expr link; target = seg; lay = None })))
     by true = tt
     by false = tag_to seg ring link.expr link
 
-home_tag : (ring seg : ℕ) (o : PartsFields) (link : LinkFields) (point : ObjectPlace) (home : Result Placement LinkCode) → HasTag (landing_in ring seg o link point home)
+home_tag : (ring seg : ℕ) (o : PartsFields) (link : LinkFields) (point : ObjectPlace) (home : Result Placement LinkCode) → HasTag (target_in_section ring seg o link point home)
 home_tag ring seg o link point (Ok home) = tag_at point ring home.section (length (linkage_section o)) link
 home_tag ring seg o link point (Err code) = tt
 
-point_tag : (laid : List LaidFields) (ring e seg : ℕ) (o : PartsFields) (link : LinkFields) (p : Result ObjectPlace LinkCode) → HasTag (landing_at laid ring e seg o link p)
-point_tag laid ring e seg o link (Ok point) = home_tag ring seg o link point (home_of laid e seg o)
+point_tag : (laid : List PlacedSectionFields) (ring e seg : ℕ) (o : PartsFields) (link : LinkFields) (p : Result ObjectPlace LinkCode) → HasTag (target_at_place laid ring e seg o link p)
+point_tag laid ring e seg o link (Ok point) = home_tag ring seg o link point (placement_of laid e seg o)
 point_tag laid ring e seg o link (Err code) = tt
 
-object_tag : (laid : List LaidFields) (ring seg : ℕ) (s : SegmentFields) (link : LinkFields) (r : Result PartsFields ObjectFault) → HasTag (landing_by laid ring seg s link r)
-unfolding object_landing
+object_tag : (laid : List PlacedSectionFields) (ring seg : ℕ) (s : SegmentFields) (link : LinkFields) (r : Result PartsFields ObjectFault) → HasTag (target_by_object laid ring seg s link r)
+unfolding object_target
 object_tag laid ring seg s link (Err fault) = tt
-object_tag laid ring seg s link (Ok o) = point_tag laid ring (section_ring ring s) seg o link (point_of link o)
+object_tag laid ring seg s link (Ok o) = point_tag laid ring (section_ring ring s) seg o link (object_place_of link o)
 
-target_tag : (laid : List LaidFields) (ring seg : ℕ) (s : SegmentFields) (words : List ℕ) (link : LinkFields) → HasTag (target_landing laid ring seg s words link)
-unfolding target_landing
+target_tag : (laid : List PlacedSectionFields) (ring seg : ℕ) (s : SegmentFields) (words : List ℕ) (link : LinkFields) → HasTag (segment_target laid ring seg s words link)
+unfolding segment_target
 target_tag laid ring seg s words link = by (may_not_use ring s) (is_plain s.kind)
   where
-    by : (b c : Bool) → HasTag (cond b (Err L4) (cond c (plain_landing ring seg link) (landing_by laid ring seg s link (object_of words))))
+    by : (b c : Bool) → HasTag (cond b (Err L4) (cond c (plain_target ring seg link) (target_by_object laid ring seg s link (object_of words))))
     by true c = tt
     by false true = plain_tag ring seg link
     by false false = object_tag laid ring seg s link (object_of words)
 
-found_tag : (laid : List LaidFields) (ring seg : ℕ) (s : Option SegmentFields) (words : Option (List ℕ)) (link : LinkFields) → HasTag (found_landing laid ring seg s words link)
+found_tag : (laid : List PlacedSectionFields) (ring seg : ℕ) (s : Option SegmentFields) (words : Option (List ℕ)) (link : LinkFields) → HasTag (target_if_found laid ring seg s words link)
 found_tag laid ring seg (Some s) (Some words) link = target_tag laid ring seg s words link
 found_tag laid ring seg (Some s) None link = tt
 found_tag laid ring seg None words link = tt
 
 candidate_tag : (known : KnownFields) (catalog : CatalogFields) (files : List (List ℕ)) (ring : ℕ) (link : LinkFields) (r : Option ℕ)
-    → HasTag (candidate_landing known catalog files ring link r)
+    → HasTag (candidate_target known catalog files ring link r)
 candidate_tag known catalog files ring link None = tt
 candidate_tag known catalog files ring link (Some seg) = found_tag known.laid ring seg (segment_of catalog seg) (file_of files seg) link
 
-landing_tag : (known : KnownFields) (catalog : CatalogFields) (files : List (List ℕ)) (ring : ℕ) (l : LaidFields) (o : PartsFields) (link : LinkFields)
-    → HasTag (landing_of known catalog files ring l o link)
-unfolding landing_of outer_landing own_landing
+landing_tag : (known : KnownFields) (catalog : CatalogFields) (files : List (List ℕ)) (ring : ℕ) (l : PlacedSectionFields) (o : PartsFields) (link : LinkFields)
+    → HasTag (target_of_link known catalog files ring l o link)
+unfolding target_of_link outer_target own_target
 landing_tag known catalog files ring l o link = by (has_name link.kind)
   where
-    by : (b : Bool) → HasTag (cond b (outer_landing known catalog files ring link (directory_of (segment_of catalog l.seg))) (own_landing ring l o link))
-    by true = candidate_tag known catalog files ring link (searched known catalog ring link.name (directory_of (segment_of catalog l.seg)))
-    by false = own_tag ring l o link (point_of link o)
+    by : (b : Bool) → HasTag (cond b (outer_target known catalog files ring link (directory_of (segment_of catalog l.seg))) (own_target ring l o link))
+    by true = candidate_tag known catalog files ring link (search_result known catalog ring link.name (directory_of (segment_of catalog l.seg)))
+    by false = own_tag ring l o link (object_place_of link o)
 
-snap_tag : (files : List (List ℕ)) (ring : ℕ) (link : LinkFields) (r : Result LandingFields LinkCode) (s : SnapFields) → HasTag r → snap_by files ring link r ≡ Ok s
+snap_tag : (files : List (List ℕ)) (ring : ℕ) (link : LinkFields) (r : Result TargetFields LinkCode) (s : SnapFields) → HasTag r → snap_of_target files ring link r ≡ Ok s
     → tag_of s.pair.even ≡ its_tag
 snap_tag files ring link (Err code) s tag e = absurd cc
 snap_tag files ring link (Ok landing) s tag e =
-    let t : SnapFields = record { pair = landing.pair; ring = ring; target = landing.target; link = link; lay = lay_of files landing.lay } in
+    let t : SnapFields = record { pair = landing.pair; ring = ring; target = landing.target; link = link; lay = section_with_words files landing.lay } in
     let is : t ≡ s = cc in
     let P : SnapFields → Type 0 = λ x. tag_of x.pair.even ≡ its_tag in
     subst P is tag
@@ -145,7 +145,7 @@ link_even first word links link even e = by (leb first word) (eqb ((word - first
     by true false low same e = absurd cc
     by false b low same e = absurd cc
 
-place_even : (files : List (List ℕ)) (word : ℕ) (l : LaidFields) (o : PartsFields) (link : LinkFields) → l.base % 2 ≡ 0 → object_in files l.seg ≡ Some o → link_in files word l ≡ Some link
+place_even : (files : List (List ℕ)) (word : ℕ) (l : PlacedSectionFields) (o : PartsFields) (link : LinkFields) → l.base % 2 ≡ 0 → object_in files l.seg ≡ Some o → link_in files word l ≡ Some link
     → word % 2 ≡ 0
 place_even files word l o link even read is =
     link_even (l.base + first_link o) word o.links link (both_even l.base (first_link o) even (links_even o (formed_in files l.seg o read)))
@@ -153,13 +153,13 @@ place_even files word l o link even read is =
 
 -- ---- what holds for each section holds for the one that has the link
 
-holds_of : (test : LaidFields → Bool) (P : LaidFields → Type 0) (laid : List LaidFields) (l : LaidFields) → find test laid ≡ Some l → All P laid → P l
+holds_of : (test : PlacedSectionFields → Bool) (P : PlacedSectionFields → Type 0) (laid : List PlacedSectionFields) (l : PlacedSectionFields) → find test laid ≡ Some l → All P laid → P l
 holds_of test P laid l e all =
     let i : ℕ = position_or_len test laid in
     let there : slice_get laid i ≡ Some l = sym (find_at test laid) ∙ e in
     subst P (get_or_from_slice_get laid i l l there) (All-get_or P laid i l (slice_get_within laid i l there) all)
 
-section_holds : (laid : List LaidFields) (files : List (List ℕ)) (at : AtFields) (l : LaidFields) (P : LaidFields → Type 0) → section_at laid files at ≡ Some l → All P laid → P l
+section_holds : (laid : List PlacedSectionFields) (files : List (List ℕ)) (at : AtFields) (l : PlacedSectionFields) (P : PlacedSectionFields → Type 0) → section_at laid files at ≡ Some l → All P laid → P l
 unfolding section_at
 section_holds laid files at l P e all = by (eqb at.seg (linkage_segment at.ring)) e
   where
@@ -172,14 +172,14 @@ section_holds laid files at l P e all = by (eqb at.seg (linkage_segment at.ring)
 found_its : (word even : ℕ) → word % 2 ≡ 0 → tag_of even ≡ its_tag → found word even ≡ Its
 unfolding found
 found_its word even place tag =
-    ap (λ b. cond b (found_by_tag (indirect_tag even)) Plain) (eq-eqb (word % 2) 0 place)
+    ap (λ b. cond b (kind_by_tag (indirect_tag even)) Plain) (eq-eqb (word % 2) 0 place)
     ∙ ap (λ b. cond b Its (cond (eqb (tag_of even) itp_tag) Itp Plain)) (eq-eqb (tag_of even) its_tag tag)
 
-answer_stands : (known : KnownFields) (catalog : CatalogFields) (files : List (List ℕ)) (at : AtFields) (l : LaidFields) (o : Option PartsFields) (link : Option LinkFields) (s : SnapFields)
+answer_stands : (known : KnownFields) (catalog : CatalogFields) (files : List (List ℕ)) (at : AtFields) (l : PlacedSectionFields) (o : Option PartsFields) (link : Option LinkFields) (s : SnapFields)
     → l.base % 2 ≡ 0 → object_in files l.seg ≡ o → link_in files at.word l ≡ link → snap_for known catalog files at.ring l o link ≡ Ok s → found at.word s.pair.even ≡ Its
 answer_stands known catalog files at l (Some o) (Some link) s even read is e =
     found_its at.word s.pair.even (place_even files at.word l o link even read is)
-    (snap_tag files at.ring link (landing_of known catalog files at.ring l o link) s (landing_tag known catalog files at.ring l o link) e)
+    (snap_tag files at.ring link (target_of_link known catalog files at.ring l o link) s (landing_tag known catalog files at.ring l o link) e)
 answer_stands known catalog files at l (Some o) None s even read is e = absurd cc
 answer_stands known catalog files at l None link s even read is e = absurd cc
 
@@ -187,7 +187,7 @@ pub pairs_stand : PairsAreRead
 unfolding snap_of
 pairs_stand known catalog files at s made e = by (section_at known.laid files at) refl e
   where
-    by : (v : Option LaidFields) → section_at known.laid files at ≡ v → snap_in known catalog files at v ≡ Ok s → found at.word s.pair.even ≡ Its
+    by : (v : Option PlacedSectionFields) → section_at known.laid files at ≡ v → snap_in known catalog files at v ≡ Ok s → found at.word s.pair.even ≡ Its
     by None is e = absurd cc
     by (Some l) is e =
         let whole : IsWholeSection catalog files l = section_holds known.laid files at l (IsWholeSection catalog files) is made.laid in

@@ -10,16 +10,16 @@ use Rattle.obj36_parts.proofs.Formed.{is_formed}
 use Rattle.obj36_parts.proofs.LengthLaws.{length-linkage_part, length-sections}
 use Rattle.obj36_read.specs.Reading.{parts_of}
 use Rattle.obj36.specs.Faults.{first_fault}
-use Rattle.obj36.specs.ObjectOf.{or_fault, object_of, value_of}
+use Rattle.obj36.specs.ObjectOf.{parts_or_fault, object_of, encoded_parts}
 use Rattle.obj36.specs.declared.fault.ObjectFault.{ObjectFault}
 use Rattle.m36_link.specs.Known.{file_of, object_in, laid_words}
 
-picked : (b : Bool) (p o : PartsFields) (f : ObjectFault) → or_fault (cond b (Some p) None) f ≡ Ok o → (b ≡ true) × (p ≡ o)
+picked : (b : Bool) (p o : PartsFields) (f : ObjectFault) → parts_or_fault (cond b (Some p) None) f ≡ Ok o → (b ≡ true) × (p ≡ o)
 picked true p o f e = (refl, cc)
 picked false p o f e = absurd cc
 
 formed_of : (words : List ℕ) (o : PartsFields) → object_of words ≡ Ok o → is_well_formed o ≡ true
-unfolding object_of value_of
+unfolding object_of encoded_parts
 formed_of words o e =
     let p = parts_of words in
     let k = picked (is_well_formed p && same (words_of p) words) p o (first_fault words) e in

@@ -10,7 +10,7 @@ pub record RingNameFields : Type 0 where
 
 -- A section in its place: the ring in whose linkage segment it is, the segment that it belongs to,
 -- the word number of its first word there, and the number of its words.
-pub record LaidFields : Type 0 where
+pub record PlacedSectionFields : Type 0 where
   pub ring : ℕ
   pub seg : ℕ
   pub base : ℕ
@@ -20,16 +20,16 @@ pub record LaidFields : Type 0 where
 -- in the order of the services.
 pub record KnownFields : Type 0 where
   pub names : List (RingNameFields × ℕ)
-  pub laid : List LaidFields
+  pub laid : List PlacedSectionFields
 
 -- the target of a link: the pair, the number of the segment, and the section that has to be laid
-pub record LandingFields : Type 0 where
+pub record TargetFields : Type 0 where
   pub pair : Pair
   pub target : ℕ
-  pub lay : Option LaidFields
+  pub lay : Option PlacedSectionFields
 
 -- a section that has to be laid: its place, and its words
-pub record LayFields : Type 0 where
+pub record NewSectionFields : Type 0 where
   pub ring : ℕ
   pub seg : ℕ
   pub base : ℕ
@@ -42,4 +42,4 @@ pub record SnapFields : Type 0 where
   pub ring : ℕ
   pub target : ℕ
   pub link : LinkFields
-  pub lay : Option LayFields
+  pub lay : Option NewSectionFields

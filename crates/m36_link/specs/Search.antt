@@ -3,7 +3,7 @@ use Rattle.std.specs.Prelude.{ℕ, List, ◌∷◌, ◌++◌, Option, option_map
 use Rattle.std.specs.Prelude.{filter_map, option_to_list, slice_get}
 use Rattle.m36_dir.specs.Catalog.{CatalogFields, found}
 use Rattle.m36_link.specs.Fields.{KnownFields}
-use Rattle.m36_link.specs.Known.{catalog_number, initiated}
+use Rattle.m36_link.specs.Known.{catalog_number, initiated_segment}
 
 -- The directories that are searched, in order: that of the segment that refers to the name, the
 -- working directory, and the libraries.
@@ -18,9 +18,9 @@ found_in catalog name dir = option_map catalog_number (found catalog dir name)
 -- segment of that name in each directory.
 unfoldable pub candidates : KnownFields → CatalogFields → ℕ → List ℕ → ℕ → List ℕ
 candidates known catalog ring name from =
-    option_to_list (initiated known.names ring name)
+    option_to_list (initiated_segment known.names ring name)
     ++ filter_map (found_in catalog name) (directories_searched catalog from)
 
 -- The first candidate is taken, and never a later one.
-unfoldable pub searched : KnownFields → CatalogFields → ℕ → List ℕ → ℕ → Option ℕ
-searched known catalog ring name from = slice_get (candidates known catalog ring name from) 0
+unfoldable pub search_result : KnownFields → CatalogFields → ℕ → List ℕ → ℕ → Option ℕ
+search_result known catalog ring name from = slice_get (candidates known catalog ring name from) 0

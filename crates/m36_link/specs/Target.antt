@@ -21,8 +21,8 @@ use Rattle.obj36.specs.ObjectOf.{object_of}
 use Rattle.obj36.specs.declared.fault.ObjectFault.{ObjectFault}
 use Rattle.obj36.specs.declared.fault.ObjectFault.TheVariants.{O1, O2, O3, O4, O5, O6, O7, O8}
 use Rattle.obj36.specs.declared.fault.ObjectFault.TheVariants.{NoMemory}
-use Rattle.m36_link.specs.Fields.{LaidFields, LandingFields}
-use Rattle.m36_link.specs.Known.{linkage_segment, section_ring, laid_in, base_of, laid_words}
+use Rattle.m36_link.specs.Fields.{PlacedSectionFields, TargetFields}
+use Rattle.m36_link.specs.Known.{linkage_segment, section_ring, laid_in, next_base_in_ring, laid_words}
 use Rattle.m36_link.specs.declared.points.ObjectPlace.{ObjectPlace}
 use Rattle.m36_link.specs.declared.sections.Placement.{Placement}
 
@@ -33,16 +33,16 @@ abbrev pub section_of : LinkFields → Section
 section_of link = if has_name link.kind then Text else link.section
 
 -- the place of this definition of the entry; L3 if the entry is not defined
-abbrev pub point_by : Section → Option DefFields → Result ObjectPlace LinkCode
-point_by section None = Err L3
-point_by section (Some d) =
+abbrev pub object_place_by : Section → Option DefFields → Result ObjectPlace LinkCode
+object_place_by section None = Err L3
+object_place_by section (Some d) =
     Ok (record { section = later_section section d.section; value = d.value })
 
 -- the place in its target object that a link names, or L3
-unfoldable pub point_of : LinkFields → PartsFields → Result ObjectPlace LinkCode
-point_of link o =
+unfoldable pub object_place_of : LinkFields → PartsFields → Result ObjectPlace LinkCode
+object_place_of link o =
     if has_entry link.kind
-    then point_by (section_of link) (definition_named link.entry o.definitions)
+    then object_place_by (section_of link) (definition_named link.entry o.definitions)
     else Ok (record { section = section_of link; value = 0 })
 
 -- ---- the pair
@@ -55,7 +55,7 @@ pair_to seg ring word link =
 -- A value is relative to word 0 of the segment or, in a laid section, to its place: in the linkage
 -- section to its first word, and in the static section to the word after the linkage section,
 -- which has `linkage` words.
-abbrev pub pair_from : Section → ℕ → ℕ → LaidFields → ℕ → LinkFields → Pair
+abbrev pub pair_from : Section → ℕ → ℕ → PlacedSectionFields → ℕ → LinkFields → Pair
 pair_from Text value ring l linkage link = pair_to l.seg ring (value + link.expr) link
 pair_from Symbol value ring l linkage link = pair_to l.seg ring (value + link.expr) link
 pair_from Linkage value ring l linkage link =
@@ -65,15 +65,15 @@ pair_from Static value ring l linkage link =
     (l.base + linkage + value + link.expr) link
 
 -- the pair to a place of an object whose section is laid
-unfoldable pub pair_of : ObjectPlace → ℕ → LaidFields → ℕ → LinkFields → Pair
+unfoldable pub pair_of : ObjectPlace → ℕ → PlacedSectionFields → ℕ → LinkFields → Pair
 pair_of point ring l linkage link = pair_from point.section point.value ring l linkage link
 
 -- ---- the section of a segment in a ring: laid already, or to be laid after the others
 
 -- a new section at this word number with this many words; L6 if it would end past the linkage
 -- segment
-abbrev pub new_home : ℕ → ℕ → ℕ → ℕ → Result Placement LinkCode
-new_home ring seg base size =
+abbrev pub new_placement : ℕ → ℕ → ℕ → ℕ → Result Placement LinkCode
+new_placement ring seg base size =
     if nat_le (base + size) segment_limit then
     Ok (record {
       section = record { ring = ring; seg = seg; base = base; size = size };
@@ -82,21 +82,21 @@ new_home ring seg base size =
     else Err (L6 base size)
 
 -- the section that is laid already, or a new one
-abbrev pub placement_by : Option LaidFields → List LaidFields → ℕ → ℕ → PartsFields
+abbrev pub placement_by : Option PlacedSectionFields → List PlacedSectionFields → ℕ → ℕ → PartsFields
     → Result Placement LinkCode
 placement_by (Some l) laid ring seg o = Ok (record { section = l; is_new = false })
-placement_by None laid ring seg o = new_home ring seg (base_of laid ring) (length (laid_words o))
+placement_by None laid ring seg o = new_placement ring seg (next_base_in_ring laid ring) (length (laid_words o))
 
 -- the section of a segment in a ring, and whether it still has to be laid; or L6
-unfoldable pub home_of : List LaidFields → ℕ → ℕ → PartsFields → Result Placement LinkCode
-home_of laid ring seg o = placement_by (laid_in laid ring seg) laid ring seg o
+unfoldable pub placement_of : List PlacedSectionFields → ℕ → ℕ → PartsFields → Result Placement LinkCode
+placement_of laid ring seg o = placement_by (laid_in laid ring seg) laid ring seg o
 
 -- ---- types 1 and 5: the link's own object, whose section has the link
 
 -- the target of a link to its own object, given the place that it names
-abbrev pub own_by : ℕ → LaidFields → PartsFields → LinkFields → Result ObjectPlace LinkCode
-    → Result LandingFields LinkCode
-own_by ring l o link found =
+abbrev pub own_target_by : ℕ → PlacedSectionFields → PartsFields → LinkFields → Result ObjectPlace LinkCode
+    → Result TargetFields LinkCode
+own_target_by ring l o link found =
     and_then found
     (λ point.
     Ok (record {
@@ -106,9 +106,9 @@ own_by ring l o link found =
     }))
 
 -- the target of a link of type 1 or 5
-unfoldable pub own_landing : ℕ → LaidFields → PartsFields → LinkFields
-    → Result LandingFields LinkCode
-own_landing ring l o link = own_by ring l o link (point_of link o)
+unfoldable pub own_target : ℕ → PlacedSectionFields → PartsFields → LinkFields
+    → Result TargetFields LinkCode
+own_target ring l o link = own_target_by ring l o link (object_place_of link o)
 
 -- ---- types 3 and 4: a segment that was found
 
@@ -137,52 +137,52 @@ fault_number NoMemory = 0
 
 -- the target of a link to a segment of plain words, for which no section is laid; they define no
 -- entries, so L3 if the link has one
-unfoldable pub plain_landing : ℕ → ℕ → LinkFields → Result LandingFields LinkCode
-plain_landing ring seg link =
+unfoldable pub plain_target : ℕ → ℕ → LinkFields → Result TargetFields LinkCode
+plain_target ring seg link =
     if has_entry link.kind then Err L3
     else Ok (record { pair = pair_to seg ring link.expr link; target = seg; lay = None })
 
 -- the section that has to be laid: this one if it is new (true), and otherwise none
-abbrev pub lay_if : Bool → LaidFields → Option LaidFields
-lay_if true l = Some l
-lay_if false l = None
+abbrev pub section_if_new : Bool → PlacedSectionFields → Option PlacedSectionFields
+section_if_new true l = Some l
+section_if_new false l = None
 
 -- the target of a link to an object, given the place that it names and the object's section
-abbrev pub landing_in : ℕ → ℕ → PartsFields → LinkFields → ObjectPlace → Result Placement LinkCode
-    → Result LandingFields LinkCode
-landing_in ring seg o link point found =
+abbrev pub target_in_section : ℕ → ℕ → PartsFields → LinkFields → ObjectPlace → Result Placement LinkCode
+    → Result TargetFields LinkCode
+target_in_section ring seg o link point found =
     and_then found
     (λ home.
     Ok (record {
       pair = pair_of point ring home.section (length (linkage_section o)) link;
       target = seg;
-      lay = lay_if home.is_new home.section;
+      lay = section_if_new home.is_new home.section;
     }))
 
--- as `landing_in`, given the place or its refusal, and all sections that are laid
-abbrev pub landing_at : List LaidFields → ℕ → ℕ → ℕ → PartsFields → LinkFields
-    → Result ObjectPlace LinkCode → Result LandingFields LinkCode
-landing_at laid ring section_ring seg o link found =
-    and_then found (λ point. landing_in ring seg o link point (home_of laid section_ring seg o))
+-- as `target_in_section`, given the place or its refusal, and all sections that are laid
+abbrev pub target_at_place : List PlacedSectionFields → ℕ → ℕ → ℕ → PartsFields → LinkFields
+    → Result ObjectPlace LinkCode → Result TargetFields LinkCode
+target_at_place laid ring section_ring seg o link found =
+    and_then found (λ point. target_in_section ring seg o link point (placement_of laid section_ring seg o))
 
 -- the target of a link to the object in segment `seg`, whose section is in the ring `section_ring`,
 -- which may differ from that of the link
-unfoldable pub object_landing : List LaidFields → ℕ → ℕ → ℕ → PartsFields → LinkFields
-    → Result LandingFields LinkCode
-object_landing laid ring section_ring seg o link =
-    landing_at laid ring section_ring seg o link (point_of link o)
+unfoldable pub object_target : List PlacedSectionFields → ℕ → ℕ → ℕ → PartsFields → LinkFields
+    → Result TargetFields LinkCode
+object_target laid ring section_ring seg o link =
+    target_at_place laid ring section_ring seg o link (object_place_of link o)
 
 -- the target of a link to a segment that should be an object, by the object in its file; L5 if the
 -- file is not an object
-abbrev pub landing_by : List LaidFields → ℕ → ℕ → SegmentFields → LinkFields
-    → Result PartsFields ObjectFault → Result LandingFields LinkCode
-landing_by laid ring seg s link (Err fault) = Err (L5 (fault_number fault))
-landing_by laid ring seg s link (Ok o) = object_landing laid ring (section_ring ring s) seg o link
+abbrev pub target_by_object : List PlacedSectionFields → ℕ → ℕ → SegmentFields → LinkFields
+    → Result PartsFields ObjectFault → Result TargetFields LinkCode
+target_by_object laid ring seg s link (Err fault) = Err (L5 (fault_number fault))
+target_by_object laid ring seg s link (Ok o) = object_target laid ring (section_ring ring s) seg o link
 
 -- the target of a link of type 3 or 4 to the segment that was found
-unfoldable pub target_landing : List LaidFields → ℕ → ℕ → SegmentFields → List ℕ → LinkFields
-    → Result LandingFields LinkCode
-target_landing laid ring seg s words link =
+unfoldable pub segment_target : List PlacedSectionFields → ℕ → ℕ → SegmentFields → List ℕ → LinkFields
+    → Result TargetFields LinkCode
+segment_target laid ring seg s words link =
     if may_not_use ring s then Err L4
-    else if is_plain s.kind then plain_landing ring seg link
-    else landing_by laid ring seg s link (object_of words)
+    else if is_plain s.kind then plain_target ring seg link
+    else target_by_object laid ring seg s link (object_of words)

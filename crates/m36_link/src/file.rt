@@ -2,7 +2,7 @@
 
 ghost use Rattle.std.specs.Prelude.{ℕ, List, ◌≡◌, ◌-◌, ◌<◌, ◌≤◌, ◌^◌, Option, Some, None, Ok, Err, MatchResult, length, option_copied, IfOk, IfSome};
 ghost use Rattle.obj36.specs.ObjectOf.{object_of};
-ghost use Rattle.m36_link.specs.Known.{place_of, file_of, object_in, laid_words};
+ghost use Rattle.m36_link.specs.Known.{index_in_catalog, file_of, object_in, laid_words};
 ghost use Rattle.obj36_parts.specs.ObjectSegment.{segment_limit};
 
 use m36_word::{NoMemory, Word, Words};
@@ -66,9 +66,9 @@ impl File {
 }
 
 /// The index in the catalog of the segment with a number; None below the first number.
-#[tactic(auto, unfolding(crate::specs::Known::place_of))]
-pub(crate) fn place_of(seg: u16) -> Option<usize>
-    ensures { result ≡ place_of seg }
+#[tactic(auto, unfolding(crate::specs::Known::index_in_catalog))]
+pub(crate) fn index_in_catalog(seg: u16) -> Option<usize>
+    ensures { result ≡ index_in_catalog seg }
 {
     if seg >= FIRST_SEGMENT {
         Some((seg - FIRST_SEGMENT) as usize)
@@ -82,7 +82,7 @@ pub(crate) fn place_of(seg: u16) -> Option<usize>
 pub(crate) fn file_of(files: &[File], seg: u16) -> Option<&File>
     ensures { option_copied result ≡ file_of files.now seg }
 {
-    match place_of(seg) {
+    match index_in_catalog(seg) {
         Some(i) => files.get(i),
         None => None,
     }

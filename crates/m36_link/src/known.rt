@@ -3,23 +3,23 @@
 ghost use Rattle.std.specs.Prelude.{[], ◌∷◌, ◌++◌, ◌≡◌, ◌<◌, ◌≤◌, ◌^◌, ◌+◌, Option, Some, None, IfOk, IfSome, OnOk, OnErr, length};
 ghost use Rattle.std.specs.Vec.{vec_len, vec_capacity};
 ghost use Rattle.m36_text.specs.Texts.{name_limit};
-ghost use Rattle.m36_link.specs.Known.{nothing_known, initiated};
+ghost use Rattle.m36_link.specs.Known.{nothing_known, initiated_segment};
 ghost use Rattle.m36_link.specs.Names.{AreNames};
-ghost use Rattle.m36_link.specs.Search.{searched};
-ghost use Rattle.m36_link.specs.Accepted.{accepted, with_initiated, with_laid, MayBeLaid};
+ghost use Rattle.m36_link.specs.Search.{search_result};
+ghost use Rattle.m36_link.specs.Accepted.{known_after, with_initiated_name, with_section, MayBeLaid};
 ghost use Rattle.obj36_parts.specs.ObjectSegment.{segment_limit};
 
 use crate::laid::{NewSection, PlacedSection};
 use crate::names::RingName;
-use crate::places::{PlacedSections, no_places, store_index};
-use crate::search::{initiated, searched_in_directories};
+use crate::places::{PlacedSections, empty_index_table, store_index};
+use crate::search::{initiated_segment, search_directories};
 use crate::snap::Snap;
 use indexmap::IndexMap;
 use m36_dir::Catalog;
 use m36_text::HashSeed;
 use m36_word::NoMemory;
 use obj36::Link;
-use obj36_parts::names::has_its_name;
+use obj36_parts::names::kind_has_name;
 use std::alloc::Global;
 use std::marker::Model;
 
@@ -53,7 +53,7 @@ fn insert_name(
     target: u16,
 ) -> Result<(), NoMemory>
     requires names { AreNames names.old.entries }
-    requires absent { None ≡ initiated names.old.entries name.ring name.name }
+    requires absent { None ≡ initiated_segment names.old.entries name.ring name.name }
     requires fits { length name.name ≤ name_limit }
     requires target { target < 2 ^ 15 }
     ensures ok { OnOk result (names.new.entries ≡ names.old.entries ++ (name, target) ∷ []) }
@@ -66,7 +66,7 @@ fn insert_name(
 
 // Adds the name of a link of type 3 or 4, if it is not yet initiated. If memory runs out, nothing
 // changes.
-#[tactic(auto, unfolding(crate::specs::Accepted::with_initiated))]
+#[tactic(auto, unfolding(crate::specs::Accepted::with_initiated_name))]
 fn add_name(
     names: &mut IndexMap<RingName, u16, HashSeed>,
     ring: u8,
@@ -76,15 +76,15 @@ fn add_name(
     requires names { AreNames names.old.entries }
     requires target { target < 2 ^ 15 }
     ensures ok { OnOk result
-        (names.new.entries ≡ with_initiated names.old.entries ring link.now target) }
+        (names.new.entries ≡ with_initiated_name names.old.entries ring link.now target) }
     ensures err { OnErr result (names.new.entries ≡ names.old.entries) }
     ensures names { AreNames names.new.entries }
 {
-    if !has_its_name(link.kind as u64) {
+    if !kind_has_name(link.kind as u64) {
         return Ok(());
     }
     let name = &link.name;
-    match initiated(names, ring, name.bytes()) {
+    match initiated_segment(names, ring, name.bytes()) {
         Some(_) => Ok(()),
         None => {
             let name = RingName {
@@ -98,11 +98,11 @@ fn add_name(
 
 // Adds the section that is laid, if there is one, to the list, and its index to the table. There is
 // room for it.
-#[tactic(auto, unfolding(crate::specs::Accepted::with_laid))]
+#[tactic(auto, unfolding(crate::specs::Accepted::with_section))]
 fn add_section(laid: &mut Vec<PlacedSection>, places: &mut Vec<u16>, lay: &Option<NewSection>)
     requires room { vec_len laid.old < vec_capacity laid.old }
     requires fits { IfSome lay.now (λ l. l.base + length l.words ≤ segment_limit) }
-    ensures { laid.new.items ≡ with_laid laid.old.items lay.now }
+    ensures { laid.new.items ≡ with_section laid.old.items lay.now }
 {
     if let Some(lay) = lay {
         let section = PlacedSection {
@@ -128,7 +128,7 @@ impl Known {
         Ok(Known {
             names: IndexMap::with_hasher(alloc, catalog.seed()),
             laid: Vec::new(alloc),
-            places: no_places(alloc)?,
+            places: empty_index_table(alloc)?,
         })
     }
 
@@ -153,23 +153,23 @@ impl Known {
     /// directory `from` refers to it. It is the segment that is initiated under the name in the
     /// ring; otherwise the segment of that name in the directory, in the working directory, or in
     /// the first library that has it. None exactly if there is no such segment.
-    #[tactic(auto, unfolding(crate::specs::Search::searched, crate::specs::Search::candidates))]
+    #[tactic(auto, unfolding(crate::specs::Search::search_result, crate::specs::Search::candidates))]
     pub fn search(&self, catalog: &Catalog, ring: u8, name: &[u8], from: u16) -> Option<u16>
-        ensures value { result ≡ searched self.now catalog.now ring name.now from }
+        ensures value { result ≡ search_result self.now catalog.now ring name.now from }
         ensures bound { IfSome result (λ seg. seg < 2 ^ 15) }
     {
-        match initiated(&self.names, ring, name) {
+        match initiated_segment(&self.names, ring, name) {
             Some(seg) => Some(seg),
-            None => searched_in_directories(catalog, name, from),
+            None => search_directories(catalog, name, from),
         }
     }
 
     /// Adds the results of an answer: the name of a link of type 3 or 4, if the ring does not have
     /// it yet, and the section that is laid. If memory runs out, nothing changes.
-    #[tactic(auto, unfolding(crate::specs::Accepted::accepted))]
+    #[tactic(auto, unfolding(crate::specs::Accepted::known_after))]
     pub fn accept(&mut self, s: &Snap) -> Result<(), NoMemory>
         requires { MayBeLaid self.old s.now.lay }
-        ensures ok { OnOk result (self.new ≡ accepted self.old s.now) }
+        ensures ok { OnOk result (self.new ≡ known_after self.old s.now) }
         ensures err { OnErr result (self.new ≡ self.old) }
     {
         self.laid.reserve(1)?;

@@ -28,9 +28,9 @@ pub struct PlacedSection {
 impl Model for PlacedSection {
     ghost use Rattle.std.specs.Prelude.{◌<◌, ◌≤◌, ◌+◌, ◌^◌};
     ghost use Rattle.obj36_parts.specs.ObjectSegment.{segment_limit};
-    ghost use Rattle.m36_link.specs.Fields.{LaidFields};
+    ghost use Rattle.m36_link.specs.Fields.{PlacedSectionFields};
 
-    ghost Value = { LaidFields };
+    ghost Value = { PlacedSectionFields };
 
     ghost view = { λ l. record { ring = l.ring; seg = l.seg; base = l.base; size = l.size } };
 
@@ -55,9 +55,9 @@ pub struct NewSection {
 
 impl Model for NewSection {
     ghost use Rattle.std.specs.Prelude.{◌<◌, ◌^◌};
-    ghost use Rattle.m36_link.specs.Fields.{LayFields};
+    ghost use Rattle.m36_link.specs.Fields.{NewSectionFields};
 
-    ghost Value = { LayFields };
+    ghost Value = { NewSectionFields };
 
     ghost view = { λ l. record { ring = l.ring; seg = l.seg; base = l.base; words = l.words } };
 

@@ -1,10 +1,10 @@
 //! Laws of links, of the search and of laying.
 
-ghost use Rattle.m36_link.specs.Laws.{LinksFault, LinksFound, NumbersAgree, MayBeAccepted, MayBeAcceptedFrom, KeepsConsistent, KeepsMadeFrom, PairsAreRead};
+ghost use Rattle.m36_link.specs.Laws.{UnsnappedLinksFault, LinksFound, NumbersAgree, MayBeAccepted, MayBeAcceptedFrom, KeepsConsistent, KeepsConsistentFrom, PairsAreRead};
 
 /// Laws of links.
 ///
-/// - `accepted`, `accepted_from`: an answer may be accepted.
+/// - `known_after`, `accepted_from`: an answer may be accepted.
 /// - `made`, `made_from`: accepting an answer keeps `IsConsistent`: each name is that of a catalog
 ///   segment; each laid section is the whole section of an object of the catalog, begins at an
 ///   even word and is within its linkage segment.
@@ -15,12 +15,12 @@ ghost use Rattle.m36_link.specs.Laws.{LinksFault, LinksFound, NumbersAgree, MayB
 /// - `numbers`: the number of a segment of the catalog leads back to its index.
 #[tactic(auto, using(crate::proofs::Made::laws, crate::proofs::LinkTags::links_fault, crate::proofs::LinkPlaces::links_found, crate::proofs::PairPlaces::pairs_stand))]
 pub fn link_laws()
-    ensures fault { LinksFault }
+    ensures fault { UnsnappedLinksFault }
     ensures links { LinksFound }
     ensures numbers { NumbersAgree }
-    ensures accepted { MayBeAccepted }
+    ensures known_after { MayBeAccepted }
     ensures accepted_from { MayBeAcceptedFrom }
     ensures made { KeepsConsistent }
-    ensures made_from { KeepsMadeFrom }
+    ensures made_from { KeepsConsistentFrom }
     ensures pairs { PairsAreRead }
 {}

@@ -21,7 +21,7 @@
 pub mod file;
 pub mod known;
 pub mod laid;
-mod landing;
+mod target;
 pub mod laws;
 mod names;
 mod places;

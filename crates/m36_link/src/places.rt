@@ -24,10 +24,10 @@ pub(crate) struct PlacedSections<'a> {
 
 impl<'a> Model for PlacedSections<'a> {
     ghost use Rattle.std.specs.Prelude.{List};
-    ghost use Rattle.m36_link.specs.Fields.{LaidFields};
+    ghost use Rattle.m36_link.specs.Fields.{PlacedSectionFields};
     ghost use Rattle.m36_link.specs.Apart.{AreEachFound};
 
-    ghost Value = { List LaidFields };
+    ghost Value = { List PlacedSectionFields };
 
     ghost view = { λ s. s.items.now };
 
@@ -40,7 +40,7 @@ fn slot(ring: u8, seg: u16) -> usize {
 }
 
 /// The table for an empty list.
-pub(crate) fn no_places(alloc: Global) -> Result<Vec<u16>, NoMemory> {
+pub(crate) fn empty_index_table(alloc: Global) -> Result<Vec<u16>, NoMemory> {
     let mut places = Vec::with_capacity(alloc, RINGS * SEGMENTS)?;
     places.resize(RINGS * SEGMENTS, 0)?;
     Ok(places)

@@ -1,7 +1,7 @@
 //! The place in an object that a link names, and the pair to it.
 
 ghost use Rattle.std.specs.Prelude.{◌≡◌, ◌+◌, ◌<◌, ◌≤◌, ◌^◌, IfOk};
-ghost use Rattle.m36_link.specs.Target.{section_of, point_of, pair_to, pair_of};
+ghost use Rattle.m36_link.specs.Target.{section_of, object_place_of, pair_to, pair_of};
 ghost use Rattle.obj36_parts.specs.ObjectSegment.{segment_limit};
 
 use crate::laid::{FIRST_LINKAGE, PlacedSection};
@@ -9,7 +9,7 @@ use m36_desc::Its;
 use m36_model::LinkCode;
 use m36_word::Pair;
 use obj36::{Link, Object, Section};
-use obj36_parts::names::{has_its_entry, has_its_name};
+use obj36_parts::names::{kind_has_entry, kind_has_name};
 use obj36_parts::sections::later_section;
 
 /// A place of an object: a word number in a section.
@@ -24,7 +24,7 @@ pub(crate) struct ObjectPlace {
 fn section_of(link: &Link) -> Section
     ensures { result ≡ section_of link.now }
 {
-    if has_its_name(link.kind as u64) {
+    if kind_has_name(link.kind as u64) {
         Section::Text
     } else {
         link.section
@@ -32,13 +32,13 @@ fn section_of(link: &Link) -> Section
 }
 
 /// The place that a link names in its target object; L3 if the object does not define its entry.
-#[tactic(auto, unfolding(crate::specs::Target::point_of))]
-pub(crate) fn point_of(link: &Link, object: &Object) -> Result<ObjectPlace, LinkCode>
-    ensures value { result ≡ point_of link.now object.now }
+#[tactic(auto, unfolding(crate::specs::Target::object_place_of))]
+pub(crate) fn object_place_of(link: &Link, object: &Object) -> Result<ObjectPlace, LinkCode>
+    ensures value { result ≡ object_place_of link.now object.now }
     ensures bound { IfOk result (λ point. point.value < 2 ^ 18) }
 {
     let section = section_of(link);
-    if !has_its_entry(link.kind as u64) {
+    if !kind_has_entry(link.kind as u64) {
         return Ok(ObjectPlace { value: 0, section });
     }
     match object.find(link.entry.bytes()) {

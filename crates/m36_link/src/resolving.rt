@@ -3,19 +3,19 @@
 ghost use Rattle.std.specs.Prelude.{◌≡◌, ◌<◌, ◌≤◌, find, length, option_copied, IfOk};
 ghost use Rattle.m36_link.specs.Known.{segment_of, object_in, laid_words};
 ghost use Rattle.m36_link.specs.Links.{link_from, link_in, holds_link, section_at};
-ghost use Rattle.m36_link.specs.Snap.{outer_landing, directory_of, landing_of, words_laid, lay_of, snap_by, outer_snap, snap_of, SnapResult};
+ghost use Rattle.m36_link.specs.Snap.{outer_target, directory_of, target_of_link, words_to_lay, section_with_words, snap_of_target, outer_snap, snap_of, SnapResult};
 ghost use Rattle.obj36_parts.specs.ObjectSegment.{segment_limit};
 
-use crate::file::{File, file_of, object_in, place_of};
+use crate::file::{File, file_of, object_in, index_in_catalog};
 use crate::known::Known;
 use crate::laid::{FIRST_LINKAGE, NewSection, PlacedSection};
-use crate::landing::{Target, own_landing, target_landing};
+use crate::target::{Target, own_target, segment_target};
 use crate::snap::{LinkFault, Snap};
 use m36_dir::{Catalog, Segment};
 use m36_model::{At, LinkCode};
 use m36_word::{NoMemory, Words};
 use obj36::{Link, Object, Section};
-use obj36_parts::names::has_its_name;
+use obj36_parts::names::kind_has_name;
 use obj36_parts::sections::push_all;
 use std::alloc::Global;
 
@@ -88,7 +88,7 @@ fn section_at(laid: &[PlacedSection], files: &[File], at: At) -> Option<PlacedSe
 pub fn segment_of(catalog: &Catalog, seg: u16) -> Option<&Segment>
     ensures { option_copied result ≡ segment_of catalog.now seg }
 {
-    match place_of(seg) {
+    match index_in_catalog(seg) {
         Some(i) if i < catalog.count() => Some(catalog.segment(i)),
         _ => None,
     }
@@ -105,8 +105,8 @@ fn directory_of(catalog: &Catalog, seg: u16) -> u16
 }
 
 // The target of a link of type 3 or 4, which is searched from a directory.
-#[tactic(auto, unfolding(crate::specs::Snap::outer_landing))]
-fn outer_landing(
+#[tactic(auto, unfolding(crate::specs::Snap::outer_target))]
+fn outer_target(
     known: &Known,
     catalog: &Catalog,
     files: &[File],
@@ -115,7 +115,7 @@ fn outer_landing(
     from: u16,
 ) -> Result<Target, LinkCode>
     requires { ring < 8 }
-    ensures { result ≡ outer_landing known.now catalog.now files.now ring link.now from }
+    ensures { result ≡ outer_target known.now catalog.now files.now ring link.now from }
 {
     let Some(seg) = known.search(catalog, ring, link.name.bytes(), from) else {
         return Err(LinkCode::L2);
@@ -126,12 +126,12 @@ fn outer_landing(
     let Some(file) = file_of(files, seg) else {
         return Err(LinkCode::L2);
     };
-    target_landing(&known.sections(), ring, seg, segment, file, link)
+    segment_target(&known.sections(), ring, seg, segment, file, link)
 }
 
 // The target of a link of an object whose section is laid.
-#[tactic(auto, unfolding(crate::specs::Snap::landing_of))]
-fn landing_of(
+#[tactic(auto, unfolding(crate::specs::Snap::target_of_link))]
+fn target_of_link(
     known: &Known,
     catalog: &Catalog,
     files: &[File],
@@ -142,13 +142,13 @@ fn landing_of(
 ) -> Result<Target, LinkCode>
     requires ring { ring < 8 }
     requires size { length (laid_words object.now) ≤ segment_limit }
-    ensures { result ≡ landing_of known.now catalog.now files.now ring section object.now link.now }
+    ensures { result ≡ target_of_link known.now catalog.now files.now ring section object.now link.now }
 {
-    if has_its_name(link.kind as u64) {
+    if kind_has_name(link.kind as u64) {
         let from = directory_of(catalog, section.seg);
-        outer_landing(known, catalog, files, ring, link, from)
+        outer_target(known, catalog, files, ring, link, from)
     } else {
-        own_landing(ring, section, object, link)
+        own_target(ring, section, object, link)
     }
 }
 
@@ -166,8 +166,8 @@ fn laid_words(alloc: Global, object: &Object) -> Result<Words, NoMemory>
 }
 
 // The words that are laid for a segment.
-fn words_laid(alloc: Global, files: &[File], seg: u16) -> Result<Words, NoMemory>
-    ensures { IfOk result (λ words. words ≡ words_laid (object_in files.now seg)) }
+fn words_to_lay(alloc: Global, files: &[File], seg: u16) -> Result<Words, NoMemory>
+    ensures { IfOk result (λ words. words ≡ words_to_lay (object_in files.now seg)) }
 {
     match object_in(files, seg) {
         Some(object) => laid_words(alloc, object),
@@ -176,16 +176,16 @@ fn words_laid(alloc: Global, files: &[File], seg: u16) -> Result<Words, NoMemory
 }
 
 // The section that has to be laid, with its words.
-fn lay_of(
+fn section_with_words(
     alloc: Global,
     files: &[File],
     lay: Option<PlacedSection>,
 ) -> Result<Option<NewSection>, NoMemory>
-    ensures { IfOk result (λ lays. lays ≡ lay_of files.now lay) }
+    ensures { IfOk result (λ lays. lays ≡ section_with_words files.now lay) }
 {
     match lay {
         Some(section) => {
-            let words = words_laid(alloc, files, section.seg)?;
+            let words = words_to_lay(alloc, files, section.seg)?;
             Ok(Some(NewSection {
                 words,
                 base: section.base,
@@ -198,7 +198,7 @@ fn lay_of(
 }
 
 // The answer, given the target of the link.
-fn snap_by(
+fn snap_of_target(
     alloc: Global,
     files: &[File],
     ring: u8,
@@ -206,11 +206,11 @@ fn snap_by(
     landing: Result<Target, LinkCode>,
 ) -> Result<Snap, LinkFault>
     requires { ring < 8 }
-    ensures { SnapResult result (snap_by files.now ring link.now landing) }
+    ensures { SnapResult result (snap_of_target files.now ring link.now landing) }
 {
     match landing {
         Ok(landing) => Ok(Snap {
-            lay: lay_of(alloc, files, landing.lay)?,
+            lay: section_with_words(alloc, files, landing.lay)?,
             link: link.copied(),
             pair: landing.pair,
             target: landing.target,
@@ -236,8 +236,8 @@ impl Known {
         requires { ring < 8 }
         ensures { SnapResult result (outer_snap self.now catalog.now files.now ring link.now from) }
     {
-        let landing = outer_landing(self, catalog, files, ring, link, from);
-        snap_by(alloc, files, ring, link, landing)
+        let landing = outer_target(self, catalog, files, ring, link, from);
+        snap_of_target(alloc, files, ring, link, landing)
     }
 
     /// Resolves the link at a place, for the ring of the place. The result is the first of these
@@ -268,7 +268,7 @@ impl Known {
         ) else {
             return Err(LinkFault::Refused(LinkCode::L1, None));
         };
-        let landing = landing_of(self, catalog, files, at.ring, section, object, link);
-        snap_by(alloc, files, at.ring, link, landing)
+        let landing = target_of_link(self, catalog, files, at.ring, section, object, link);
+        snap_of_target(alloc, files, at.ring, link, landing)
     }
 }

@@ -2,7 +2,7 @@
 
 ghost use Rattle.std.specs.Prelude.{◌≡◌, ◌<◌, ◌^◌, filter_map, slice_get, IfSome};
 ghost use Rattle.m36_link.specs.Names.{AreNames};
-ghost use Rattle.m36_link.specs.Known.{initiated};
+ghost use Rattle.m36_link.specs.Known.{initiated_segment};
 ghost use Rattle.m36_link.specs.Search.{found_in, directories_searched};
 
 use crate::file::FIRST_SEGMENT;
@@ -12,14 +12,14 @@ use m36_dir::Catalog;
 use m36_text::{HashSeed, Name};
 
 /// The number of the segment that is initiated under a name in a ring.
-#[tactic(auto, unfolding(crate::specs::Known::initiated), using(crate::proofs::KnownNames::long_absent))]
-pub(crate) fn initiated(
+#[tactic(auto, unfolding(crate::specs::Known::initiated_segment), using(crate::proofs::KnownNames::long_absent))]
+pub(crate) fn initiated_segment(
     names: &IndexMap<RingName, u16, HashSeed>,
     ring: u8,
     name: &[u8],
 ) -> Option<u16>
     requires { AreNames names.now.entries }
-    ensures value { result ≡ initiated names.now.entries ring name.now }
+    ensures value { result ≡ initiated_segment names.now.entries ring name.now }
     ensures bound { IfSome result (λ seg. seg < 2 ^ 15) }
 {
     match Name::new(name) {
@@ -59,7 +59,7 @@ fn first_in(catalog: &Catalog, name: &[u8], directories: &[u16]) -> Option<u16>
 
 /// The number of the segment with a name: in the directory that refers to it, otherwise in the
 /// working directory, otherwise in the first library that has the name.
-pub(crate) fn searched_in_directories(catalog: &Catalog, name: &[u8], from: u16) -> Option<u16>
+pub(crate) fn search_directories(catalog: &Catalog, name: &[u8], from: u16) -> Option<u16>
     ensures value { result ≡ slice_get (filter_map (found_in catalog.now name.now)
         (directories_searched catalog.now from)) 0 }
     ensures bound { IfSome result (λ seg. seg < 2 ^ 15) }

@@ -2,8 +2,8 @@
 
 ghost use Rattle.std.specs.Prelude.{◌≡◌, ◌+◌, ◌<◌, ◌≤◌, ◌^◌, ◌&&◌, find, length, Some, IfSome};
 ghost use Rattle.obj36_parts.specs.ObjectSegment.{linkage_section, segment_limit, head_words};
-ghost use Rattle.m36_link.specs.Known.{laid_in, behind, next_base_after, base_of, laid_words};
-ghost use Rattle.m36_link.specs.Target.{home_of};
+ghost use Rattle.m36_link.specs.Known.{laid_in, even_end, next_base_after, next_base_in_ring, laid_words};
+ghost use Rattle.m36_link.specs.Target.{placement_of};
 ghost use Rattle.m36_link.specs.Apart.{AreEachFound};
 
 use crate::laid::{LOT_WORDS, PlacedSection};
@@ -79,9 +79,9 @@ pub(crate) fn laid_in(laid: &PlacedSections<'_>, ring: u8, seg: u16) -> Option<P
 }
 
 // The first even word number after a section.
-#[tactic(auto, unfolding(crate::specs::Known::behind))]
-fn behind(section: &PlacedSection) -> u32
-    ensures value { result ≡ behind section.now }
+#[tactic(auto, unfolding(crate::specs::Known::even_end))]
+fn even_end(section: &PlacedSection) -> u32
+    ensures value { result ≡ even_end section.now }
     ensures bound { result ≤ segment_limit }
 {
     let end = section.base + section.size;
@@ -95,7 +95,7 @@ fn next_base_after(ring: u8, base: u32, section: &PlacedSection) -> u32
     ensures bound { result ≤ segment_limit }
 {
     if section.ring == ring {
-        behind(section)
+        even_end(section)
     } else {
         base
     }
@@ -103,8 +103,8 @@ fn next_base_after(ring: u8, base: u32, section: &PlacedSection) -> u32
 
 // The word number at which the next section of a ring is laid.
 #[tactic(auto, unfolding(crate::specs::Known::next_base))]
-fn base_of(laid: &[PlacedSection], ring: u8) -> u32
-    ensures value { result ≡ base_of laid.now ring }
+fn next_base_in_ring(laid: &[PlacedSection], ring: u8) -> u32
+    ensures value { result ≡ next_base_in_ring laid.now ring }
     ensures bound { result ≤ segment_limit }
 {
     let mut base = LOT_WORDS;
@@ -118,8 +118,8 @@ fn base_of(laid: &[PlacedSection], ring: u8) -> u32
 
 /// The section of an object in a ring, laid already or to be laid; L6 if it would end past the
 /// segment.
-#[tactic(auto, unfolding(crate::specs::Target::home_of))]
-pub(crate) fn home_of(
+#[tactic(auto, unfolding(crate::specs::Target::placement_of))]
+pub(crate) fn placement_of(
     laid: &PlacedSections<'_>,
     ring: u8,
     seg: u16,
@@ -128,7 +128,7 @@ pub(crate) fn home_of(
     requires ring { ring < 8 }
     requires seg { seg < 2 ^ 15 }
     requires size { length (laid_words object.now) ≤ segment_limit }
-    ensures { result ≡ home_of laid.now ring seg object.now }
+    ensures { result ≡ placement_of laid.now ring seg object.now }
 {
     if let Some(section) = laid_in(laid, ring, seg) {
         return Ok(Placement {
@@ -136,7 +136,7 @@ pub(crate) fn home_of(
             is_new: false,
         });
     }
-    let base = base_of(laid.items, ring);
+    let base = next_base_in_ring(laid.items, ring);
     let size = laid_size(object);
     if base + size > SEGMENT_LIMIT as u32 {
         return Err(LinkCode::L6(base, size));

@@ -18,19 +18,19 @@ use Rattle.alm_tokens.specs.declared.numerals.Numeral.TheVariants as numeral
 use Rattle.alm_parse.specs.declared.operation.Operation.TheVariants.{Instruction, Octal}
 use Rattle.alm_tokens.specs.declared.pieces.Separator.TheVariants.{Comma}
 use Rattle.alm_tokens.specs.Tokens.{slice_of, span_at}
-use Rattle.alm_tokens.specs.Pieces.{parts, pieces_of}
+use Rattle.alm_tokens.specs.Pieces.{separates, pieces_of}
 use Rattle.alm_parse.specs.Members.{parse_numbers}
-use Rattle.alm_tokens.specs.Lists.{members, place_out}
+use Rattle.alm_tokens.specs.Lists.{members, first_out_of_range_place}
 use Rattle.alm_parse.specs.Operations.{operation_of, directive}
 use Rattle.alm_tokens.specs.Rows.{row_at}
 use Rattle.alm_parse.specs.Lines.{parse_line}
 use Rattle.alm_lines.specs.SpotFields.{LocationCounter}
 use Rattle.alm_asm.specs.declared.tables.Tables.{Tables}
-use Rattle.alm_parse.specs.Deeds.{deed_named}
-use Rattle.alm_asm.specs.Words.{words_by}
+use Rattle.alm_parse.specs.Deeds.{effect_named}
+use Rattle.alm_asm.specs.Words.{words_of_effect}
 use Rattle.alm_asm.specs.Assembly.{assembled}
 use Rattle.m36_list.specs.Modifiers.{modifier_text}
-use Rattle.m36_list.specs.Disassembly.{disassembly, by_fields, by_parts, octal_constant, address_text}
+use Rattle.m36_list.specs.Disassembly.{disassembly, text_of_fields, text_of_parts, octal_constant, address_text}
 use Rattle.m36_list.specs.Assembled.{object_of_word, PlacesItself}
 use Rattle.m36_list.proofs.Parted.{none_in_both}
 use Rattle.m36_list.proofs.Lengths.{address_is_some}
@@ -48,7 +48,7 @@ use Rattle.m36_list.proofs.LineRead.{line_read}
 pub record IsWord (w number : ℕ) (before text after : List ℕ) : Type 0 where
   pub line : Line36
   pub given : parse_line (before ++ (text ++ after)) (row_at number (length before) (length before + length text)) ≡ Ok line
-  pub places : (tables : Tables) (spot : LocationCounter) → words_by (before ++ (text ++ after)) tables spot line.args line.deed ≡ w ∷ []
+  pub places : (tables : Tables) (spot : LocationCounter) → words_of_effect (before ++ (text ++ after)) tables spot line.args line.deed ≡ w ∷ []
   pub alone : assembled record { text = before ++ (text ++ after); lines = line ∷ [] } ≡ Ok (object_of_word w)
 
 some_of : (name : List ℕ) → bytes_eq name [] ≡ false → 0 < length name
@@ -100,10 +100,10 @@ named_back w i name text before after line number word sized off named tagged sh
     let does = instruction_deed i.code i.bit27 name named o.instruction in
     let back : gives said.pr said.minus said.v i.tag i.code i.bit27 ≡ w = ap (λ (j : InstFields). inst_word j) (said.address.back i.code i.bit27 i.tag) ∙ same_word i sized off ∙ word in
     record {
-      line = line_of number (length before) read.op (deed_named name) (operand_of said.pr said.minus said.v said.span i.tag);
+      line = line_of number (length before) read.op (effect_named name) (operand_of said.pr said.minus said.v said.span i.tag);
       given = read.given;
-      places = λ tables spot. instruction_placed source tables spot read.op (deed_named name) i.code i.bit27 said.pr said.minus said.v said.span i.tag does ∙ ap (λ (n : ℕ). n ∷ []) back;
-      alone = instruction_alone source number (length before) read.op (deed_named name) i.code i.bit27 said.pr said.minus said.v said.span i.tag w does said.address.room back;
+      places = λ tables spot. instruction_placed source tables spot read.op (effect_named name) i.code i.bit27 said.pr said.minus said.v said.span i.tag does ∙ ap (λ (n : ℕ). n ∷ []) back;
+      alone = instruction_alone source number (length before) read.op (effect_named name) i.code i.bit27 said.pr said.minus said.v said.span i.tag w does said.address.room back;
     }
 
 -- an octal constant
@@ -115,13 +115,13 @@ no_comma : (d : ℕ) → d < 10 → (48 + d == 44) ≡ false
 no_comma d small = ne_eqb (48 + d) 44 (λ e. absurd (omega arith))
 
 octal_said : (source : List ℕ) (from to w : ℕ) → w < 2 ^ 36 → slice_of source (span_at from to) ≡ octal_text 12 w → to ≡ from + 12 → parse_numbers numeral.Octal source (span_at from to) ≡ Ok (Number w ∷ [])
-unfolding parse_numbers members pieces_of place_out
+unfolding parse_numbers members pieces_of first_out_of_range_place
 octal_said source from to w fits slice stop =
     let digits = octal_text 12 w in
     let long : length digits ≡ 12 = length_octal 12 w in
     let end : from + length digits ≡ to = omega arith in
     let read : number_read 8 digits 68719476735 ≡ Ok w = reads_octal 12 w 68719476735 (omega arith) fits (omega arith) in
-    rw (slice, one_piece Comma false from from digits (octal_passes_none (parts Comma) 12 w no_comma), end, slice, read) (ap (λ (n : ℕ). Ok (Number n ∷ [])) (omega arith))
+    rw (slice, one_piece Comma false from from digits (octal_passes_none (separates Comma) 12 w no_comma), end, slice, read) (ap (λ (n : ℕ). Ok (Number n ∷ [])) (omega arith))
 
 constant_back : (w number : ℕ) (before after : List ℕ) → w < 2 ^ 36 → IsWord w number before (octal_constant w) after
 constant_back w number before after fits =
@@ -135,19 +135,19 @@ constant_back w number before after fits =
     let read = line_read number (codes "oct " ++ digits) before (codes "oct") digits after Octal (Number w ∷ []) refl refl (omega arith) (octal_passes_none is_ending 12 w no_ending) (omega arith) octal_operation (λ source rest. refl) (octal_said _ (length before + 3 + 1) _ w fits slice (omega arith)) in
     let does = constant_deed in
     record {
-      line = line_of number (length before) read.op (deed_named (codes "oct")) (Number w ∷ []);
+      line = line_of number (length before) read.op (effect_named (codes "oct")) (Number w ∷ []);
       given = read.given;
-      places = λ tables spot. constant_placed source tables spot read.op (deed_named (codes "oct")) w does;
-      alone = constant_alone source number (length before) read.op (deed_named (codes "oct")) w does;
+      places = λ tables spot. constant_placed source tables spot read.op (effect_named (codes "oct")) w does;
+      alone = constant_alone source number (length before) read.op (effect_named (codes "oct")) w does;
     }
 
 parts_back : (w number : ℕ) (before after : List ℕ) (i : InstFields) (name text : Option (List ℕ)) → w < 2 ^ 36 → inst_word i ≡ w → IsInst i → i.inhibit ≡ false → name_at i.code i.bit27 ≡ name → modifier_text i.tag ≡ text
-    → IsWord w number before (by_parts w i name text) after
+    → IsWord w number before (text_of_parts w i name text) after
 parts_back w number before after i (Some name) (Some text) below word sized off named tagged = named_back w i name text before after (((name ++ codes " ") ++ address_text i) ++ text) number word sized off named tagged (simp append_assoc)
 parts_back w number before after i (Some name) None below word sized off named tagged = constant_back w number before after below
 parts_back w number before after i None text below word sized off named tagged = constant_back w number before after below
 
-fields_back : (w number : ℕ) (before after : List ℕ) (i : InstFields) (b : Bool) → w < 2 ^ 36 → inst_word i ≡ w → IsInst i → i.inhibit ≡ b → IsWord w number before (by_fields w i) after
+fields_back : (w number : ℕ) (before after : List ℕ) (i : InstFields) (b : Bool) → w < 2 ^ 36 → inst_word i ≡ w → IsInst i → i.inhibit ≡ b → IsWord w number before (text_of_fields w i) after
 fields_back w number before after i true below word sized on = rw on (constant_back w number before after below)
 fields_back w number before after i false below word sized off = rw off (parts_back w number before after i (name_at i.code i.bit27) (modifier_text i.tag) below word sized off refl refl)
 

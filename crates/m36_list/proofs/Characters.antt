@@ -6,7 +6,7 @@ use Rattle.std.specs.Int.Digits.{AllBelowBase, digits_of}
 use Rattle.std.specs.Str.{bytes_eq}
 use Rattle.std.proofs.lemmas.Bool.{or_from, and_parts, not-true}
 use Rattle.std.proofs.lemmas.Int.Digits.{all_below_base_digits_of}
-use Rattle.m36_text.specs.Digits.{digits, character, octal_text, decimal_text}
+use Rattle.m36_text.specs.Digits.{digits, digit_character, octal_text, decimal_text}
 use Rattle.m36_text.proofs.DigitLaws.{digits_below}
 use Rattle.m36_inst.specs.Fields.{InstFields}
 use Rattle.m36_inst.specs.Table.{Entry, table}
@@ -17,11 +17,11 @@ use Rattle.alm_parse.specs.Operations.{directive}
 use Rattle.m36_list.specs.Disassembly.{signed_text, address_text}
 use Rattle.m36_list.proofs.Parted.{none_in_both}
 
-digits_pass_none : (p : ℕ → Bool) (base : ℕ) (ds : List ℕ) → base ≤ 10 → AllBelowBase base ds → ((d : ℕ) → d < 10 → p (48 + d) ≡ false) → list_any p (map character ds) ≡ false
+digits_pass_none : (p : ℕ → Bool) (base : ℕ) (ds : List ℕ) → base ≤ 10 → AllBelowBase base ds → ((d : ℕ) → d < 10 → p (48 + d) ≡ false) → list_any p (map digit_character ds) ≡ false
 digits_pass_none p base [] small below none = refl
 digits_pass_none p base (d ∷ ds) small below none =
     let first = below.0 in
-    or_from (p (48 + d)) (list_any p (map character ds)) (none d (omega arith)) (digits_pass_none p base ds small below.1 none)
+    or_from (p (48 + d)) (list_any p (map digit_character ds)) (none d (omega arith)) (digits_pass_none p base ds small below.1 none)
 
 -- a test that no digit passes, no character of a number passes
 pub decimal_passes_none : (p : ℕ → Bool) (v : ℕ) → ((d : ℕ) → d < 10 → p (48 + d) ≡ false) → list_any p (decimal_text v) ≡ false
@@ -50,11 +50,11 @@ signed_passes_none p offset none = signed_passes_none_by p offset (nat_lt offset
 
 -- a pointer register
 abbrev pub pointer_text : ℕ → List ℕ
-pointer_text n = codes "pr" ++ character n ∷ []
+pointer_text n = codes "pr" ++ digit_character n ∷ []
 
 pub pointer_passes_none : (p : ℕ → Bool) (n : ℕ) → n < 8 → PassesNone p → list_any p (pointer_text n) ≡ false
 pointer_passes_none p n small none =
-    or_from (p 112) (p 114 || list_any p (character n ∷ [])) none.letter_p (or_from (p 114) (list_any p (character n ∷ [])) none.letter_r (or_from (p (48 + n)) false (none.digit n (omega arith)) refl))
+    or_from (p 112) (p 114 || list_any p (digit_character n ∷ [])) none.letter_p (or_from (p 114) (list_any p (digit_character n ∷ [])) none.letter_r (or_from (p (48 + n)) false (none.digit n (omega arith)) refl))
 
 -- an address
 address_passes_none_by : (p : ℕ → Bool) (i : InstFields) (b : Bool) → i.y < 2 ^ 18 → PassesNone p → p 124 ≡ false → list_any p (cond b ((pointer_text (i.y / 2 ^ 15) ++ codes "|") ++ signed_text (i.y % 2 ^ 15)) (decimal_text i.y)) ≡ false

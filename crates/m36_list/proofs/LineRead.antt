@@ -10,10 +10,10 @@ use Rattle.alm_tokens.specs.Tokens.{slice_of, span_at}
 use Rattle.alm_parse.specs.declared.operation.Operation.{Operation}
 use Rattle.alm_parse.specs.declared.args.Arg.{Arg}
 use Rattle.alm_parse.specs.Operations.{operation_of}
-use Rattle.alm_parse.specs.Deeds.{deed_named}
+use Rattle.alm_parse.specs.Deeds.{effect_named}
 use Rattle.alm_parse.specs.Lines.{parse_line, label_refusal, args_of, args_with, operand_for}
 use Rattle.alm_tokens.specs.Rows.{row_at}
-use Rattle.alm_tokens.specs.Heads.{head_from, head_of, operand_start, end_from, operand_in}
+use Rattle.alm_tokens.specs.Heads.{head_from, head_of, operand_start, operand_end_from, operand_in}
 use Rattle.m36_list.proofs.Characters.{is_ending, is_parting}
 use Rattle.m36_list.proofs.Spans.{slice_at, position_behind}
 use Rattle.m36_list.proofs.WordAlone.{line_of}
@@ -43,8 +43,8 @@ head_at_name source before name rest after from to whole begin end none some =
     rw (slice_at source before (name ++ 32 ∷ rest) after from to whole begin end, head_named [] from from name rest none (omega arith)) refl
 
 -- an operand extends to the end of the line
-end_all : (end at : ℕ) (bytes : List ℕ) → list_any is_ending bytes ≡ false → end ≡ at → end_from end at bytes ≡ at + length bytes
-unfolding end_from
+end_all : (end at : ℕ) (bytes : List ℕ) → list_any is_ending bytes ≡ false → end ≡ at → operand_end_from end at bytes ≡ at + length bytes
+unfolding operand_end_from
 end_all end at [] none same = omega arith
 end_all end at (b ∷ bytes) none same =
     let parts = or_parts (is_ending b) (list_any is_ending bytes) none in
@@ -66,7 +66,7 @@ unfolding operand_in operand_start
 operand_behind source before operand after from to whole begin end none some =
     let longer = length-append before (codes " ") in
     let rest = slice_at source (before ++ codes " ") operand after (from + 1) to (whole ∙ simp append_assoc) (omega arith) (omega arith) in
-    let last : end_from (from + 1) (from + 1) operand ≡ to = end_all (from + 1) (from + 1) operand none refl ∙ omega arith in
+    let last : operand_end_from (from + 1) (from + 1) operand ≡ to = end_all (from + 1) (from + 1) operand none refl ∙ omega arith in
     let apart : (from + 1 == to) ≡ false = ne_eqb (from + 1) to (λ e. absurd (omega arith)) in
     rw (slice_at source before (32 ∷ operand) after from to whole begin end, first_ending operand none some, rest, last, apart) refl
 
@@ -80,7 +80,7 @@ operation_at_name source before name rest after from to whole begin end = slice_
 pub record IsLine (number : ℕ) (before text after name : List ℕ) (arguments : List Arg) : Type 0 where
   pub op : Span
   pub named : slice_of (before ++ (text ++ after)) op ≡ name
-  pub given : parse_line (before ++ (text ++ after)) (row_at number (length before) (length before + length text)) ≡ Ok (line_of number (length before) op (deed_named name) arguments)
+  pub given : parse_line (before ++ (text ++ after)) (row_at number (length before) (length before + length text)) ≡ Ok (line_of number (length before) op (effect_named name) arguments)
 
 pub line_read : (number : ℕ) (text before name operand after : List ℕ) (operation : Operation) (arguments : List Arg)
     → text ≡ name ++ 32 ∷ operand → list_any is_parting name ≡ false → 0 < length name → list_any is_ending operand ≡ false → 0 < length operand

@@ -4,12 +4,12 @@ use Rattle.std.proofs.lemmas.List.{at_drop_more, at_drop_all, append-nil, length
 use Rattle.alm_parse.specs.declared.line.Line36.{Line36}
 use Rattle.obj36_parts.specs.declared.section.Section.{Section}
 use Rattle.alm_lines.specs.SpotFields.{LocationCounter}
-use Rattle.alm_lines.specs.Spots.{start, below}
+use Rattle.alm_lines.specs.Spots.{start, next_line_spot}
 use Rattle.m36_list.specs.Listing.{placed_lines, size_in, section_words}
 
 -- one more line
 pub line_listed : (old next all name : List ℕ) (section : Section) (text left here later : List ℕ) (at size : ℕ) (spot under : LocationCounter) (lines : List Line36) (i : ℕ) (row : Line36)
-    → i < length lines → row ≡ get_or lines i row → size ≡ size_in section text spot row → here ≡ take size left → later ≡ drop size left → under ≡ below text spot row
+    → i < length lines → row ≡ get_or lines i row → size ≡ size_in section text spot row → here ≡ take size left → later ≡ drop size left → under ≡ next_line_spot text spot row
     → next ≡ old ++ placed_lines name row.line at here
     → old ++ section_words name section text at left spot (drop i lines) ≡ all
     → next ++ section_words name section text (at + length here) later under (drop (i + 1) lines) ≡ all

@@ -7,17 +7,17 @@ use Rattle.alm_parse.specs.declared.operation.Operation.{Operation}
 use Rattle.alm_parse.specs.declared.deed.LineEffect.{LineEffect}
 use Rattle.alm_parse.specs.Operations.{directive}
 use Rattle.alm_parse.specs.declared.deed.LineEffect.TheVariants as deed
-use Rattle.alm_parse.specs.Deeds.{instruction_of, deed_by, deed_named}
+use Rattle.alm_parse.specs.Deeds.{effect_of_instruction, effect_by_directive, effect_named}
 
 -- a name that is not a directive is that of an instruction, or of nothing
-undirected : (name : List ℕ) → directive name ≡ None → deed_named name ≡ instruction_of (code_named name)
-unfolding deed_named
-undirected name none = ap (λ (d : Option (Operation × LineEffect)). deed_by d name) none
+undirected : (name : List ℕ) → directive name ≡ None → effect_named name ≡ effect_of_instruction (code_named name)
+unfolding effect_named
+undirected name none = ap (λ (d : Option (Operation × LineEffect)). effect_by_directive d name) none
 
 -- a name of the table places its instruction, and `oct` its numbers
-pub instruction_deed : (code : ℕ) (bit27 : Bool) (name : List ℕ) → name_at code bit27 ≡ Some name → directive name ≡ None → deed_named name ≡ deed.Instruction code bit27
+pub instruction_deed : (code : ℕ) (bit27 : Bool) (name : List ℕ) → name_at code bit27 ≡ Some name → directive name ≡ None → effect_named name ≡ deed.Instruction code bit27
 instruction_deed code bit27 name named none = undirected name none ∙ rw (named_code code bit27 name named) refl
 
-pub constant_deed : deed_named (codes "oct") ≡ deed.Words
-unfolding deed_named directive
+pub constant_deed : effect_named (codes "oct") ≡ deed.Words
+unfolding effect_named directive
 constant_deed = refl

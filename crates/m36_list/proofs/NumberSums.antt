@@ -8,11 +8,11 @@ use Rattle.alm_tokens.specs.declared.expression.Term.{Term}
 use Rattle.alm_lines.specs.declared.sum.Sum.{Sum}
 use Rattle.alm_lines.specs.declared.sum.Kind.TheVariants.{Absolute}
 use Rattle.alm_lines.specs.SpotFields.{LocationCounter}
-use Rattle.alm_lines.specs.Sums.{balance, nothing, half_of, offset_of, absolute, sum_plus, sum_turned, kind_of}
-use Rattle.alm_lines.specs.Expressions.{term_sum, added, sum_of, is_undefined, place_undefined}
-use Rattle.alm_lines.specs.Refusals.{has_room}
-use Rattle.alm_asm.specs.LineRefusals.{own_room}
-use Rattle.alm_asm.specs.Words.{own_inst}
+use Rattle.alm_lines.specs.Sums.{balance, zero_balance, half_of, offset_of, absolute, sum_plus, negated_sum, kind_of}
+use Rattle.alm_lines.specs.Expressions.{term_sum, with_terms, sum_of, is_undefined, first_undefined_place}
+use Rattle.alm_lines.specs.Refusals.{fits_field}
+use Rattle.alm_asm.specs.LineRefusals.{internal_operand_field}
+use Rattle.alm_asm.specs.Words.{internal_instruction}
 
 abbrev pub number_term : Bool → ℕ → Span → Term
 number_term minus v span = record { what = Number v; span = span; minus = minus }
@@ -20,16 +20,16 @@ number_term minus v span = record { what = Number v; span = span; minus = minus 
 -- a number that is added, and one that is subtracted
 abbrev pub number_sum : Bool → ℕ → Sum
 number_sum false v = absolute v
-number_sum true v = record { value = balance 0 v; text = nothing; inner = nothing; outer = nothing; unknown = false }
+number_sum true v = record { value = balance 0 v; text = zero_balance; inner = zero_balance; outer = zero_balance; unknown = false }
 
 pub sum_is : (text : List ℕ) (symbols : List (List ℕ × Sum)) (spot : LocationCounter) (minus : Bool) (v : ℕ) (span : Span) → sum_of text symbols spot (number_term minus v span ∷ []) ≡ number_sum minus v
-unfolding added term_sum sum_plus sum_turned
+unfolding with_terms term_sum sum_plus negated_sum
 sum_is text symbols spot false v span =
     let same : 0 + v ≡ v = omega arith in
-    λ k. record { value = balance (same k) 0; text = nothing; inner = nothing; outer = nothing; unknown = false }
+    λ k. record { value = balance (same k) 0; text = zero_balance; inner = zero_balance; outer = zero_balance; unknown = false }
 sum_is text symbols spot true v span =
     let same : 0 + v ≡ v = omega arith in
-    λ k. record { value = balance 0 (same k); text = nothing; inner = nothing; outer = nothing; unknown = false }
+    λ k. record { value = balance 0 (same k); text = zero_balance; inner = zero_balance; outer = zero_balance; unknown = false }
 
 -- the sum is a number, and no symbol is missing
 pub kind_is : (minus : Bool) (v : ℕ) → kind_of (number_sum minus v) ≡ Absolute
@@ -41,15 +41,15 @@ pub known_is : (minus : Bool) (v : ℕ) → (number_sum minus v).unknown ≡ fal
 known_is false v = refl
 known_is true v = refl
 
-pub none_missing : (text : List ℕ) (symbols : List (List ℕ × Sum)) (minus : Bool) (v : ℕ) (span : Span) → place_undefined text symbols (number_term minus v span ∷ []) ≡ None
-unfolding place_undefined is_undefined
+pub none_missing : (text : List ℕ) (symbols : List (List ℕ × Sum)) (minus : Bool) (v : ℕ) (span : Span) → first_undefined_place text symbols (number_term minus v span ∷ []) ≡ None
+unfolding first_undefined_place is_undefined
 none_missing text symbols minus v span = refl
 
 -- an expression of one number, alone or relative to a pointer register, that is the address of an
 -- instruction and fits
 pub record GivesAddress (pr : Option ℕ) (minus : Bool) (v : ℕ) (i : InstFields) : Type 0 where
-  pub back : (code : ℕ) (bit27 : Bool) (tag : ℕ) → own_inst code bit27 pr (half_of (number_sum minus v).value) (offset_of (number_sum minus v).value) tag ≡ record { y = i.y; code = code % 2 ^ 9; bit27 = bit27; inhibit = false; by_pr = i.by_pr; tag = tag % 2 ^ 6 }
-  pub room : has_room (own_room pr) (number_sum minus v).value ≡ true
+  pub back : (code : ℕ) (bit27 : Bool) (tag : ℕ) → internal_instruction code bit27 pr (half_of (number_sum minus v).value) (offset_of (number_sum minus v).value) tag ≡ record { y = i.y; code = code % 2 ^ 9; bit27 = bit27; inhibit = false; by_pr = i.by_pr; tag = tag % 2 ^ 6 }
+  pub room : fits_field (internal_operand_field pr) (number_sum minus v).value ≡ true
 
 half_is : (v : ℕ) → v < 2 ^ 18 → half_of (number_sum false v).value ≡ v
 unfolding half_of

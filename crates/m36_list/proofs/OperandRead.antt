@@ -14,7 +14,7 @@ use Rattle.alm_tokens.specs.Modifiers.{pr_number, tag_of}
 use Rattle.alm_tokens.specs.Pieces.{piece_at}
 use Rattle.alm_tokens.specs.Expressions.{expression_pieces}
 use Rattle.alm_parse.specs.Bodies.{place_of, body_of, body_pieces}
-use Rattle.alm_parse.specs.Operands.{parse_operand, operand_by}
+use Rattle.alm_parse.specs.Operands.{parse_operand, operand_of_parts}
 use Rattle.m36_list.specs.Disassembly.{signed_text, address_text}
 use Rattle.m36_list.proofs.Characters.{decimal_passes_none, PassesNone, pointer_text, pointer_passes_none, address_passes_none}
 use Rattle.m36_list.proofs.Spans.{slice_at, place_behind, place_none}
@@ -55,7 +55,7 @@ pub record IsAddressAt (source : List ℕ) (from to : ℕ) (i : InstFields) : Ty
   pub minus : Bool
   pub v : ℕ
   pub span : Span
-  pub says : (at tag : ℕ) → operand_by source at (body_of source (span_at from to)) (body_pieces source (body_of source (span_at from to))) (Some tag) ≡ Ok (Operand pr None None (number_term minus v span ∷ []) tag ∷ [])
+  pub says : (at tag : ℕ) → operand_of_parts source at (body_of source (span_at from to)) (body_pieces source (body_of source (span_at from to))) (Some tag) ≡ Ok (Operand pr None None (number_term minus v span ∷ []) tag ∷ [])
   pub address : GivesAddress pr minus v i
 
 -- an address alone

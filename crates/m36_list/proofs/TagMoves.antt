@@ -2,20 +2,20 @@
 use Rattle.std.proofs.Common.{ℕ, zero, suc, ◌≡◌, ◌+◌, ◌/◌, ◌%◌, ◌<◌, ◌||◌, ◌==◌, Bool, true, false, List, [], ◌∷◌, ◌++◌, Option, Some, refl, sym, ap, ◌∙◌, arith}
 use Rattle.std.specs.Prelude.{codes, option_map, slice_index}
 use Rattle.std.proofs.lemmas.Bool.{eqb-true}
-use Rattle.m36_text.specs.Digits.{character}
+use Rattle.m36_text.specs.Digits.{digit_character}
 use Rattle.m36_text.specs.Reading.{first_non_digit, number_of, number_read}
 use Rattle.m36_text.specs.Numbers.{octal_in}
 use Rattle.m36_model.specs.Registers.{RegsFields}
 use Rattle.m36_model.specs.Tally.{is_tally_tag}
-use Rattle.m36_model.specs.Modification.{Point, Counts, index_of, move_of_point, move_register, move_register_then_indirect, move_indirect_then_register}
-use Rattle.alm_tokens.specs.Modifiers.{register_of, star_tag, indirect_first}
+use Rattle.m36_model.specs.Modification.{Point, Counts, modifier_value, move_of_point, move_register, move_register_then_indirect, move_indirect_then_register}
+use Rattle.alm_tokens.specs.Modifiers.{register_tag, star_tag, indirect_first_modifier}
 use Rattle.m36_list.specs.Modifiers.{tally_tag}
-use Rattle.m36_list.specs.Tags.{value_named, RegistersMean, TagsMean}
+use Rattle.m36_list.specs.Tags.{register_value_named, RegisterNamesSelect, TagsSelectModifications}
 
 -- ---- names of registers
 
-indexed : (g : RegsFields) (n : ℕ) → n < 8 → value_named g (codes "x" ++ character n ∷ []) ≡ Some (slice_index g.x n)
-unfolding register_of index_of octal_in number_read first_non_digit number_of
+indexed : (g : RegsFields) (n : ℕ) → n < 8 → register_value_named g (codes "x" ++ digit_character n ∷ []) ≡ Some (slice_index g.x n)
+unfolding register_tag modifier_value octal_in number_read first_non_digit number_of
 indexed g zero low = refl
 indexed g (suc zero) low = refl
 indexed g (suc (suc zero)) low = refl
@@ -26,8 +26,8 @@ indexed g (suc (suc (suc (suc (suc (suc zero)))))) low = refl
 indexed g (suc (suc (suc (suc (suc (suc (suc zero))))))) low = refl
 indexed g (suc (suc (suc (suc (suc (suc (suc (suc n)))))))) low = absurd (omega arith)
 
-pub registers_mean : RegistersMean
-unfolding register_of index_of octal_in number_read first_non_digit number_of
+pub registers_mean : RegisterNamesSelect
+unfolding register_tag modifier_value octal_in number_read first_non_digit number_of
 registers_mean =
     record {
       none = λ g. refl;
@@ -63,11 +63,11 @@ first_is r n tag named e =
     cc
 
 star_before :
-    (g : RegsFields) (p : Point) (bytes : List ℕ) (n : ℕ) → n < 16 → register_of bytes ≡ Some n → indirect_first (codes "*" ++ bytes) ≡ Some p.tag
+    (g : RegsFields) (p : Point) (bytes : List ℕ) (n : ℕ) → n < 16 → register_tag bytes ≡ Some n → indirect_first_modifier (codes "*" ++ bytes) ≡ Some p.tag
     → move_of_point g p ≡ move_indirect_then_register g p n
 unfolding move_of_point
 star_before g p bytes n low named first =
-    let e : p.tag ≡ 48 + n = first_is (register_of bytes) n p.tag named first in
+    let e : p.tag ≡ 48 + n = first_is (register_tag bytes) n p.tag named first in
     let tm : p.tag / 16 ≡ 3 = omega arith in
     let td : p.tag % 16 ≡ n = omega arith in
     rw (tm, td) refl
@@ -89,7 +89,7 @@ counts_by g p td false false false false false ea eb ec ed ef one e = absurd (cc
 counts : (g : RegsFields) (p : Point) (td : ℕ) → is_tally_tag td ≡ true → p.tag ≡ tally_tag td → move_of_point g p ≡ Counts
 counts g p td one e = counts_by g p td (td == 4) (td == 9) (td == 11) (td == 12) (td == 14) refl refl refl refl refl one e
 
-pub tags_mean : TagsMean
+pub tags_mean : TagsSelectModifications
 tags_mean =
     record {
       register = by_register;

@@ -6,7 +6,7 @@ use Rattle.std.proofs.lemmas.Bool.{eqb-true, and_parts, not-true}
 use Rattle.m36_inst.proofs.Found.{found_passes, found_sound}
 use Rattle.m36_text.specs.Reading.{first_non_digit, number_of, number_read}
 use Rattle.m36_text.specs.Numbers.{octal_in}
-use Rattle.alm_tokens.specs.Modifiers.{register_of, single_tag, tag_of}
+use Rattle.alm_tokens.specs.Modifiers.{register_tag, single_tag, tag_of}
 use Rattle.m36_list.specs.Modifiers.{Modifier, modifiers, has_tag, modifier_text}
 use Rattle.m36_list.proofs.Characters.{is_ending, is_line_feed}
 
@@ -23,7 +23,7 @@ abbrev is_read : Modifier → Bool
 is_read m = is_number m.tag (tag_read m.text) && (not (list_any is_ending m.text) && not (list_any is_line_feed m.text))
 
 all_are_read : list_all is_read modifiers ≡ true
-unfolding tag_of register_of single_tag octal_in number_read first_non_digit number_of
+unfolding tag_of register_tag single_tag octal_in number_read first_non_digit number_of
 all_are_read = refl
 
 -- the tag of the text of a modifier

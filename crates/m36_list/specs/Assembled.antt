@@ -9,12 +9,12 @@ use Rattle.alm_parse.specs.declared.fault.AlmFault.{AlmFault}
 use Rattle.alm_tokens.specs.Rows.{row_at}
 use Rattle.alm_parse.specs.Lines.{parse_line}
 use Rattle.alm_parse.specs.SourceFields.{Source}
-use Rattle.alm_parse.specs.Sources.{parsed}
+use Rattle.alm_parse.specs.Sources.{source_of_text}
 use Rattle.obj36_parts.specs.PartsFields.{PartsFields}
 use Rattle.obj36_parts.specs.ObjectSegment.{version_of}
 use Rattle.alm_lines.specs.SpotFields.{LocationCounter}
 use Rattle.alm_asm.specs.declared.tables.Tables.{Tables}
-use Rattle.alm_asm.specs.Words.{words_by}
+use Rattle.alm_asm.specs.Words.{words_of_effect}
 use Rattle.alm_asm.specs.Assembly.{assembled}
 use Rattle.m36_list.specs.Disassembly.{disassembly}
 
@@ -22,7 +22,7 @@ use Rattle.m36_list.specs.Disassembly.{disassembly}
 
 -- the words that a line places, given what parsing it yielded; None if it was refused
 abbrev pub words_if_parsed : List ℕ → Tables → LocationCounter → Result Line36 ParseRefusal → Option (List ℕ)
-words_if_parsed source tables spot (Ok line) = Some (words_by source tables spot line.args line.deed)
+words_if_parsed source tables spot (Ok line) = Some (words_of_effect source tables spot line.args line.deed)
 words_if_parsed source tables spot (Err refusal) = None
 
 -- The words that a line with this text and this number places, in a source where `before` precedes
@@ -64,4 +64,4 @@ object_of_word w =
 -- that word as its text and nothing else.
 abbrev pub AssemblesToItself : Type 0
 AssemblesToItself =
-    (w : ℕ) → w < 2 ^ 36 → object_of (parsed (as_line (disassembly w))) ≡ Ok (object_of_word w)
+    (w : ℕ) → w < 2 ^ 36 → object_of (source_of_text (as_line (disassembly w))) ≡ Ok (object_of_word w)

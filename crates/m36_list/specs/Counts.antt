@@ -6,7 +6,7 @@ use Rattle.obj36_parts.specs.ObjectSegment.{symbol_section, words_of}
 use Rattle.m36_list.specs.declared.counts.Counts.{Counts}
 
 -- The counts are those of the object with these parts, and each offset in it has 18 bits.
-pub record IsCount (c : Counts) (p : PartsFields) : Type 0 where
+pub record AreCountsOf (c : Counts) (p : PartsFields) : Type 0 where
   pub whole : c.whole ≡ length (words_of p)
   pub text : c.text ≡ length p.text
   pub definition : c.definition ≡ length (definition_section p)

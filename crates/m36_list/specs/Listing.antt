@@ -10,7 +10,7 @@ use Rattle.obj36_parts.specs.PartsFields.{PartsFields}
 use Rattle.obj36_parts.specs.Sections.{section_name, same_section}
 use Rattle.obj36_parts.specs.ObjectSegment.{inner_statics, outer_statics}
 use Rattle.alm_lines.specs.SpotFields.{LocationCounter}
-use Rattle.alm_lines.specs.Spots.{start, place_in, place, size_of, below}
+use Rattle.alm_lines.specs.Spots.{start, offset_in_section, place, size_of, next_line_spot}
 use Rattle.m36_list.specs.Print.{line, print_of}
 
 -- The line of a placed word: the name of its section, its offset there, the word, and the number of
@@ -38,12 +38,12 @@ section_words name section text at words spot (row ∷ lines) =
     let here = take (size_in section text spot row) words in
     let left = drop (size_in section text spot row) words in
     placed_lines name row.line at here
-    ++ section_words name section text (at + length here) left (below text spot row) lines
+    ++ section_words name section text (at + length here) left (next_line_spot text spot row) lines
 
 -- the lines of the words of a section, the first of which is at the offset of its first line
 abbrev pub listed : List ℕ → Section → Source → List ℕ → List ℕ
 listed name section source words =
-    section_words name section source.text (place_in section start) words start source.lines
+    section_words name section source.text (offset_in_section section start) words start source.lines
 
 -- The listing of a source and of the object of these parts, under this name: the lines of the text,
 -- of the static words of the linkage section, and of those of a static section; then the print.

@@ -1,7 +1,7 @@
 //! The numbers of words of an object and of its sections.
 
 ghost use Rattle.std.specs.Prelude.{IfOk};
-ghost use Rattle.m36_list.specs.Counts.{IsCount};
+ghost use Rattle.m36_list.specs.Counts.{AreCountsOf};
 
 use m36_word::NoMemory;
 use obj36::{Object, Section};
@@ -19,8 +19,8 @@ pub struct Counts {
 }
 
 /// The numbers of words of an object. It is written to count the whole. Fails only with `NoMemory`.
-pub fn counted(alloc: Global, o: &Object) -> Result<Counts, NoMemory>
-    ensures { IfOk result (λ counts. IsCount counts o.now) }
+pub fn counts_of_object(alloc: Global, o: &Object) -> Result<Counts, NoMemory>
+    ensures { IfOk result (λ counts. AreCountsOf counts o.now) }
 {
     let words = o.write(alloc)?;
     Ok(Counts {

@@ -2,7 +2,7 @@
 //! nothing.
 
 ghost use Rattle.m36_list.specs.Assembled.{PlacesItself, AssemblesToItself};
-ghost use Rattle.m36_list.specs.Tags.{TagsMean, RegistersMean};
+ghost use Rattle.m36_list.specs.Tags.{TagsSelectModifications, RegisterNamesSelect};
 
 /// Assembling the text of any word yields that word, by the definitions in the contracts of the
 /// parser and the assembler. As a line anywhere in a source the text is parsed, and the line places
@@ -19,6 +19,6 @@ pub fn disassembly_laws()
 /// that name: by a register, with `*` after it or before it, by `*` alone, or by a tally. And the
 /// name of a register selects that register.
 pub fn tag_laws()
-    ensures tags { TagsMean }
-    ensures registers { RegistersMean }
+    ensures tags { TagsSelectModifications }
+    ensures registers { RegisterNamesSelect }
 {}

@@ -2,21 +2,21 @@
 
 ghost use Rattle.std.specs.Prelude.{ℕ, [], ◌+◌, ◌++◌, ◌≡◌, ◌≤◌, length, codes, IfOk, OnOk};
 ghost use Rattle.obj36_parts.specs.ObjectSegment.{inner_statics, head_words, segment_limit};
-ghost use Rattle.m36_list.specs.Counts.{IsCount};
+ghost use Rattle.m36_list.specs.Counts.{AreCountsOf};
 ghost use Rattle.alm_lines.specs.Spots.{start};
 ghost use Rattle.m36_list.specs.Listing.{size_in, section_words, listing_of};
 
-use crate::counts::{Counts, counted};
+use crate::counts::{Counts, counts_of_object};
 use crate::placed::put_all_placed;
 use crate::printing::put_print;
 use alm_asm::links::same_section;
-use alm_asm::spot::{LocationCounter, below, size_of};
+use alm_asm::spot::{LocationCounter, next_line_spot, size_of};
 use alm_parse::{Line36, Lines36};
 use m36_outside::Text;
 use m36_word::{NoMemory, Word};
 use obj36::{Object, Section};
 use obj36_parts::sections::HEAD_WORDS;
-use obj36_read::reading::{behind, front};
+use obj36_read::reading::{behind, first_words};
 use std::alloc::Global;
 
 // The number of words that a line places in a section.
@@ -60,19 +60,19 @@ fn put_section_words(
     let mut left = words;
     for line in source.lines() {
         let size = size_in(alloc, section, text, spot, line)?;
-        let here = front(left, size);
+        let here = first_words(left, size);
         put_all_placed(out, name, line.line, at, here)?;
         at += here.len() as u64;
         left = behind(left, size);
-        spot = below(alloc, text, spot, line)?;
+        spot = next_line_spot(alloc, text, spot, line)?;
     }
     Ok(())
 }
 
 // The static words of the linkage section.
 #[tactic(auto, using(crate::proofs::SectionPlaces::links_behind))]
-fn inner_words(count: Counts, o: &Object) -> &[Word]
-    requires { IsCount count o.now }
+fn inner_static_words(count: Counts, o: &Object) -> &[Word]
+    requires { AreCountsOf count o.now }
     ensures value { result.now ≡ inner_statics o.now }
     ensures fits { head_words + length result.now ≤ segment_limit }
 {
@@ -92,9 +92,9 @@ fn put_listing(
     requires { text.old ≡ [] }
     ensures { OnOk result (text.new ≡ listing_of name.now lines.now o.now) }
 {
-    let count = counted(alloc, o)?;
+    let count = counts_of_object(alloc, o)?;
     let words = o.section(Section::Text);
-    let inner = inner_words(count, o);
+    let inner = inner_static_words(count, o);
     let outer = o.section(Section::Static);
     put_section_words(alloc, text, b"text", Section::Text, lines, 0, words)?;
     put_section_words(

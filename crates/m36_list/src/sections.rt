@@ -3,7 +3,7 @@
 ghost use Rattle.std.specs.Prelude.{◌+◌, ◌++◌, ◌≡◌, ◌^◌, ◌<◌, ◌≤◌, length, OnOk};
 ghost use Rattle.obj36_parts.specs.ObjectSegment.{definition_section, linkage_section};
 ghost use Rattle.obj36_parts.specs.ObjectSegment.{symbol_section, outer_statics};
-ghost use Rattle.m36_list.specs.Counts.{IsCount};
+ghost use Rattle.m36_list.specs.Counts.{AreCountsOf};
 ghost use Rattle.m36_list.specs.Print.{statics_offset, section_line, static_line, value_line};
 ghost use Rattle.m36_list.specs.Print.{section_lines};
 
@@ -26,7 +26,7 @@ fn put_section(text: &mut Text, name: &[u8], at: u64, len: u64) -> Result<(), No
 }
 
 /// Adds the line of the static section, if the object has version 2.
-fn put_static(text: &mut Text, parts: &Parts, at: u64) -> Result<(), NoMemory>
+fn put_static_section(text: &mut Text, parts: &Parts, at: u64) -> Result<(), NoMemory>
     requires at { at ≡ statics_offset parts.now }
     requires begins { at < 2 ^ 18 }
     requires len { length (outer_statics parts.now) < 2 ^ 18 }
@@ -51,7 +51,7 @@ fn put_value(text: &mut Text, name: &[u8], v: u32) -> Result<(), NoMemory>
 /// Adds the lines of the sections and of the entry bound.
 #[tactic(auto, unfolding(crate::specs::Print::section_lines), using(crate::proofs::SectionPlaces::six))]
 pub fn put_sections(text: &mut Text, count: Counts, o: &Object) -> Result<(), NoMemory>
-    requires { IsCount count o.now }
+    requires { AreCountsOf count o.now }
     ensures { OnOk result (text.new ≡ text.old ++ section_lines o.now) }
 {
     let parts = o.parts();
@@ -61,7 +61,7 @@ pub fn put_sections(text: &mut Text, count: Counts, o: &Object) -> Result<(), No
     put_section(text, b"text", 0, count.text)?;
     put_section(text, b"definition", count.text, count.definition)?;
     put_section(text, b"linkage", linkage_at, count.linkage)?;
-    put_static(text, parts, statics_at)?;
+    put_static_section(text, parts, statics_at)?;
     put_section(text, b"symbol", symbol_at, count.symbol)?;
     put_value(text, b"entrybound", parts.entry_bound)
 }

@@ -4,10 +4,10 @@ use Rattle.std.proofs.Common.{ℕ, zero, suc, ◌≡◌, ◌+◌, refl, ap, ◌�
 use Rattle.m36_desc.specs.Fields.{SdwFields}
 use Rattle.m36_model.specs.Registers.{RegsFields}
 use Rattle.m36_model.specs.Act.{RequestKind, Fetch, Indirect, Odd, Read, Write, Transfer, Call, Locate, Whole, Request, Answer, Act, done, ask, and_then, answered}
-use Rattle.m36_model.specs.Store.{Spot, Store, Midstep, Served, Ran, serve, serve_sdw, serve_rights, serve_places, denied, places, run}
+use Rattle.m36_model.specs.Store.{Spot, Store, Midstep, Served, ProgramResult, serve, serve_sdw, serve_rights, serve_places, refusing_violation, places, run}
 use Rattle.m36_model.specs.Modification.{Point, Move, Ends, Fails, Reads, Counts, move_of_point}
 use Rattle.m36_model.specs.Tally.{tally, indirect_only}
-use Rattle.m36_model.specs.Chain.{ChainEnd, Found, Its, Itp, Plain, found, indirect, its_point, itp_point, tally_end, chain, chain_by, chain_exhausted, after_word, after_tally}
+use Rattle.m36_model.specs.Chain.{ChainEnd, IndirectKind, Its, Itp, Plain, found, indirect, its_point, itp_point, tally_end, chain, chain_by, chain_exhausted, after_word, after_tally}
 use Rattle.m36_model.proofs.PutLaw.{IsTallied, no_tally, tallied_at}
 use Rattle.m36_model.proofs.OperandWordsLaw.{written_words}
 use Rattle.m36_model.specs.declared.outcome.Fault.{Fault}
@@ -43,7 +43,7 @@ module _ {S : Type 0} (o : Store S) (g : RegsFields) (m : Midstep S) where
   same_by_sdw : (q : Request) → (q.kind ≡ Write → ⊥) → (r : Result SdwFields Refusal) → Same (serve_sdw o g m q r).mid
   same_by_sdw q no_write (Err why) = refl
   same_by_sdw q no_write (Ok d) =
-      same_by_rights q no_write d (denied q.kind d q.at.ring g.ppr.prr (q.at.seg == g.ppr.psr) q.at.word)
+      same_by_rights q no_write d (refusing_violation q.kind d q.at.ring g.ppr.prr (q.at.seg == g.ppr.psr) q.at.word)
 
   pub same_claims : (q : Request) → (q.kind ≡ Write → ⊥) → Same (serve o g m q).mid
   unfolding serve
@@ -63,7 +63,7 @@ abbrev pub PostOf : {S : Type 0} → Result ChainEnd Halt → Midstep S → Type
 PostOf (Ok c) m = IsTallied c m.claims
 PostOf (Err h) m = Unit {0}
 
-abbrev pub Post : {S : Type 0} → Ran (Result ChainEnd Halt) S → Type 0
+abbrev pub Post : {S : Type 0} → ProgramResult (Result ChainEnd Halt) S → Type 0
 Post x = PostOf x.value x.mid
 
 module _ {S : Type 0} (o : Store S) (g : RegsFields) (next : Point → Act (Result ChainEnd Halt)) (more : (p : Point) (m : Midstep S) → m.claims ≡ [] → Post (run o g (next p) m)) (p : Point) where
@@ -72,7 +72,7 @@ module _ {S : Type 0} (o : Store S) (g : RegsFields) (next : Point → Act (Resu
   post_odd to m (Ok b) e = more (to (slice_index b.words 0)) m e
   post_odd to m (Err f) e = tt
 
-  post_found : (word : ℕ) (held : Option ℕ) (a : Answer) (m : Midstep S) (f : Found) → m.claims ≡ [] → Post (run o g (after_word next g p word held a f) m)
+  post_found : (word : ℕ) (held : Option ℕ) (a : Answer) (m : Midstep S) (f : IndirectKind) → m.claims ≡ [] → Post (run o g (after_word next g p word held a f) m)
   unfolding run
   post_found word held a m Plain e = more _ m e
   post_found word held a m Its e =

@@ -3,7 +3,7 @@ use Rattle.std.proofs.Common.{ℕ, ◌≡◌, refl, sym, ap, ◌∙◌, ◌==◌
 use Rattle.m36_desc.specs.Fields.{SdwFields, DbrFields}
 use Rattle.m36_model.specs.Registers.{RegsFields}
 use Rattle.m36_model.specs.Act.{RequestKind, Fetch, Indirect, Odd, Read, Write, Transfer, Call, Locate, Request, Act, done, ask}
-use Rattle.m36_model.specs.Store.{Spot, Store, Midstep, Served, serve, serve_sdw, serve_rights, serve_places, denied, places, run, with_reference}
+use Rattle.m36_model.specs.Store.{Spot, Store, Midstep, Served, serve, serve_sdw, serve_rights, serve_places, refusing_violation, places, run, with_reference}
 use Rattle.m36_model.specs.Core.{core_store}
 use Rattle.m36_model.specs.Step.{program, start}
 use Rattle.m36_model.specs.Completed.{completed_by, completed, with_marks_of, references_of, MarksOfCompletedReferences}
@@ -47,7 +47,7 @@ module _ {S : Type 0} (o : Store S) (g : RegsFields) (m : Midstep S) where
   unfolding with_marks_of references_of
   by_sdw q (Err why) = record { marks = refl; references = refl }
   by_sdw q (Ok d) =
-      by_rights q d (denied q.kind d q.at.ring g.ppr.prr (q.at.seg == g.ppr.psr) q.at.word)
+      by_rights q d (refusing_violation q.kind d q.at.ring g.ppr.prr (q.at.seg == g.ppr.psr) q.at.word)
 
   does : (q : Request) → Does o g m q (serve o g m q)
   unfolding serve

@@ -9,16 +9,16 @@ use Rattle.m36_inst.specs.declared.operand.Operand.TheVariants as kind
 use Rattle.m36_model.specs.Fields.{FinalFields}
 use Rattle.m36_model.specs.Registers.{RegsFields}
 use Rattle.m36_model.specs.Act.{Read, Write, Transfer, Call, Locate, Part, Whole, Left, Right, Request, Answer, answered, refer, either}
-use Rattle.m36_model.specs.Store.{Spot, Store, Midstep, Served, Ran, State, run, changes}
+use Rattle.m36_model.specs.Store.{Spot, Store, Midstep, Served, ProgramResult, State, run, changes}
 use Rattle.m36_model.specs.Core.{core_store}
-use Rattle.m36_model.specs.Modification.{here, fault_at}
+use Rattle.m36_model.specs.Modification.{here, halt_at}
 use Rattle.m36_model.specs.FirstPoint.{first_point}
 use Rattle.m36_model.specs.Chain.{ChainEnd, chain}
 use Rattle.m36_model.specs.Results.{OperandFields, EffectFields, words_only}
 use Rattle.m36_model.specs.Transfers.{is_taken}
 use Rattle.m36_model.specs.Effect.{exec, is_absa}
-use Rattle.m36_model.specs.Step.{Performed, performed, puts_from, tallied, perform, no_operand, request_at, got_word, got_words, got_place, got_nothing, got_ring, direct_word, addressing, transferring, by_kind, by_direct, operate_on, operate, Ending, outcome_of, halted, completed, operated, addressed, at_once, no_address, started, admitted, decoded, fetched, indirect_words, decode, fetch_request, program, start, step_record, stepped, ran, record_of, state_after}
-use Rattle.m36_model.specs.StepCases.{ChangedOnlyMarks, IsFetched, IsAdmitted, IsFormed, Reached, IsUnreferenced, IsReferenced, IsClaimed, IsChanged, IsAddressed, IsTargeted, IsOperandOf, IsOperand, at_spots, HasEffect, StepCase, fetch_refused, no_instruction, privilege_refused, no_address as no_address_case, address_refused, operation_refused, effected, CaseIsTheStep}
+use Rattle.m36_model.specs.Step.{Performed, operation_result, puts_from, with_chain_tally, perform, no_operand, request_at, got_word, got_words, got_place, got_nothing, got_ring, direct_word, addressing, transferring, operate_by_kind, operate_direct, operate_on, operate, Ending, outcome_of, halted, completed, operated, addressed, immediate_halt, no_address, started, admitted, decoded, fetched, indirect_words, decode, fetch_request, program, start, step_record, stepped, run_of_step, record_of, state_after}
+use Rattle.m36_model.specs.StepCases.{ChangedOnlyMarks, IsFetched, IsAdmitted, IsFormed, Reached, IsUnreferenced, IsReferenced, IsClaimed, IsReadAndClaimed, IsAddressed, IsTargeted, IsOperandOf, IsOperand, changes_at_spots, HasEffect, StepCase, fetch_refused, no_instruction, privilege_refused, no_address as no_address_case, address_refused, operation_refused, effected, CaseIsTheStep}
 use Rattle.m36_model.proofs.PutLaw.{IsTallied, all_changes}
 use Rattle.m36_model.proofs.OperandWordsLaw.{written_words}
 use Rattle.m36_model.specs.declared.outcome.Halt.{Halt}
@@ -36,14 +36,14 @@ parts_alike a b first (w ∷ words) e = absurd (omega arith)
 -- An operation whose operand was referenced performs the effect, and puts its words at the spots
 -- that were claimed for them.
 module _ {S : Type 0} (o : Store S) (g : RegsFields) (e : Effect) (n : ℕ) (c : ChainEnd) (m : Midstep S) (u : Reached S) (x : EffectFields) where
-  pub record Performs (r : Ran (Result Performed Halt) S) : Type 0 where
+  pub record Performs (r : ProgramResult (Result Performed Halt) S) : Type 0 where
     pub first : ℕ
     pub claims : u.mid.claims ≡ m.claims ++ u.spots
     pub place : (u.spots ≡ []) ⊎ (first ≡ length m.claims)
     pub gives : r ≡ record { value = Ok (record { regs = x.regs; puts = c.pending ++ puts_from u.part first x.put; overflow = x.overflow }); mid = u.mid }
 
   abbrev Effects : Type 0
-  Effects = exec e n (tallied g c) c.last u.operand ≡ Ok x
+  Effects = exec e n (with_chain_tally g c) c.last u.operand ≡ Ok x
 
   abbrev Fits : Type 0
   Fits = length u.spots ≡ length x.put
@@ -51,8 +51,8 @@ module _ {S : Type 0} (o : Store S) (g : RegsFields) (e : Effect) (n : ℕ) (c :
   done_by : (part : Part) (first : ℕ) (got : OperandFields) → u.operand ≡ got → Effects → (m' : Midstep S) → run o g (perform e n g c part first got) m' ≡ record { value = Ok (record { regs = x.regs; puts = c.pending ++ puts_from part first x.put; overflow = x.overflow }); mid = m' }
   unfolding run
   done_by part first got operand h m' =
-      let known : exec e n (tallied g c) c.last got ≡ Ok x = subst (λ (y : OperandFields). exec e n (tallied g c) c.last y ≡ Ok x) operand h in
-      λ i. record { value = performed g c part first (known i); mid = m' }
+      let known : exec e n (with_chain_tally g c) c.last got ≡ Ok x = subst (λ (y : OperandFields). exec e n (with_chain_tally g c) c.last y ≡ Ok x) operand h in
+      λ i. record { value = operation_result g c part first (known i); mid = m' }
 
   without_words : (m' : Midstep S) → u.mid ≡ m' → m'.claims ≡ m.claims → u.spots ≡ [] → (got : OperandFields) → u.operand ≡ got → Effects → Fits → Performs (run o g (perform e n g c Whole 0 got) m')
   without_words m' mid same none got operand h b =
@@ -89,7 +89,7 @@ module _ {S : Type 0} (o : Store S) (g : RegsFields) (e : Effect) (n : ℕ) (c :
       } in
       subst (λ (v : Served S). Performs (run o g (answered (λ a. perform e n g c part a.first got) v.reply) v.mid)) (sym p.served) all
 
-  changed : (part : Part) → IsChanged o g c part m u → Effects → Performs (run o g (refer (request_at Read c 1) (λ a. refer (request_at Write c 1) (λ b. perform e n g c part b.first (words_only a.words)))) m)
+  changed : (part : Part) → IsReadAndClaimed o g c part m u → Effects → Performs (run o g (refer (request_at Read c 1) (λ a. refer (request_at Write c 1) (λ b. perform e n g c part b.first (words_only a.words)))) m)
   unfolding run
   changed part p h =
       let q = request_at Read c 1 in
@@ -104,7 +104,7 @@ module _ {S : Type 0} (o : Store S) (g : RegsFields) (e : Effect) (n : ℕ) (c :
   targets false p h b = unreferenced no_operand p h b
   targets true p h b = referenced (request_at Transfer c 1) got_nothing (λ x. cc) p h b
 
-  by_operand : (k : Operand) → IsOperandOf o g e c k m u → Effects → Fits → Performs (run o g (by_kind e n g c k) m)
+  by_operand : (k : Operand) → IsOperandOf o g e c k m u → Effects → Fits → Performs (run o g (operate_by_kind e n g c k) m)
   by_operand kind.R p h b = referenced (request_at Read c 1) got_word (λ x. cc) p h b
   by_operand kind.R2 p h b = referenced (request_at Read c 2) got_words (λ x. cc) p h b
   by_operand kind.R16 p h b = referenced (request_at Read c 16) got_words (λ x. cc) p h b
@@ -116,7 +116,7 @@ module _ {S : Type 0} (o : Store S) (g : RegsFields) (e : Effect) (n : ℕ) (c :
   by_operand kind.Rw p h b = changed Whole p h
   by_operand kind.Rwl p h b = changed Left p h
   by_operand kind.A p h b = addresses (is_absa e) p h b
-  by_operand kind.T p h b = targets (is_taken e (tallied g c)) p h b
+  by_operand kind.T p h b = targets (is_taken e (with_chain_tally g c)) p h b
   by_operand kind.N p h b = unreferenced no_operand p h b
   by_operand kind.Call6 p h b =
       referenced (request_at Call c 1) (got_ring c.last.at.ring) (λ x. cc) p h b
@@ -124,7 +124,7 @@ module _ {S : Type 0} (o : Store S) (g : RegsFields) (e : Effect) (n : ℕ) (c :
   performs_on : (d : Option ℕ) → IsOperand o g e c d m u → Effects → Fits → Performs (run o g (operate_on e n g c d) m)
   performs_on None p h b = by_operand (operand_of e) p h b
   performs_on (Some w) p h b =
-      subst (λ (y : Bool). Performs (run o g (by_direct e n g c w y) m)) (sym p.0) (unreferenced (words_only (direct_word (operand_of e) w)) p.1 h b)
+      subst (λ (y : Bool). Performs (run o g (operate_direct e n g c w y) m)) (sym p.0) (unreferenced (words_only (direct_word (operand_of e) w)) p.1 h b)
 
   pub performs : IsOperand o g e c c.last.direct m u → Effects → Fits → Performs (run o g (operate e n g c) m)
   unfolding operate
@@ -132,7 +132,7 @@ module _ {S : Type 0} (o : Store S) (g : RegsFields) (e : Effect) (n : ℕ) (c :
 
 module _ {S : Type 0} (o : Store S) (quiet : (x : S) → o.put x [] ≡ x) (s : State S) (e : StepRecord) (t : State S) where
   -- a run of the step's program gives the record and the state
-  abbrev Tells : Ran Ending S → Type 0
+  abbrev Tells : ProgramResult Ending S → Type 0
   Tells x = (e ≡ step_record s.regs x) × (t ≡ stepped o x)
 
   halts : (m : Midstep S) (word : Option ℕ) (at : Option FinalFields) (h : Halt) → ChangedOnlyMarks s e t m word at (outcome_of h) → Tells (run o s.regs (halted s.regs word at h) m)
@@ -141,7 +141,7 @@ module _ {S : Type 0} (o : Store S) (quiet : (x : S) → o.put x [] ≡ x) (s : 
       let nothing : m.store ≡ o.put m.store [] = sym (quiet m.store) in
       (l.told, l.left ∙ (λ i. record { regs = s.regs; store = nothing i }))
 
-  on_fetched : (w : ℕ) (right : Bool) (m : Midstep S) → IsFetched o s w right m → Tells (run o s.regs (decoded s.regs w right (decode w)) m) → Tells (ran o s)
+  on_fetched : (w : ℕ) (right : Bool) (m : Midstep S) → IsFetched o s w right m → Tells (run o s.regs (decoded s.regs w right (decode w)) m) → Tells (run_of_step o s)
   unfolding program run
   on_fetched w right m f told =
       let got = slice_index f.answer.words 0 in
@@ -149,34 +149,34 @@ module _ {S : Type 0} (o : Store S) (quiet : (x : S) → o.put x [] ≡ x) (s : 
       let by_right = subst (λ (b : Bool). Tells (run o s.regs (decoded s.regs got b (decode got)) m)) (sym f.right_is) by_word in
       subst (λ (v : Served S). Tells (run o s.regs (fetched s.regs v.reply) v.mid)) (sym f.served) by_right
 
-  on_decoded : (w : ℕ) (right : Bool) (m : Midstep S) → IsFetched o s w right m → (d : Option (Effect × ℕ)) → decode w ≡ d → Tells (run o s.regs (decoded s.regs w right d) m) → Tells (ran o s)
+  on_decoded : (w : ℕ) (right : Bool) (m : Midstep S) → IsFetched o s w right m → (d : Option (Effect × ℕ)) → decode w ≡ d → Tells (run o s.regs (decoded s.regs w right d) m) → Tells (run_of_step o s)
   on_decoded w right m f d known told =
       on_fetched w right m f (subst (λ (y : Option (Effect × ℕ)). Tells (run o s.regs (decoded s.regs w right y) m)) (sym known) told)
 
-  on_admitted : (w : ℕ) (i : Effect) (n : ℕ) (m : Midstep S) → IsAdmitted o s w i n m → Tells (run o s.regs (started i n s.regs w (operand_of i)) m) → Tells (ran o s)
+  on_admitted : (w : ℕ) (i : Effect) (n : ℕ) (m : Midstep S) → IsAdmitted o s w i n m → Tells (run o s.regs (started i n s.regs w (operand_of i)) m) → Tells (run_of_step o s)
   on_admitted w i n m a told =
       on_decoded w a.right m a.fetched (Some (i, n)) a.decoded (subst (λ (b : Bool). Tells (run o s.regs (admitted i n s.regs w b) m)) (sym a.allowed) told)
 
-  at_once_tells : (i : Effect) (w : ℕ) (m : Midstep S) → ChangedOnlyMarks s e t m (Some w) None (outcome_of (at_once i s.regs)) → Tells (run o s.regs (no_address i s.regs w) m)
-  at_once_tells effect.Mme w m l = halts m (Some w) None (fault_at 2 (here s.regs)) l
-  at_once_tells effect.Drl w m l = halts m (Some w) None (fault_at 6 (here s.regs)) l
+  at_once_tells : (i : Effect) (w : ℕ) (m : Midstep S) → ChangedOnlyMarks s e t m (Some w) None (outcome_of (immediate_halt i s.regs)) → Tells (run o s.regs (no_address i s.regs w) m)
+  at_once_tells effect.Mme w m l = halts m (Some w) None (halt_at 2 (here s.regs)) l
+  at_once_tells effect.Drl w m l = halts m (Some w) None (halt_at 6 (here s.regs)) l
   at_once_tells _ w m l = halts m (Some w) None (halt.Stop stop.Dis) l
 
   starts : (i : Effect) (n w : ℕ) (m : Midstep S) (k : Operand) → forms_address k ≡ true → Tells (run o s.regs (addressed i n s.regs w) m) → Tells (run o s.regs (started i n s.regs w k) m)
   starts i n w m kind.N f told = cc
   starts i n w m _ f told = told
 
-  on_address : (w : ℕ) (i : Effect) (n : ℕ) (before : Midstep S) → IsAdmitted o s w i n before → forms_address (operand_of i) ≡ true → (v : Result ChainEnd Halt) (m : Midstep S) → run o s.regs (chain indirect_words s.regs (first_point s.regs (inst_of w))) before ≡ record { value = v; mid = m } → Tells (run o s.regs (either (operated i n s.regs w) (halted s.regs (Some w) None) v) m) → Tells (ran o s)
+  on_address : (w : ℕ) (i : Effect) (n : ℕ) (before : Midstep S) → IsAdmitted o s w i n before → forms_address (operand_of i) ≡ true → (v : Result ChainEnd Halt) (m : Midstep S) → run o s.regs (chain indirect_words s.regs (first_point s.regs (inst_of w))) before ≡ record { value = v; mid = m } → Tells (run o s.regs (either (operated i n s.regs w) (halted s.regs (Some w) None) v) m) → Tells (run_of_step o s)
   on_address w i n before a f v m known told =
       let act = chain indirect_words s.regs (first_point s.regs (inst_of w)) in
       let k = either (operated i n s.regs w) (halted s.regs (Some w) None) in
-      let ends = subst (λ (y : Ran (Result ChainEnd Halt) S). Tells (run o s.regs (k y.value) y.mid)) (sym known) told in
+      let ends = subst (λ (y : ProgramResult (Result ChainEnd Halt) S). Tells (run o s.regs (k y.value) y.mid)) (sym known) told in
       on_admitted w i n before a (starts i n w before (operand_of i) f (subst Tells (sym (run_then o s.regs act k before)) ends))
 
-  on_operation : (w : ℕ) (i : Effect) (n : ℕ) (c : ChainEnd) (m : Midstep S) → IsFormed o s w i n c m → (r : Ran (Result Performed Halt) S) → run o s.regs (operate i n s.regs c) m ≡ r → Tells (run o s.regs (either (completed s.regs w c.last) (halted s.regs (Some w) (Some c.last)) r.value) r.mid) → Tells (ran o s)
+  on_operation : (w : ℕ) (i : Effect) (n : ℕ) (c : ChainEnd) (m : Midstep S) → IsFormed o s w i n c m → (r : ProgramResult (Result Performed Halt) S) → run o s.regs (operate i n s.regs c) m ≡ r → Tells (run o s.regs (either (completed s.regs w c.last) (halted s.regs (Some w) (Some c.last)) r.value) r.mid) → Tells (run_of_step o s)
   on_operation w i n c m f r known told =
       let k = either (completed s.regs w c.last) (halted s.regs (Some w) (Some c.last)) in
-      let ends = subst (λ (y : Ran (Result Performed Halt) S). Tells (run o s.regs (k y.value) y.mid)) (sym known) told in
+      let ends = subst (λ (y : ProgramResult (Result Performed Halt) S). Tells (run o s.regs (k y.value) y.mid)) (sym known) told in
       on_address w i n f.before f.admitted f.forms (Ok c) m f.formed (subst Tells (sym (run_then o s.regs (operate i n s.regs c) k m)) ends)
 
   -- what the chain has claimed
@@ -185,9 +185,9 @@ module _ {S : Type 0} (o : Store S) (quiet : (x : S) → o.put x [] ≡ x) (s : 
       let fetch = f.admitted.fetched in
       let none : f.before.claims ≡ [] = ap (λ (v : Served S). v.mid.claims) (sym fetch.served) ∙ same_claims o s.regs (start s) (fetch_request s.regs) (λ x. cc) in
       let post = chain_claims o s.regs indirect_words (first_point s.regs (inst_of w)) f.before none in
-      subst (λ (r : Ran (Result ChainEnd Halt) S). PostOf r.value r.mid) f.formed post
+      subst (λ (r : ProgramResult (Result ChainEnd Halt) S). PostOf r.value r.mid) f.formed post
 
-  full : HasEffect o s e t → Tells (ran o s)
+  full : HasEffect o s e t → Tells (run_of_step o s)
   unfolding run
   full h =
       let u = h.reached in
@@ -196,19 +196,19 @@ module _ {S : Type 0} (o : Store S) (quiet : (x : S) → o.put x [] ≡ x) (s : 
       let p = performs o s.regs h.instruction h.number c h.chained u x h.operand h.effected h.words in
       let puts = c.pending ++ puts_from u.part p.first x.put in
       let tallied_so = tallies h.word h.instruction h.number c h.chained h.formed in
-      let all : at_spots Whole h.chained.claims (map (λ q. q.value) c.pending) ++ at_spots u.part u.spots x.put ≡ changes u.mid.claims puts = sym (ap (λ (claims : List Spot). changes claims puts) p.claims ∙ all_changes c u.part h.chained.claims u.spots p.first x.put tallied_so h.words p.place) in
+      let all : changes_at_spots Whole h.chained.claims (map (λ q. q.value) c.pending) ++ changes_at_spots u.part u.spots x.put ≡ changes u.mid.claims puts = sym (ap (λ (claims : List Spot). changes claims puts) p.claims ∙ all_changes c u.part h.chained.claims u.spots p.first x.put tallied_so h.words p.place) in
       let left = h.left ∙ (λ i. record { regs = x.regs; store = o.put u.mid.store (all i) }) in
       on_operation h.word h.instruction h.number c h.chained h.formed (record { value = Ok (record { regs = x.regs; puts = puts; overflow = x.overflow }); mid = u.mid }) p.gives (h.told, left)
 
-  case_tells : StepCase o s e t → Tells (ran o s)
+  case_tells : StepCase o s e t → Tells (run_of_step o s)
   unfolding program run
   case_tells (fetch_refused f m served l) =
       subst (λ (v : Served S). Tells (run o s.regs (fetched s.regs v.reply) v.mid)) (sym served) (halts m None None (halt.Fault f) l)
   case_tells (no_instruction w right m f none l) =
       on_decoded w right m f None none (halts m (Some w) None (halt.Stop stop.Operation) l)
   case_tells (privilege_refused w m i n f row privileged l) =
-      let denied : (is_privileged i && not false) ≡ true = ap (λ (b : Bool). b && true) privileged in
-      on_decoded w false m f (Some (i, n)) row (subst (λ (b : Bool). Tells (run o s.regs (admitted i n s.regs w b) m)) (sym denied) (halts m (Some w) None (fault_at 10 (here s.regs)) l))
+      let refusing_violation : (is_privileged i && not false) ≡ true = ap (λ (b : Bool). b && true) privileged in
+      on_decoded w false m f (Some (i, n)) row (subst (λ (b : Bool). Tells (run o s.regs (admitted i n s.regs w b) m)) (sym refusing_violation) (halts m (Some w) None (halt_at 10 (here s.regs)) l))
   case_tells (no_address_case w m i n a none l) =
       on_admitted w i n m a (subst (λ (k : Operand). Tells (run o s.regs (started i n s.regs w k) m)) (sym none) (at_once_tells i w m l))
   case_tells (address_refused w before m i n h a forms known l) =

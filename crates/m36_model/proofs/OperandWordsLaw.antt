@@ -3,7 +3,7 @@ use Rattle.std.proofs.Common.{ℕ, zero, suc, ◌≡◌, ◌+◌, ◌<◌, refl,
 use Rattle.m36_desc.specs.Fields.{SdwFields, DbrFields}
 use Rattle.m36_model.specs.Registers.{RegsFields}
 use Rattle.m36_model.specs.Act.{RequestKind, Read, Write, Request, Answer}
-use Rattle.m36_model.specs.Store.{Spot, Store, Midstep, Served, serve, serve_sdw, serve_rights, serve_places, denied, places, placed_one, spots_of, changes, within, reads, after_marks, located, with_claims, places_by, bound_only, is_target}
+use Rattle.m36_model.specs.Store.{Spot, Store, Midstep, Served, serve, serve_sdw, serve_rights, serve_places, refusing_violation, places, spots_from, spots_of, changes, is_within_bound, reads, after_marks, located_address, with_claims, spots_of_request_by, bound_only, is_target}
 use Rattle.m36_model.specs.Core.{core_store}
 use Rattle.m36_model.specs.OperandWords.{ArePlaces, AreReadWords, AreWrittenWords, ReadsWordsInOrder, WritesWordsInOrder}
 use Rattle.m36_model.specs.declared.outcome.Refusal.{Refusal}
@@ -16,7 +16,7 @@ record IsOne (w : Bool) (sp : Result Spot Refusal) (rest : Result (List Spot) (�
   rest_is : rest ≡ Ok more
   all : spots ≡ spot ∷ more
 
-is_one : (word : ℕ) (w : Bool) (sp : Result Spot Refusal) (rest : Result (List Spot) (ℕ × Refusal)) (spots : List Spot) → placed_one w word sp rest ≡ Ok spots → IsOne w sp rest spots
+is_one : (word : ℕ) (w : Bool) (sp : Result Spot Refusal) (rest : Result (List Spot) (ℕ × Refusal)) (spots : List Spot) → spots_from w word sp rest ≡ Ok spots → IsOne w sp rest spots
 is_one word false sp rest spots e = cc
 is_one word true (Err x) rest spots e = cc
 is_one word true (Ok p) (Err x) spots e = cc
@@ -26,7 +26,7 @@ is_one word true (Ok p) (Ok ps) spots e =
 -- the spots of n words from a word on
 record AreSpots {S : Type 0} (o : Store S) (s : S) (dbr : DbrFields) (d : SdwFields) (seg word n : ℕ) (spots : List Spot) : Type 0 where
   count : length spots ≡ n
-  inside : (k : ℕ) → k < n → within d (word + k) ≡ true
+  inside : (k : ℕ) → k < n → is_within_bound d (word + k) ≡ true
   each : (k : ℕ) (spot : Spot) → slice_get spots k ≡ Some spot → o.spot s dbr d seg (word + k) ≡ Ok spot
 
 module _ {S : Type 0} (o : Store S) (s : S) (dbr : DbrFields) (d : SdwFields) (seg : ℕ) where
@@ -36,9 +36,9 @@ module _ {S : Type 0} (o : Store S) (s : S) (dbr : DbrFields) (d : SdwFields) (s
   at_next : (word k : ℕ) (P : ℕ → Type 0) → P (word + 1 + k) → P (word + suc k)
   at_next word k P p = let e : word + 1 + k ≡ word + suc k = omega arith in subst P e p
 
-  inside_more : (word n : ℕ) → within d word ≡ true → ((k : ℕ) → k < n → within d (word + 1 + k) ≡ true) → (k : ℕ) → k < suc n → within d (word + k) ≡ true
-  inside_more word n a b zero h = at_zero word (λ w. within d w ≡ true) a
-  inside_more word n a b (suc k) h = at_next word k (λ w. within d w ≡ true) (b k (omega arith))
+  inside_more : (word n : ℕ) → is_within_bound d word ≡ true → ((k : ℕ) → k < n → is_within_bound d (word + 1 + k) ≡ true) → (k : ℕ) → k < suc n → is_within_bound d (word + k) ≡ true
+  inside_more word n a b zero h = at_zero word (λ w. is_within_bound d w ≡ true) a
+  inside_more word n a b (suc k) h = at_next word k (λ w. is_within_bound d w ≡ true) (b k (omega arith))
 
   each_more : (word : ℕ) (p : Spot) (ps : List Spot) → o.spot s dbr d seg word ≡ Ok p → ((k : ℕ) (spot : Spot) → slice_get ps k ≡ Some spot → o.spot s dbr d seg (word + 1 + k) ≡ Ok spot) → (k : ℕ) (spot : Spot) → slice_get (p ∷ ps) k ≡ Some spot → o.spot s dbr d seg (word + k) ≡ Ok spot
   each_more word p ps a b zero spot e = let same : p ≡ spot = cc in at_zero word (λ w. o.spot s dbr d seg w ≡ Ok spot) cc
@@ -54,7 +54,7 @@ module _ {S : Type 0} (o : Store S) (s : S) (dbr : DbrFields) (d : SdwFields) (s
         each = λ k spot h. let g : slice_get [] k ≡ Some spot = subst (λ (xs : List Spot). slice_get xs k ≡ Some spot) nothing h in cc;
       }
   are_spots (suc n) word spots e =
-      let u = is_one word (within d word) (o.spot s dbr d seg word) (spots_of o s dbr d seg (word + 1) n) spots e in
+      let u = is_one word (is_within_bound d word) (o.spot s dbr d seg word) (spots_of o s dbr d seg (word + 1) n) spots e in
       let v = are_spots n (word + 1) u.more u.rest_is in
       record {
         count = ap length u.all ∙ ap suc v.count;
@@ -83,7 +83,7 @@ module _ {S : Type 0} (o : Store S) (g : RegsFields) (m : Midstep S) (q : Reques
         sdw = d;
         words = if reads q.kind then map (o.word (o.put s (changes m.claims q.pending))) spots else [];
         first = length m.claims;
-        place = located q.kind spots;
+        place = located_address q.kind spots;
       } in
       let same : given ≡ a = cc in
       let sdw_is : d ≡ a.sdw = ap (λ (x : Answer). x.sdw) same in
@@ -104,14 +104,14 @@ module _ {S : Type 0} (o : Store S) (g : RegsFields) (m : Midstep S) (q : Reques
   by_sdw : (r : Result SdwFields Refusal) → o.sdw m.store g.dbr q.at.seg ≡ r → serve_sdw o g m q r ≡ record { reply = Ok a; mid = after } → IsAnswered o g m q a after
   by_sdw (Err why) e h = let no_reply = ap (λ (t : Served S). t.reply) h in cc
   by_sdw (Ok d) e h =
-      by_rights d (denied q.kind d q.at.ring g.ppr.prr (q.at.seg == g.ppr.psr) q.at.word) e h
+      by_rights d (refusing_violation q.kind d q.at.ring g.ppr.prr (q.at.seg == g.ppr.psr) q.at.word) e h
 
   pub is_answered : serve o g m q ≡ record { reply = Ok a; mid = after } → IsAnswered o g m q a after
   unfolding serve
   is_answered h = by_sdw (o.sdw m.store g.dbr q.at.seg) refl h
 
 module _ {S : Type 0} (o : Store S) (s : S) (dbr : DbrFields) (d : SdwFields) (q : Request) (spots : List Spot) where
-  spots_by : (t : Bool) → t ≡ false → places_by t (bound_only (within d q.at.word) q.at.word) (spots_of o s dbr d q.at.seg q.at.word q.count) ≡ Ok spots → spots_of o s dbr d q.at.seg q.at.word q.count ≡ Ok spots
+  spots_by : (t : Bool) → t ≡ false → spots_of_request_by t (bound_only (is_within_bound d q.at.word) q.at.word) (spots_of o s dbr d q.at.seg q.at.word q.count) ≡ Ok spots → spots_of o s dbr d q.at.seg q.at.word q.count ≡ Ok spots
   spots_by true e h = cc
   spots_by false e h = h
 

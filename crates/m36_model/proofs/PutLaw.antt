@@ -18,7 +18,7 @@ use Rattle.m36_model.specs.Pointers.{load_packed_by}
 use Rattle.m36_model.specs.Effect.{exec}
 use Rattle.m36_model.specs.WordsPut.{words_written}
 use Rattle.m36_model.specs.Step.{puts_from}
-use Rattle.m36_model.specs.StepCases.{at_spots}
+use Rattle.m36_model.specs.StepCases.{changes_at_spots}
 use Rattle.m36_model.proofs.Computed.{everything}
 
 -- the words that an effect gives; and if it is refused, its fault has a number below 16
@@ -63,7 +63,7 @@ get_past : (before : List Spot) (spot : Spot) (more : List Spot) → slice_get (
 get_past [] spot more = refl
 get_past (x ∷ before) spot more = get_past before spot more
 
-changes_from : (part : Part) (before spots : List Spot) (first : ℕ) (words : List ℕ) → first ≡ length before → length spots ≡ length words → changes (before ++ spots) (puts_from part first words) ≡ at_spots part spots words
+changes_from : (part : Part) (before spots : List Spot) (first : ℕ) (words : List ℕ) → first ≡ length before → length spots ≡ length words → changes (before ++ spots) (puts_from part first words) ≡ changes_at_spots part spots words
 unfolding changes
 changes_from part before [] first [] e h = refl
 changes_from part before [] first (w ∷ words) e h = absurd (omega arith)
@@ -89,22 +89,22 @@ pub data IsTallied (c : ChainEnd) (claims : List Spot) : Type 0 where
   no_tally : c.pending ≡ [] → claims ≡ [] → IsTallied c claims
   tallied_at : (spot : Spot) (v : ℕ) → c.pending ≡ record { claim = 0; part = Whole; value = v } ∷ [] → claims ≡ spot ∷ [] → IsTallied c claims
 
-pub tally_changes : (c : ChainEnd) (claims spots : List Spot) → IsTallied c claims → (changes (claims ++ spots) c.pending ≡ at_spots Whole claims (map (λ p. p.value) c.pending)) × (length claims ≡ length c.pending)
+pub tally_changes : (c : ChainEnd) (claims spots : List Spot) → IsTallied c claims → (changes (claims ++ spots) c.pending ≡ changes_at_spots Whole claims (map (λ p. p.value) c.pending)) × (length claims ≡ length c.pending)
 unfolding changes
 tally_changes c claims spots (no_tally a b) = rw (a, b) (refl, refl)
 tally_changes c claims spots (tallied_at spot v a b) = rw (a, b) (refl, refl)
 
-none_changed : (part : Part) (claims : List Spot) (first : ℕ) (words : List ℕ) → 0 ≡ length words → changes (claims ++ []) (puts_from part first words) ≡ at_spots part [] words
+none_changed : (part : Part) (claims : List Spot) (first : ℕ) (words : List ℕ) → 0 ≡ length words → changes (claims ++ []) (puts_from part first words) ≡ changes_at_spots part [] words
 unfolding changes
 none_changed part claims first [] e = refl
 none_changed part claims first (w ∷ words) e = absurd (omega arith)
 
-operand_changes : (part : Part) (claims spots : List Spot) (first : ℕ) (words : List ℕ) → length spots ≡ length words → (spots ≡ []) ⊎ (first ≡ length claims) → changes (claims ++ spots) (puts_from part first words) ≡ at_spots part spots words
+operand_changes : (part : Part) (claims spots : List Spot) (first : ℕ) (words : List ℕ) → length spots ≡ length words → (spots ≡ []) ⊎ (first ≡ length claims) → changes (claims ++ spots) (puts_from part first words) ≡ changes_at_spots part spots words
 operand_changes part claims spots first words e (inl none) =
     rw none (none_changed part claims first words (rw none at e))
 operand_changes part claims spots first words e (inr f) = changes_from part claims spots first words f e
 
 -- all words of an instruction: the tally word, and then those of the operand
-pub all_changes : (c : ChainEnd) (part : Part) (claims spots : List Spot) (first : ℕ) (words : List ℕ) → IsTallied c claims → length spots ≡ length words → (spots ≡ []) ⊎ (first ≡ length claims) → changes (claims ++ spots) (c.pending ++ puts_from part first words) ≡ at_spots Whole claims (map (λ p. p.value) c.pending) ++ at_spots part spots words
+pub all_changes : (c : ChainEnd) (part : Part) (claims spots : List Spot) (first : ℕ) (words : List ℕ) → IsTallied c claims → length spots ≡ length words → (spots ≡ []) ⊎ (first ≡ length claims) → changes (claims ++ spots) (c.pending ++ puts_from part first words) ≡ changes_at_spots Whole claims (map (λ p. p.value) c.pending) ++ changes_at_spots part spots words
 all_changes c part claims spots first words t e f =
-    changes_of_more (claims ++ spots) c.pending (puts_from part first words) ∙ ap (λ (more : List Change). more ++ changes (claims ++ spots) (puts_from part first words)) (tally_changes c claims spots t).0 ∙ ap (λ (more : List Change). at_spots Whole claims (map (λ p. p.value) c.pending) ++ more) (operand_changes part claims spots first words e f)
+    changes_of_more (claims ++ spots) c.pending (puts_from part first words) ∙ ap (λ (more : List Change). more ++ changes (claims ++ spots) (puts_from part first words)) (tally_changes c claims spots t).0 ∙ ap (λ (more : List Change). changes_at_spots Whole claims (map (λ p. p.value) c.pending) ++ more) (operand_changes part claims spots first words e f)

@@ -8,22 +8,22 @@ use Rattle.m36_inst.specs.declared.operand.Operand.{Operand}
 use Rattle.m36_inst.specs.declared.operand.Operand.TheVariants as kind
 use Rattle.m36_model.specs.Fields.{FinalFields}
 use Rattle.m36_model.specs.Act.{Whole, Answer, either}
-use Rattle.m36_model.specs.Store.{Spot, Store, Midstep, Ran, State, serve, run, changes}
+use Rattle.m36_model.specs.Store.{Spot, Store, Midstep, ProgramResult, State, serve, run, changes}
 use Rattle.m36_model.specs.Core.{core_store, core_put}
-use Rattle.m36_model.specs.Modification.{here, fault_at}
+use Rattle.m36_model.specs.Modification.{here, halt_at}
 use Rattle.m36_model.specs.FirstPoint.{first_point}
 use Rattle.m36_model.specs.Chain.{ChainEnd, chain}
 use Rattle.m36_model.specs.Results.{EffectFields}
 use Rattle.m36_model.specs.Effect.{exec}
-use Rattle.m36_model.specs.Step.{Performed, puts_from, tallied, operate, Ending, outcome_of, halted, completed, operated, addressed, at_once, no_address, started, admitted, decoded, has_right, fetched, indirect_words, decode, fetch_request, program, start, step_record, stepped, record_of, state_after}
-use Rattle.m36_model.specs.StepCases.{ChangedOnlyMarks, IsFetched, IsAdmitted, IsFormed, Reached, IsOperand, at_spots, StepCase, fetch_refused, no_instruction, privilege_refused, no_address as no_address_case, address_refused, operation_refused, effected, StepHasACase}
+use Rattle.m36_model.specs.Step.{Performed, puts_from, with_chain_tally, operate, Ending, outcome_of, halted, completed, operated, addressed, immediate_halt, no_address, started, admitted, decoded, has_right, fetched, indirect_words, decode, fetch_request, program, start, step_record, stepped, record_of, state_after}
+use Rattle.m36_model.specs.StepCases.{ChangedOnlyMarks, IsFetched, IsAdmitted, IsFormed, Reached, IsOperand, changes_at_spots, StepCase, fetch_refused, no_instruction, privilege_refused, no_address as no_address_case, address_refused, operation_refused, effected, StepHasACase}
 use Rattle.m36_model.proofs.PutLaw.{IsTallied, tally_changes, all_changes}
 use Rattle.m36_model.specs.declared.outcome.Fault.{Fault}
 use Rattle.m36_model.specs.declared.outcome.Halt.{Halt}
 use Rattle.m36_model.specs.declared.outcome.Halt.TheVariants as halt
 use Rattle.m36_model.specs.declared.outcome.Stop.TheVariants as stop
 use Rattle.m36_model.proofs.ChainClaims.{run_then, same_claims, served_as, PostOf, chain_claims}
-use Rattle.m36_model.proofs.OperationLaw.{OperationCase, refused, performed_with, operation_case}
+use Rattle.m36_model.proofs.OperationLaw.{OperationCase, refused_reply, performed_with, operation_case}
 
 -- the parts of a conjunction
 and_left : (a b : Bool) → (a && b) ≡ true → a ≡ true
@@ -36,7 +36,7 @@ not_right true false e = refl
 not_right false b e = cc
 
 module _ {S : Type 0} (o : Store S) (quiet : (x : S) → o.put x [] ≡ x) (s : State S) where
-  abbrev CaseOf : Ran Ending S → Type 0
+  abbrev CaseOf : ProgramResult Ending S → Type 0
   CaseOf x = StepCase o s (step_record s.regs x) (stepped o x)
 
   -- a program that ends with nothing changed
@@ -45,16 +45,16 @@ module _ {S : Type 0} (o : Store S) (quiet : (x : S) → o.put x [] ≡ x) (s : 
   has_left m word at h =
       record { told = refl; left = λ i. record { regs = s.regs; store = quiet m.store i } }
 
-  at_once_left : (i : Effect) (w : ℕ) (m : Midstep S) → let x = run o s.regs (no_address i s.regs w) m in ChangedOnlyMarks s (step_record s.regs x) (stepped o x) m (Some w) None (outcome_of (at_once i s.regs))
-  at_once_left effect.Mme w m = has_left m (Some w) None (fault_at 2 (here s.regs))
-  at_once_left effect.Drl w m = has_left m (Some w) None (fault_at 6 (here s.regs))
+  at_once_left : (i : Effect) (w : ℕ) (m : Midstep S) → let x = run o s.regs (no_address i s.regs w) m in ChangedOnlyMarks s (step_record s.regs x) (stepped o x) m (Some w) None (outcome_of (immediate_halt i s.regs))
+  at_once_left effect.Mme w m = has_left m (Some w) None (halt_at 2 (here s.regs))
+  at_once_left effect.Drl w m = has_left m (Some w) None (halt_at 6 (here s.regs))
   at_once_left _ w m = has_left m (Some w) None (halt.Stop stop.Dis)
 
-  full_case : (w : ℕ) (i : Effect) (n : ℕ) (c : ChainEnd) (m : Midstep S) → IsFormed o s w i n c m → IsTallied c m.claims → (u : Reached S) (first : ℕ) (x : EffectFields) → IsOperand o s.regs i c c.last.direct m u → exec i n (tallied s.regs c) c.last u.operand ≡ Ok x → u.mid.claims ≡ m.claims ++ u.spots → length u.spots ≡ length x.put → (u.spots ≡ []) ⊎ (first ≡ length m.claims) → CaseOf (run o s.regs (completed s.regs w c.last (record { regs = x.regs; puts = c.pending ++ puts_from u.part first x.put; overflow = x.overflow })) u.mid)
+  full_case : (w : ℕ) (i : Effect) (n : ℕ) (c : ChainEnd) (m : Midstep S) → IsFormed o s w i n c m → IsTallied c m.claims → (u : Reached S) (first : ℕ) (x : EffectFields) → IsOperand o s.regs i c c.last.direct m u → exec i n (with_chain_tally s.regs c) c.last u.operand ≡ Ok x → u.mid.claims ≡ m.claims ++ u.spots → length u.spots ≡ length x.put → (u.spots ≡ []) ⊎ (first ≡ length m.claims) → CaseOf (run o s.regs (completed s.regs w c.last (record { regs = x.regs; puts = c.pending ++ puts_from u.part first x.put; overflow = x.overflow })) u.mid)
   unfolding run
   full_case w i n c m formed t u first x p h a b f =
       let puts = c.pending ++ puts_from u.part first x.put in
-      let all : changes u.mid.claims puts ≡ at_spots Whole m.claims (map (λ p. p.value) c.pending) ++ at_spots u.part u.spots x.put = ap (λ (claims : List Spot). changes claims puts) a ∙ all_changes c u.part m.claims u.spots first x.put t b f in
+      let all : changes u.mid.claims puts ≡ changes_at_spots Whole m.claims (map (λ p. p.value) c.pending) ++ changes_at_spots u.part u.spots x.put = ap (λ (claims : List Spot). changes claims puts) a ∙ all_changes c u.part m.claims u.spots first x.put t b f in
       effected (record {
         word = w;
         instruction = i;
@@ -72,12 +72,12 @@ module _ {S : Type 0} (o : Store S) (quiet : (x : S) → o.put x [] ≡ x) (s : 
         left = λ j. record { regs = x.regs; store = o.put u.mid.store (all j) };
       })
 
-  operation_by : (w : ℕ) (i : Effect) (n : ℕ) (c : ChainEnd) (m : Midstep S) → IsFormed o s w i n c m → IsTallied c m.claims → (r : Ran (Result Performed Halt) S) → run o s.regs (operate i n s.regs c) m ≡ r → OperationCase s.regs i n c (IsOperand o s.regs i c c.last.direct m) m r → CaseOf (run o s.regs (either (completed s.regs w c.last) (halted s.regs (Some w) (Some c.last)) r.value) r.mid)
-  operation_by w i n c m formed t r known (refused h e) =
+  operation_by : (w : ℕ) (i : Effect) (n : ℕ) (c : ChainEnd) (m : Midstep S) → IsFormed o s w i n c m → IsTallied c m.claims → (r : ProgramResult (Result Performed Halt) S) → run o s.regs (operate i n s.regs c) m ≡ r → OperationCase s.regs i n c (IsOperand o s.regs i c c.last.direct m) m r → CaseOf (run o s.regs (either (completed s.regs w c.last) (halted s.regs (Some w) (Some c.last)) r.value) r.mid)
+  operation_by w i n c m formed t r known (refused_reply h e) =
       let ends : r ≡ record { value = Err h; mid = r.mid } = λ j. record { value = e j; mid = r.mid } in
       subst (λ (v : Result Performed Halt). CaseOf (run o s.regs (either (completed s.regs w c.last) (halted s.regs (Some w) (Some c.last)) v) r.mid)) (sym e) (operation_refused w m r.mid i n c h formed (known ∙ ends) (has_left r.mid (Some w) (Some c.last) h))
   operation_by w i n c m formed t r known (performed_with u first x p h a b f q) =
-      subst (λ (y : Ran (Result Performed Halt) S). CaseOf (run o s.regs (either (completed s.regs w c.last) (halted s.regs (Some w) (Some c.last)) y.value) y.mid)) (sym q) (full_case w i n c m formed t u first x p h a b f)
+      subst (λ (y : ProgramResult (Result Performed Halt) S). CaseOf (run o s.regs (either (completed s.regs w c.last) (halted s.regs (Some w) (Some c.last)) y.value) y.mid)) (sym q) (full_case w i n c m formed t u first x p h a b f)
 
   operated_case : (w : ℕ) (i : Effect) (n : ℕ) (c : ChainEnd) (m : Midstep S) → IsFormed o s w i n c m → IsTallied c m.claims → CaseOf (run o s.regs (operated i n s.regs w c) m)
   operated_case w i n c m formed t =
@@ -105,7 +105,7 @@ module _ {S : Type 0} (o : Store S) (quiet : (x : S) → o.put x [] ≡ x) (s : 
   admitted_case : (w : ℕ) (right : Bool) (m : Midstep S) → IsFetched o s w right m → m.claims ≡ [] → (i : Effect) (n : ℕ) → decode w ≡ Some (i, n) → (b : Bool) → (is_privileged i && not right) ≡ b → CaseOf (run o s.regs (admitted i n s.regs w b) m)
   admitted_case w right m fetched e i n h true p =
       let no_right = not_right (is_privileged i) right p in
-      privilege_refused w m i n (subst (λ (r : Bool). IsFetched o s w r m) no_right fetched) h (and_left (is_privileged i) (not right) p) (has_left m (Some w) None (fault_at 10 (here s.regs)))
+      privilege_refused w m i n (subst (λ (r : Bool). IsFetched o s w r m) no_right fetched) h (and_left (is_privileged i) (not right) p) (has_left m (Some w) None (halt_at 10 (here s.regs)))
   admitted_case w right m fetched e i n h false p =
       started_case w i n m (record { right = right; fetched = fetched; decoded = h; allowed = p }) e (operand_of i) refl
 

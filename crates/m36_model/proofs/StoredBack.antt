@@ -11,7 +11,7 @@ use Rattle.m36_model.specs.Registers.{RegsFields}
 use Rattle.m36_model.specs.Modification.{ptr, no_ptr}
 use Rattle.m36_model.specs.Results.{OperandFields, AQ, value, with_value, completes}
 use Rattle.m36_model.specs.Pointers.{pair_before, pointer_block, pointer_raised, pointers_in, store_pointers, load_pointers, control_pointer, store_control}
-use Rattle.m36_model.specs.CallReturn.{return_by, return_to}
+use Rattle.m36_model.specs.CallReturn.{return_through, return_to}
 use Rattle.m36_model.specs.Privileged.{load_dbr, store_dbr}
 use Rattle.m36_model.specs.Isolation.{HasPointers}
 use Rattle.m36_model.specs.StoredBack.{HasWritten, StoredIsLoaded}
@@ -57,15 +57,15 @@ dbr_loaded g h o is same =
     ∙ ap (λ (d : DbrFields). completes (record h { dbr = d })) (dbr_back g.dbr is)
 
 control_loaded : (g h : RegsFields) (f : FinalFields) (o : OperandFields) → g.ppr.psr < 2 ^ 15 → g.ppr.prr < 2 ^ 3 → HasWritten o (store_control g)
-    → return_to f o h ≡ return_by (its_of_ptr (control_pointer g)) f o h
+    → return_to f o h ≡ return_through (its_of_ptr (control_pointer g)) f o h
 unfolding store_control return_to
 control_loaded g h f o seg ring same =
     let got : o.got ≡ ptr_even (control_pointer g) ∷ ptr_odd (control_pointer g) ∷ [] = same in
     let word : (g.ppr.ic + 2) % 2 ^ 18 < 2 ^ 18 = omega arith in
     let nought : 0 < 2 ^ 6 = omega arith in
     let is : IsIts (its_of_ptr (control_pointer g)) = record { seg = seg; ring = ring; word = word; bit = nought; tag = nought } in
-    ap (λ (w : List ℕ). return_by (its_of (slice_index w 0) (slice_index w 1)) f o h) got
-    ∙ ap (λ (its : ItsFields). return_by its f o h) (its_back (its_of_ptr (control_pointer g)) is)
+    ap (λ (w : List ℕ). return_through (its_of (slice_index w 0) (slice_index w 1)) f o h) got
+    ∙ ap (λ (its : ItsFields). return_through its f o h) (its_back (its_of_ptr (control_pointer g)) is)
 
 -- ---- the eight pointer registers
 

@@ -3,9 +3,9 @@ use Rattle.std.specs.Prelude.{◌≡◌, ◌≢◌, ℕ, ◌+◌, ◌<◌, ◌�
 use Rattle.std.specs.Prelude.{◌==◌, List, [], ◌∷◌, ◌++◌, length, Option, Some, None, Result, Ok}
 use Rattle.std.specs.Prelude.{Err}
 use Rattle.m36_desc.specs.Fields.{SdwFields, DbrFields}
-use Rattle.m36_desc.specs.Access.{in_order}
+use Rattle.m36_desc.specs.Access.{has_ordered_brackets}
 use Rattle.m36_model.specs.Store.{Core_word, place}
-use Rattle.m36_model.specs.Place.{wrapped, in_bounds, sdw_place, directory_at, page_at, last_page}
+use Rattle.m36_model.specs.Place.{wrapped_address, has_descriptor_in_bounds, sdw_place, directory_at, page_at, last_page}
 use Rattle.m36_model.specs.Place.{core_sdw, ring_stack}
 use Rattle.m36_model.specs.Core.{core_store}
 use Rattle.m36_model.specs.declared.outcome.Refusal.{Refusal}
@@ -14,11 +14,11 @@ use Rattle.m36_model.specs.declared.outcome.Refusal.{Refusal}
 pub record IsSdwWord (core : List ℕ) (dbr : DbrFields) (seg a : ℕ) : Type 0 where
   pub even : ℕ
   pub found : sdw_place core dbr seg ≡ Ok even
-  pub half : (a ≡ even) ⊎ (a ≡ wrapped (even + 1))
+  pub half : (a ≡ even) ⊎ (a ≡ wrapped_address (even + 1))
 
 -- the address is that of the PTW of a paged descriptor segment for a descriptor that is in bounds
 pub record IsDirectoryWord (dbr : DbrFields) (seg a : ℕ) : Type 0 where
-  pub bounds : in_bounds dbr seg ≡ true
+  pub bounds : has_descriptor_in_bounds dbr seg ≡ true
   pub paged : dbr.unpaged ≡ false
   pub found : a ≡ directory_at dbr seg
 
@@ -38,10 +38,10 @@ pub data Table : Type 0 where
   Pages : (seg : ℕ) → Table
 
 -- the core word at an address is a word of a table
-abbrev pub IsOf : List ℕ → DbrFields → Table → ℕ → Type 0
-IsOf core dbr Sdws a = (seg : ℕ) × IsSdwWord core dbr seg a
-IsOf core dbr Directory a = (seg : ℕ) × IsDirectoryWord dbr seg a
-IsOf core dbr (Pages seg) a = (page : ℕ) × IsPageWord core dbr seg page a
+abbrev pub IsWordOfTable : List ℕ → DbrFields → Table → ℕ → Type 0
+IsWordOfTable core dbr Sdws a = (seg : ℕ) × IsSdwWord core dbr seg a
+IsWordOfTable core dbr Directory a = (seg : ℕ) × IsDirectoryWord dbr seg a
+IsWordOfTable core dbr (Pages seg) a = (page : ℕ) × IsPageWord core dbr seg page a
 
 -- the core word at an address is word w of a segment
 abbrev pub IsSegmentWord : List ℕ → DbrFields → ℕ → ℕ → ℕ → Type 0
@@ -52,10 +52,10 @@ IsSegmentWord core dbr seg w a = place core_store core dbr seg w ≡ Ok (Core_wo
 pub record IsOutOfOrder (sdws : ℕ → Result SdwFields Refusal) (seg : ℕ) : Type 0 where
   pub sdw : SdwFields
   pub live : sdws seg ≡ Ok sdw
-  pub out : in_order sdw ≡ false
+  pub out : has_ordered_brackets sdw ≡ false
 
 -- a core word below `size` is a word of two tables, where Of says what the words of a table are
-pub record InTwo (Of : Table → ℕ → Type 0) (size a : ℕ) : Type 0 where
+pub record IsInTwo (Of : Table → ℕ → Type 0) (size a : ℕ) : Type 0 where
   pub inside : a < size
   pub table : Table
   pub other : Table
@@ -65,13 +65,13 @@ pub record InTwo (Of : Table → ℕ → Type 0) (size a : ℕ) : Type 0 where
 
 -- Second condition: no core word is a word of two tables. A core word breaks it.
 abbrev pub IsInTwoTables : List ℕ → DbrFields → ℕ → Type 0
-IsInTwoTables core dbr = InTwo (IsOf core dbr) (length core)
+IsInTwoTables core dbr = IsInTwo (IsWordOfTable core dbr) (length core)
 
 -- Third condition: no core word is both a table word and a word of a segment. A core word breaks
 -- it.
 pub record IsTableAndSegment (core : List ℕ) (dbr : DbrFields) (a : ℕ) : Type 0 where
   pub table : Table
-  pub of : IsOf core dbr table a
+  pub of : IsWordOfTable core dbr table a
   pub seg : ℕ
   pub w : ℕ
   pub word : IsSegmentWord core dbr seg w a
@@ -146,9 +146,9 @@ Finds Breaks (Some p) = Breaks p × ((q : ℕ) → Breaks q → p ≤ q)
 
 -- the finding of a condition as a list of one, with the number of the condition; an empty list if
 -- the condition holds
-abbrev pub noted : ℕ → Option ℕ → List (ℕ × ℕ)
-noted condition None = []
-noted condition (Some p) = (condition, p) ∷ []
+abbrev pub numbered_finding : ℕ → Option ℕ → List (ℕ × ℕ)
+numbered_finding condition None = []
+numbered_finding condition (Some p) = (condition, p) ∷ []
 
 -- the findings of an audit: one for each condition that fails, in the order of the conditions
 pub record AreFindings (core : List ℕ) (dbr : DbrFields) (findings : List (ℕ × ℕ)) : Type 0 where
@@ -166,5 +166,5 @@ pub record AreFindings (core : List ℕ) (dbr : DbrFields) (findings : List (ℕ
   pub finds_sixth : Finds (HasNoStack dbr (core_sdw core dbr)) sixth
   pub listed :
       findings
-      ≡ noted 1 first ++ noted 2 second ++ noted 3 third ++ noted 4 fourth ++ noted 5 fifth
-      ++ noted 6 sixth
+      ≡ numbered_finding 1 first ++ numbered_finding 2 second ++ numbered_finding 3 third ++ numbered_finding 4 fourth ++ numbered_finding 5 fifth
+      ++ numbered_finding 6 sixth

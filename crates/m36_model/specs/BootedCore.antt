@@ -4,7 +4,7 @@ use Rattle.std.specs.Prelude.{◌≡◌, ◌≢◌, ℕ, ◌+◌, ◌*◌, ◌^�
 use Rattle.std.specs.Prelude.{length, slice_index, Ok, Err}
 use Rattle.m36_word.specs.Field.{frames_reached}
 use Rattle.m36_desc.specs.Fields.{SdwFields, DbrFields}
-use Rattle.m36_desc.specs.Access.{in_order}
+use Rattle.m36_desc.specs.Access.{has_ordered_brackets}
 use Rattle.m36_model.specs.Faults.{missing_page}
 use Rattle.m36_model.specs.Place.{core_sdw, last_page}
 use Rattle.m36_model.specs.Core.{unmarked}
@@ -48,7 +48,7 @@ pub record IsLaidSegment (seg : ℕ) (d : SdwFields) : Type 0 where
   pub paged : d.unpaged ≡ false
   pub table : d.addr ≡ table_at seg
   pub size : last_page d < table_words
-  pub ordered : in_order d ≡ true
+  pub ordered : has_ordered_brackets d ≡ true
 
 -- a page that begins within the bound of a live segment
 pub record IsPage (core : List ℕ) (seg page : ℕ) : Type 0 where

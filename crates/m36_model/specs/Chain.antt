@@ -16,7 +16,7 @@ use Rattle.m36_model.specs.declared.outcome.Halt.{Halt}
 use Rattle.m36_model.specs.Act.{RequestKind, Indirect, Odd, Write, Whole, Put, Request, Answer, Act}
 use Rattle.m36_model.specs.Act.{done, refer}
 use Rattle.m36_model.specs.Modification.{Point, Move, Ends, Fails, Reads, Counts, move_of_point}
-use Rattle.m36_model.specs.Modification.{ptr, pair_ring, fault_at, at_point, final_at}
+use Rattle.m36_model.specs.Modification.{ptr, pair_ring, halt_at, at_point, final_at}
 use Rattle.m36_model.specs.Tally.{Counted, tally, tally_address, indirect_only}
 
 -- The result of a chain: the final address, the tally word that is still to be written, and the new
@@ -44,22 +44,22 @@ indirect kind p word = record { kind = kind; at = at_point p word; count = 1; pe
 
 -- The kinds of indirect words. At an even word number, tag 43 makes a word the even word of an ITS
 -- pair, and tag 41 that of an ITP pair. Every other word is a plain indirect word.
-pub data Found : Type 0 where
-  Its : Found
-  Itp : Found
-  Plain : Found
+pub data IndirectKind : Type 0 where
+  Its : IndirectKind
+  Itp : IndirectKind
+  Plain : IndirectKind
 
 -- the kind of an indirect word at an even word number, by its tag
-abbrev pub found_by_tag : ℕ → Found
-found_by_tag tag = if tag == its_tag then Its else if tag == itp_tag then Itp else Plain
+abbrev pub kind_by_tag : ℕ → IndirectKind
+kind_by_tag tag = if tag == its_tag then Its else if tag == itp_tag then Itp else Plain
 
 -- the tag of a plain indirect word, or of the even word of a pair
 abbrev pub indirect_tag : ℕ → ℕ
 indirect_tag w = tag_of w
 
 -- what an indirect word is, by its word number and its tag
-unfoldable pub found : ℕ → ℕ → Found
-found word w = if word % 2 == 0 then found_by_tag (indirect_tag w) else Plain
+unfoldable pub found : ℕ → ℕ → IndirectKind
+found word w = if word % 2 == 0 then kind_by_tag (indirect_tag w) else Plain
 
 -- The point after a plain indirect word: y and the tag are those of the word. Segment, ring and bit
 -- number do not change (the bit number: this project's choice).
@@ -109,7 +109,7 @@ itp_point g p word held even odd r1 =
 -- was found. If the odd word is refused, the even word is still a completed reference (this
 -- project's choice).
 abbrev pub after_word :
-    (Point → Formation) → RegsFields → Point → ℕ → Option ℕ → Answer → Found → Formation
+    (Point → Formation) → RegsFields → Point → ℕ → Option ℕ → Answer → IndirectKind → Formation
 after_word next g p word held a Plain =
     next (plain_point p word held (slice_index a.words 0) a.sdw.r1)
 after_word next g p word held a Its =
@@ -157,7 +157,7 @@ chain_by next g p Counts =
 -- The halt by a 17th indirect word: a lockup fault at this word. The word is not read, nor are the
 -- rights to it checked.
 abbrev pub lockup : Point → ℕ → Halt
-lockup p word = fault_at lockup_fault (at_point p word)
+lockup p word = halt_at lockup_fault (at_point p word)
 
 -- the chain from a point at which no indirect word may be read, by what its tag does
 abbrev pub chain_exhausted : Point → Move → Formation

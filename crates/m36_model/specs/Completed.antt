@@ -6,7 +6,7 @@ use Rattle.m36_model.specs.Registers.{RegsFields}
 use Rattle.m36_model.specs.Act.{Request, Answer, Act, done, ask}
 use Rattle.m36_model.specs.Store.{Store, Midstep, State, serve, touches, with_reference}
 use Rattle.m36_model.specs.Core.{core_store}
-use Rattle.m36_model.specs.Step.{program, start, ran}
+use Rattle.m36_model.specs.Step.{program, start, run_of_step}
 use Rattle.m36_model.specs.declared.outcome.Fault.{Fault}
 use Rattle.m36_model.specs.declared.place.Reference.{Reference}
 
@@ -38,10 +38,10 @@ references_of refs (q ∷ more) = references_of (with_reference q.kind q refs) m
 -- records their references.
 pub record IsMarked {S : Type 0} (o : Store S) (s : State S) : Type 0 where
   pub marks :
-      (ran o s).mid.store
+      (run_of_step o s).mid.store
       ≡ with_marks_of o s.regs.dbr s.store (completed o s.regs (program s.regs) (start s))
   pub references :
-      (ran o s).mid.refs ≡ references_of [] (completed o s.regs (program s.regs) (start s))
+      (run_of_step o s).mid.refs ≡ references_of [] (completed o s.regs (program s.regs) (start s))
 
 -- In every step, exactly the marks of the completed references are set before words are written.
 abbrev pub MarksOfCompletedReferences : Type 0

@@ -4,10 +4,10 @@ use Rattle.std.specs.Prelude.{◌∷◌, length, slice_get, slice_index, slice_s
 use Rattle.std.specs.Prelude.{Result, Ok, Err}
 use Rattle.m36_desc.specs.Fields.{SdwFields, DbrFields}
 use Rattle.m36_model.specs.Act.{Part}
-use Rattle.m36_model.specs.Place.{wrapped, directory_at, page_at, last_page, in_bounds, sdw_place}
+use Rattle.m36_model.specs.Place.{wrapped_address, directory_at, page_at, last_page, has_descriptor_in_bounds, sdw_place}
 use Rattle.m36_model.specs.Place.{core_sdw, core_spot, core_marked}
 use Rattle.m36_model.specs.Store.{Spot, Core_word, Segment_word, Change, SegTable, Tables, Store}
-use Rattle.m36_model.specs.Store.{written}
+use Rattle.m36_model.specs.Store.{with_part_written}
 use Rattle.m36_model.specs.declared.outcome.Refusal.{Refusal}
 
 -- the word at a spot
@@ -17,7 +17,7 @@ core_word core (Segment_word s w) = 0
 
 -- core with one word, or a half of it, written at a spot
 abbrev pub put_one : List ℕ → Spot → Part → ℕ → List ℕ
-put_one core (Core_word a) part v = slice_set core a (written part (slice_index core a) v)
+put_one core (Core_word a) part v = slice_set core a (with_part_written part (slice_index core a) v)
 put_one core (Segment_word s w) part v = core
 
 -- core with words written, in order
@@ -39,7 +39,7 @@ sdw_entry core a = (a, slice_get core a)
 
 -- the addresses of the two words of an SDW, with these words; none if it has no place
 abbrev pub sdw_entries : List ℕ → Result ℕ Refusal → List (ℕ × Option ℕ)
-sdw_entries core (Ok a) = sdw_entry core a ∷ sdw_entry core (wrapped (a + 1)) ∷ []
+sdw_entries core (Ok a) = sdw_entry core a ∷ sdw_entry core (wrapped_address (a + 1)) ∷ []
 sdw_entries core (Err e) = []
 
 -- the entries of the PTWs of a segment for page n down to page 0
@@ -57,7 +57,7 @@ abbrev pub segment_table : List ℕ → DbrFields → ℕ → SegTable
 segment_table core dbr seg =
     record {
       directory =
-          if in_bounds dbr seg && not dbr.unpaged
+          if has_descriptor_in_bounds dbr seg && not dbr.unpaged
           then ptw_entry core (directory_at dbr seg) ∷ []
           else [];
       sdw = sdw_entries core (sdw_place core dbr seg);

@@ -26,10 +26,10 @@ abbrev pub IsMarked : ℕ → ℕ → Type 0
 IsMarked old new = (new ≡ marked_word false old) ⊎ (new ≡ marked_word true old)
 
 -- The core word at an address is unchanged, or is a PTW on which marks were turned on.
-abbrev pub IsButMarked : List ℕ → DbrFields → ℕ → ℕ → ℕ → Type 0
-IsButMarked core dbr a old new = (new ≡ old) ⊎ (IsPtwWord core dbr a × IsMarked old new)
+abbrev pub IsSameExceptMarks : List ℕ → DbrFields → ℕ → ℕ → ℕ → Type 0
+IsSameExceptMarks core dbr a old new = (new ≡ old) ⊎ (IsPtwWord core dbr a × IsMarked old new)
 
 -- core is unchanged, except for marks on PTWs
 pub record IsMarkedFrom (core : List ℕ) (dbr : DbrFields) (old new : List ℕ) : Type 0 where
   pub size : length new ≡ length old
-  pub words : (a : ℕ) → IsButMarked core dbr a (slice_index old a) (slice_index new a)
+  pub words : (a : ℕ) → IsSameExceptMarks core dbr a (slice_index old a) (slice_index new a)

@@ -2,7 +2,7 @@
 -- number in its name, the registers, the final address and the operand; or the number of the fault
 -- if it is refused. There is one line for each instruction, in the order of the instruction table;
 -- the equations are in the modules that it uses. MME, DRL and DIS form no address, so a step does
--- not use their lines: `at_once` in `Step` has their faults and the stop. Registers and indicators
+-- not use their lines: `immediate_halt` in `Step` has their faults and the stop. Registers and indicators
 -- that the equations of an instruction do not name are unchanged. Which indicators it sets is this
 -- project's choice.
 --
@@ -25,8 +25,8 @@ use Rattle.m36_model.specs.Results.{OperandFields, EffectFields, effect_fields, 
 use Rattle.m36_model.specs.Results.{operand, word, lower, completes}
 use Rattle.m36_model.specs.Loads.{load, load_complement, load_and_clear, address_in_upper}
 use Rattle.m36_model.specs.Loads.{load_indicators}
-use Rattle.m36_model.specs.Stores.{store, store_zero, store_indicators, store_where_zero}
-use Rattle.m36_model.specs.Stores.{store_where_equal}
+use Rattle.m36_model.specs.Stores.{store, store_zero, store_indicators, store_if_zero}
+use Rattle.m36_model.specs.Stores.{store_if_equal}
 use Rattle.m36_model.specs.Sums.{add, add_logical, add_with_carry, sign_extended, subtract}
 use Rattle.m36_model.specs.Sums.{subtract_logical, subtract_with_carry, add_one_to_storage}
 use Rattle.m36_model.specs.Sums.{add_to_storage, subtract_stored, negate}
@@ -39,7 +39,7 @@ use Rattle.m36_model.specs.ShiftEffects.{shift_left, shift_right, shift_right_lo
 use Rattle.m36_model.specs.Pointers.{load_pointer, load_base_pointer, store_pointer}
 use Rattle.m36_model.specs.Pointers.{store_base_pointer, store_pointers, load_pointers, load_packed}
 use Rattle.m36_model.specs.Pointers.{load_address_pair, store_control}
-use Rattle.m36_model.specs.Transfers.{is_taken, transfer_where, transfer_on_overflow}
+use Rattle.m36_model.specs.Transfers.{is_taken, transfer_if, transfer_on_overflow}
 use Rattle.m36_model.specs.Transfers.{transfer_and_set_index, transfer_and_set_pointer}
 use Rattle.m36_model.specs.CallReturn.{call, return_to}
 use Rattle.m36_model.specs.Privileged.{load_dbr, store_dbr, load_absolute_address}
@@ -163,19 +163,19 @@ exec effect.Lpri n g f o = load_pointers g f o  -- C(Y-block16) → C(PR0) .. C(
 exec effect.LprpN n g f o = load_packed n (word o) g f  -- C(Y), packed → C(PRn)
 exec effect.Epaq n g f o = load_address_pair g f  -- TSR, TRR, CA, TBR → C(AQ)
 exec effect.Stcd n g f o = store_control g  -- PSR, PRR, IC + 2 → C(Y-pair), as ITS
-exec effect.Stac n g f o = store_where_zero (word o) g  -- if C(Y) = 0, C(A) → C(Y)
-exec effect.Stacq n g f o = store_where_equal (word o) g  -- if C(Y) = C(Q), C(A) → C(Y)
-exec effect.Tra n g f o = transfer_where (is_taken effect.Tra g) f g  -- TSR, CA → PSR, IC
-exec effect.Tze n g f o = transfer_where (is_taken effect.Tze g) f g  -- if zero is on
-exec effect.Tnz n g f o = transfer_where (is_taken effect.Tnz g) f g  -- if zero is off
-exec effect.Tmi n g f o = transfer_where (is_taken effect.Tmi g) f g  -- if negative is on
-exec effect.Tpl n g f o = transfer_where (is_taken effect.Tpl g) f g  -- if negative is off
-exec effect.Trc n g f o = transfer_where (is_taken effect.Trc g) f g  -- if carry is on
-exec effect.Tnc n g f o = transfer_where (is_taken effect.Tnc g) f g  -- if carry is off
-exec effect.Tmoz n g f o = transfer_where (is_taken effect.Tmoz g) f g  -- if negative or zero is on
-exec effect.Tpnz n g f o = transfer_where (is_taken effect.Tpnz g) f g  -- if neither is on
+exec effect.Stac n g f o = store_if_zero (word o) g  -- if C(Y) = 0, C(A) → C(Y)
+exec effect.Stacq n g f o = store_if_equal (word o) g  -- if C(Y) = C(Q), C(A) → C(Y)
+exec effect.Tra n g f o = transfer_if (is_taken effect.Tra g) f g  -- TSR, CA → PSR, IC
+exec effect.Tze n g f o = transfer_if (is_taken effect.Tze g) f g  -- if zero is on
+exec effect.Tnz n g f o = transfer_if (is_taken effect.Tnz g) f g  -- if zero is off
+exec effect.Tmi n g f o = transfer_if (is_taken effect.Tmi g) f g  -- if negative is on
+exec effect.Tpl n g f o = transfer_if (is_taken effect.Tpl g) f g  -- if negative is off
+exec effect.Trc n g f o = transfer_if (is_taken effect.Trc g) f g  -- if carry is on
+exec effect.Tnc n g f o = transfer_if (is_taken effect.Tnc g) f g  -- if carry is off
+exec effect.Tmoz n g f o = transfer_if (is_taken effect.Tmoz g) f g  -- if negative or zero is on
+exec effect.Tpnz n g f o = transfer_if (is_taken effect.Tpnz g) f g  -- if neither is on
 exec effect.Tov n g f o = transfer_on_overflow (is_taken effect.Tov g) f g  -- if overflow is on
-exec effect.Ttf n g f o = transfer_where (is_taken effect.Ttf g) f g  -- if tally runout is off
+exec effect.Ttf n g f o = transfer_if (is_taken effect.Ttf g) f g  -- if tally runout is off
 exec effect.TsxN n g f o = transfer_and_set_index n f g  -- IC + 1 → C(Xn)
 exec effect.TspN n g f o = transfer_and_set_pointer n f g  -- PSR, PRR, IC + 1 → C(PRn)
 exec effect.Call6 n g f o = call f o.ring g  -- TSR, ring, CA → PPR

@@ -6,8 +6,8 @@ use Rattle.m36_desc.specs.Fields.{SdwFields, DbrFields}
 use Rattle.m36_desc.specs.Violations.{out_of_segment_bounds}
 use Rattle.m36_model.specs.Act.{RequestKind, Part}
 use Rattle.m36_model.specs.Store.{Spot, Core_word, Segment_word, Change, SegTable, Tables, Store}
-use Rattle.m36_model.specs.Store.{written, violation}
-use Rattle.m36_model.specs.Place.{in_bounds, sdw_words}
+use Rattle.m36_model.specs.Store.{with_part_written, violation}
+use Rattle.m36_model.specs.Place.{has_descriptor_in_bounds, sdw_words}
 use Rattle.m36_model.specs.Audit.{IsOutOfOrder, IsNoGate, HasNoStack}
 use Rattle.m36_model.specs.declared.outcome.Refusal.{Refusal}
 
@@ -23,7 +23,7 @@ flat_sdw_by false words seg = Err (violation out_of_segment_bounds)
 
 -- the descriptor of a segment; a refusal if it is out of bounds or not live
 unfoldable pub flat_sdw : Flat → DbrFields → ℕ → Result SdwFields Refusal
-flat_sdw s dbr seg = flat_sdw_by (in_bounds dbr seg) s.descriptors seg
+flat_sdw s dbr seg = flat_sdw_by (has_descriptor_in_bounds dbr seg) s.descriptors seg
 
 -- each word within the bound has a spot
 abbrev pub flat_spot : Flat → DbrFields → SdwFields → ℕ → ℕ → Result Spot Refusal
@@ -37,7 +37,7 @@ flat_word s (Segment_word seg w) = s.content seg w
 -- content with one word, or a half of it, written
 abbrev pub content_with : (ℕ → ℕ → ℕ) → ℕ → ℕ → Part → ℕ → ℕ → ℕ → ℕ
 content_with content seg w part v seg' w' =
-    if (seg == seg') && (w == w') then written part (content seg' w') v else content seg' w'
+    if (seg == seg') && (w == w') then with_part_written part (content seg' w') v else content seg' w'
 
 -- the flat memory with one word, or a half of it, written; a core word is none of its words
 abbrev pub flat_put_one : Flat → Spot → Part → ℕ → Flat
@@ -64,7 +64,7 @@ flat_table_by false words seg = record { directory = []; sdw = []; pages = [] }
 -- the tables of a flat memory: the words of its descriptors
 unfoldable pub flat_tables : Flat → DbrFields → Tables
 flat_tables s dbr =
-    record { dbr = dbr; size = 0; of = λ seg. flat_table_by (in_bounds dbr seg) s.descriptors seg }
+    record { dbr = dbr; size = 0; of = λ seg. flat_table_by (has_descriptor_in_bounds dbr seg) s.descriptors seg }
 
 -- a reference sets no marks
 abbrev pub flat_marked : Flat → DbrFields → RequestKind → ℕ → ℕ → Flat

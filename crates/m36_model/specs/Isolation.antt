@@ -13,7 +13,7 @@ use Rattle.m36_model.specs.Step.{decode}
 use Rattle.m36_model.specs.Sight.{IsLive, tables_of, Unreached}
 use Rattle.m36_model.specs.Agree.{Agree}
 use Rattle.m36_model.specs.Audit.{is_stack_of}
-use Rattle.m36_model.specs.Run.{Visited, window}
+use Rattle.m36_model.specs.Run.{RunStep, window}
 use Rattle.m36_model.specs.StoreLaw.{Each}
 use Rattle.m36_model.specs.declared.outcome.Outcome.TheVariants.{Next}
 use Rattle.m36_model.specs.declared.record.StepRecord.{StepRecord}
@@ -57,7 +57,7 @@ EachTwo P (x ∷ xs) (y ∷ ys) = P x y × EachTwo P xs ys
 -- For a step of a window: no word out of reach of ring r has changed since the start of the window,
 -- the tables are T, and the ring falls below r only by a gate call.
 pub record IsKept {S : Type 0} (o : Store S) (T : Tables) (r : ℕ) (start : State S)
-    (v : Visited S) : Type 0 where
+    (v : RunStep S) : Type 0 where
   pub unreached : Unreached o r start v.after
   pub tables : tables_of o v.after ≡ T
   pub falls : v.told.after.ppr.prr < r → IsGateCall o v.before r v.told

@@ -3,9 +3,9 @@
 use Rattle.std.specs.Prelude.{◌≡◌, ◌≢◌, ℕ, ◌+◌, ◌<◌, ◌⊎◌, List, [], ◌∷◌, ◌++◌, map, length}
 use Rattle.std.specs.Prelude.{slice_get, Option, Some, None, Ok}
 use Rattle.m36_desc.specs.Fields.{DbrFields}
-use Rattle.m36_model.specs.Place.{wrapped, sdw_place}
-use Rattle.m36_model.specs.Audit.{Table, Sdws, Directory, Pages, IsOf, IsSegmentWord, IsAudited}
-use Rattle.m36_model.specs.Audit.{Finds, noted, AreFindings}
+use Rattle.m36_model.specs.Place.{wrapped_address, sdw_place}
+use Rattle.m36_model.specs.Audit.{Table, Sdws, Directory, Pages, IsWordOfTable, IsSegmentWord, IsAudited}
+use Rattle.m36_model.specs.Audit.{Finds, numbered_finding, AreFindings}
 
 -- the most processes of a joint audit
 abbrev pub most_processes : ℕ
@@ -18,7 +18,7 @@ pub record AreSame (core : List ℕ) (dbr other : DbrFields) (seg other_seg : �
   pub found : sdw_place core dbr seg ≡ Ok at
   pub other_found : sdw_place core other other_seg ≡ Ok other_at
   pub even : slice_get core at ≡ slice_get core other_at
-  pub odd : slice_get core (wrapped (at + 1)) ≡ slice_get core (wrapped (other_at + 1))
+  pub odd : slice_get core (wrapped_address (at + 1)) ≡ slice_get core (wrapped_address (other_at + 1))
 
 -- Two processes may share a word of these two tables: they are the page tables of the same segment.
 -- (Its descriptors are equal, so a word at one address is for the same page.)
@@ -42,7 +42,7 @@ pub record AreTwo (dbrs : List DbrFields) (dbr other : DbrFields) : Type 0 where
 abbrev pub IsUsedByOther : List ℕ → DbrFields → DbrFields → Table → ℕ → Type 0
 IsUsedByOther core dbr other table a =
     ((seg : ℕ) × (w : ℕ) × IsSegmentWord core other seg w a) ⊎
-    ((other_table : Table) × IsOf core other other_table a ×
+    ((other_table : Table) × IsWordOfTable core other other_table a ×
     (AreShared core dbr other table other_table → ⊥))
 
 -- No table word of one process is a table word or a segment word of another, except in shared page
@@ -53,13 +53,13 @@ pub record IsJointTable (core : List ℕ) (dbrs : List DbrFields) (a : ℕ) : Ty
   pub other : DbrFields
   pub two : AreTwo dbrs dbr other
   pub table : Table
-  pub of : IsOf core dbr table a
+  pub of : IsWordOfTable core dbr table a
   pub taken : IsUsedByOther core dbr other table a
 
 -- two words of segments are the same word of the same segment
 pub record AreSameWord (core : List ℕ) (dbr other : DbrFields)
     (seg w other_seg other_w : ℕ) : Type 0 where
-  pub segment : AreSame core dbr other seg other_seg
+  pub descriptor_entry : AreSame core dbr other seg other_seg
   pub word : w ≡ other_w
 
 -- No segment word of one process is at the core address of one of another, unless they are the same
@@ -83,38 +83,38 @@ pub record IsJointlyAudited (core : List ℕ) (dbrs : List DbrFields) : Type 0 w
   pub segments : (a : ℕ) → IsJointSegment core dbrs a → ⊥
 
 -- a finding: the number of the process, if it is of one, the number of the condition, and the place
-pub record JointFound : Type 0 where
+pub record JointFindingFields : Type 0 where
   pub process : Option ℕ
   pub condition : ℕ
   pub place : ℕ
 
 -- findings of an audit as joint findings, of a process or of none
-abbrev pub found_of : Option ℕ → List (ℕ × ℕ) → List JointFound
-found_of process findings =
+abbrev pub as_joint_findings : Option ℕ → List (ℕ × ℕ) → List JointFindingFields
+as_joint_findings process findings =
     map (λ f. record { process = process; condition = f.0; place = f.1 }) findings
 
 -- findings of the audit of process i as joint findings
-abbrev pub of_process : ℕ → List (ℕ × ℕ) → List JointFound
-of_process i findings = found_of (Some i) findings
+abbrev pub findings_of_process : ℕ → List (ℕ × ℕ) → List JointFindingFields
+findings_of_process i findings = as_joint_findings (Some i) findings
 
 -- the finding of a condition between processes as a list of one; an empty list if the condition
 -- holds
-abbrev pub between : ℕ → Option ℕ → List JointFound
-between condition place = found_of None (noted condition place)
+abbrev pub between : ℕ → Option ℕ → List JointFindingFields
+between condition place = as_joint_findings None (numbered_finding condition place)
 
 -- the findings of the processes from number i on, in order
-abbrev pub AreFindingsFrom : ℕ → List ℕ → List DbrFields → List JointFound → Type 0
+abbrev pub AreFindingsFrom : ℕ → List ℕ → List DbrFields → List JointFindingFields → Type 0
 AreFindingsFrom i core [] findings = findings ≡ []
 AreFindingsFrom i core (dbr ∷ dbrs) findings =
     (own : List (ℕ × ℕ)) × AreFindings core dbr own ×
-    ((rest : List JointFound) × AreFindingsFrom (i + 1) core dbrs rest ×
-    (findings ≡ of_process i own ++ rest))
+    ((rest : List JointFindingFields) × AreFindingsFrom (i + 1) core dbrs rest ×
+    (findings ≡ findings_of_process i own ++ rest))
 
 -- the findings of a joint audit: those of each process in order, and one for each of the two
 -- conditions between processes that fails
 pub record AreJointFindings (core : List ℕ) (dbrs : List DbrFields)
-    (findings : List JointFound) : Type 0 where
-  pub own : List JointFound
+    (findings : List JointFindingFields) : Type 0 where
+  pub own : List JointFindingFields
   pub finds_own : AreFindingsFrom 0 core dbrs own
   pub second : Option ℕ
   pub finds_second : Finds (IsJointTable core dbrs) second

@@ -17,7 +17,7 @@ use Rattle.m36_model.specs.Core.{core_store, core_tables}
 use Rattle.m36_model.specs.Sight.{InSight, InReach, Unreached, content, tables_of}
 use Rattle.m36_model.specs.Agree.{Agree}
 use Rattle.m36_model.specs.Audit.{IsAudited, IsSegmentWord}
-use Rattle.m36_model.specs.CoreLaw.{IsButMarked}
+use Rattle.m36_model.specs.CoreLaw.{IsSameExceptMarks}
 use Rattle.m36_model.specs.Isolation.{Executes, IsGateCall, HasPointers}
 use Rattle.m36_model.specs.StoreLaw.{Each}
 use Rattle.m36_model.specs.declared.place.Kind.{Kind}
@@ -37,7 +37,7 @@ pub record IsCalled (g : RegsFields) (f : FinalFields) (o : OperandFields)
 -- What holds of every effect. Only CALL6 and RTCD change the ring, and RTCD does not enter a ring
 -- below that of the address. Only LDBR changes the DBR. An effect gives as many words to write as
 -- its operand kind requires.
-pub record IsEffect (e : Effect) (g : RegsFields) (f : FinalFields) (o : OperandFields)
+pub record IsLawfulEffect (e : Effect) (g : RegsFields) (f : FinalFields) (o : OperandFields)
     (x : EffectFields) : Type 0 where
   pub ring :
       (x.regs.ppr.prr ≡ g.ppr.prr) ⊎ ((e ≡ effect.Call6) × IsCalled g f o x)
@@ -46,11 +46,11 @@ pub record IsEffect (e : Effect) (g : RegsFields) (f : FinalFields) (o : Operand
   pub count : length x.put ≡ words_written (operand_of e)
   pub pointers : HasPointers g → HasPointers x.regs
 
--- `IsEffect` holds of every effect that is not refused.
+-- `IsLawfulEffect` holds of every effect that is not refused.
 abbrev pub EffectLaw : Type 0
 EffectLaw =
     (e : Effect) (n : ℕ) (g : RegsFields) (f : FinalFields) (o : OperandFields) (x : EffectFields)
-    → exec e n g f o ≡ Ok x → IsEffect e g f o x
+    → exec e n g f o ≡ Ok x → IsLawfulEffect e g f o x
 
 -- No effect is refused with a directed fault, an access violation, or fault tag 2 or 3.
 abbrev pub EffectRefusals : Type 0
@@ -74,14 +74,14 @@ MayRefer o r s seg reference.Read = InSight o s r seg
 MayRefer o r s seg reference.Write = InReach o s r seg
 
 -- a completed reference is to a segment that ring r can see or, for a Write, can change
-abbrev pub IsWithin : {S : Type 0} → Store S → ℕ → State S → Reference → Type 0
-IsWithin o r s e = MayRefer o r s e.at.seg e.kind
+abbrev pub IsPermittedReference : {S : Type 0} → Store S → ℕ → State S → Reference → Type 0
+IsPermittedReference o r s e = MayRefer o r s e.at.seg e.kind
 
 -- Each completed reference of a step in ring r or above is to a segment that ring r can see or, for
 -- a Write, can change.
 abbrev pub SightLaw : {S : Type 0} → Store S → Tables → Type 0
 SightLaw {S} o T =
-    (r : ℕ) (s : State S) → IsAbove o T r s → Each (IsWithin o r s) (record_of o s).refs.items
+    (r : ℕ) (s : State S) → IsAbove o T r s → Each (IsPermittedReference o r s) (record_of o s).refs.items
 
 -- What ring r cannot see does not affect the record of a step.
 abbrev pub DependsLaw : {S : Type 0} → Store S → Tables → Type 0
@@ -105,7 +105,7 @@ abbrev pub CoreReachLaw : List ℕ → DbrFields → Type 0
 CoreReachLaw core dbr =
     (r : ℕ) (s : State (List ℕ)) → IsAbove core_store (core_tables core dbr) r s → (a : ℕ)
     → (IsReachable r s a → ⊥)
-    → IsButMarked core dbr a (slice_index s.store a)
+    → IsSameExceptMarks core dbr a (slice_index s.store a)
     (slice_index (state_after core_store s).store a)
 
 -- A step ends in a ring below r only by a gate call.
@@ -153,5 +153,5 @@ PreservesAudit old new e =
     IsAudited old.store old.regs.dbr → (ExecutesLdbr e → ⊥) → IsAudited new.store new.regs.dbr
 
 -- Each step, in any ring, preserves the audit conditions unless it executes LDBR.
-abbrev pub KeptLaw : Type 0
-KeptLaw = (s : State (List ℕ)) → PreservesAudit s (state_after core_store s) (record_of core_store s)
+abbrev pub AuditKeptLaw : Type 0
+AuditKeptLaw = (s : State (List ℕ)) → PreservesAudit s (state_after core_store s) (record_of core_store s)

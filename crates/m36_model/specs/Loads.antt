@@ -3,21 +3,21 @@
 use Rattle.std.specs.Prelude.{ℕ, ◌*◌, ◌^◌, [], ◌∷◌, Result}
 use Rattle.m36_word.specs.Bits.{is_on}
 use Rattle.m36_model.specs.Registers.{RegsFields}
-use Rattle.m36_model.specs.Results.{EffectFields, Working, with_indicators, takes_tested}
-use Rattle.m36_model.specs.Results.{completes, completes_with, becomes, becomes_negative}
+use Rattle.m36_model.specs.Results.{EffectFields, Working, with_indicators, with_tested_value}
+use Rattle.m36_model.specs.Results.{completes, completes_with, sets_register, sets_register_to_negative}
 use Rattle.m36_model.specs.declared.registers.Ind.{Ind}
 
 -- LDA, LDQ, LDAQ, LDX, LXL, EAA, EAQ, EAX: value to register; zero and negative are set
 unfoldable pub load : Working → ℕ → RegsFields → Result EffectFields ℕ
-load r v g = becomes r v g
+load r v g = sets_register r v g
 
 -- LCA, LCQ, LCAQ, LCX: the negative of the value to the register
 unfoldable pub load_complement : Working → ℕ → RegsFields → Result EffectFields ℕ
-load_complement r v g = becomes_negative r v g
+load_complement r v g = sets_register_to_negative r v g
 
 -- LDAC, LDQC: value to register, and 0 to the word
 unfoldable pub load_and_clear : Working → ℕ → RegsFields → Result EffectFields ℕ
-load_and_clear r v g = completes_with (takes_tested r v g) (0 ∷ [])
+load_and_clear r v g = completes_with (with_tested_value r v g) (0 ∷ [])
 
 -- EAA, EAQ: the computed address in bits 0 to 17, and zeros in the rest
 abbrev pub address_in_upper : ℕ → ℕ

@@ -38,8 +38,8 @@ abbrev pub plain_fault : ℕ → AtFields → Fault
 plain_fault number at = fault_by (plain_refusal number) at
 
 -- the halt by a fault at a word, other than an access violation
-abbrev pub fault_at : ℕ → AtFields → Halt
-fault_at number at = halt.Fault (plain_fault number at)
+abbrev pub halt_at : ℕ → AtFields → Halt
+halt_at number at = halt.Fault (plain_fault number at)
 
 -- a fault at the instruction, other than an access violation
 abbrev pub fault_here : ℕ → RegsFields → Fault
@@ -64,8 +64,8 @@ ptr g n = slice_index_or g.pr n no_ptr
 
 -- The value of the register that Td names: none (0), au, qu, ic, al, ql, x0 to x7. Td 3 and 7, du
 -- and dl, name no register but a direct operand.
-unfoldable pub index_of : RegsFields → ℕ → ℕ
-index_of g td =
+unfoldable pub modifier_value : RegsFields → ℕ → ℕ
+modifier_value g td =
     if td == 0 then 0
     else if td == 1 then field g.a 0 18
     else if td == 2 then field g.q 0 18
@@ -121,7 +121,7 @@ move_register g p td (Some held) = ends_at p ((p.y + held) % 2 ^ 18)
 move_register g p td None =
     if td == direct_upper then ends_direct p (p.y * 2 ^ 18)
     else if td == direct_lower then ends_direct p p.y
-    else ends_at p ((p.y + index_of g td) % 2 ^ 18)
+    else ends_at p ((p.y + modifier_value g td) % 2 ^ 18)
 
 -- Reads the indirect word at this word number; `held` is the register that is held from then on. A
 -- modification by du or dl is an illegal procedure (this project's choice).
@@ -133,12 +133,12 @@ reads_unless_direct g td word held =
 -- kept.
 abbrev pub move_register_then_indirect : RegsFields → Point → ℕ → Move
 move_register_then_indirect g p td =
-    reads_unless_direct g td ((p.y + index_of g td) % 2 ^ 18) p.held
+    reads_unless_direct g td ((p.y + modifier_value g td) % 2 ^ 18) p.held
 
 -- Indirect then register (IR). The indirect word is at y. The register is held, in place of any
 -- earlier one; Td 0 holds the value 0.
 abbrev pub move_indirect_then_register : RegsFields → Point → ℕ → Move
-move_indirect_then_register g p td = reads_unless_direct g td p.y (Some (index_of g td))
+move_indirect_then_register g p td = reads_unless_direct g td p.y (Some (modifier_value g td))
 
 -- Td of fault tag 1, which has Tm IT
 abbrev pub first_fault_tag : ℕ
@@ -162,9 +162,9 @@ is_pair_tag td = (td == itp_tag % 16) || (td == its_tag % 16)
 -- 53, 54, 56) read a tally word. The other tags stop the machine.
 abbrev pub move_indirect_then_tally : RegsFields → Point → ℕ → Move
 move_indirect_then_tally g p td =
-    if td == first_fault_tag then Fails (fault_at fault_tag_1 p.carrier)
-    else if td == second_fault_tag then Fails (fault_at fault_tag_2 p.carrier)
-    else if td == third_fault_tag then Fails (fault_at fault_tag_3 p.carrier)
+    if td == first_fault_tag then Fails (halt_at fault_tag_1 p.carrier)
+    else if td == second_fault_tag then Fails (halt_at fault_tag_2 p.carrier)
+    else if td == third_fault_tag then Fails (halt_at fault_tag_3 p.carrier)
     else if is_pair_tag td then Fails (halt_here illegal_procedure g)
     else if is_tally_tag td then Counts
     else Fails (halt.Stop stop.Tag)

@@ -4,14 +4,14 @@ use Rattle.std.specs.Prelude.{ℕ, ◌≡◌, ◌+◌, ◌<◌, true, List, ◌+
 use Rattle.m36_desc.specs.Fields.{SdwFields}
 use Rattle.m36_model.specs.Registers.{RegsFields}
 use Rattle.m36_model.specs.Act.{Read, Write, Request, Answer}
-use Rattle.m36_model.specs.Store.{Spot, Store, Midstep, serve, changes, within}
+use Rattle.m36_model.specs.Store.{Spot, Store, Midstep, serve, changes, is_within_bound}
 use Rattle.m36_model.specs.Core.{core_store}
 
 -- the spots of the words of a request, each of them within the bound and placed by the descriptor
 pub record ArePlaces {S : Type 0} (o : Store S) (s : S) (g : RegsFields) (q : Request)
     (d : SdwFields) (spots : List Spot) : Type 0 where
   pub count : length spots ≡ q.count
-  pub inside : (k : ℕ) → k < q.count → within d (q.at.word + k) ≡ true
+  pub inside : (k : ℕ) → k < q.count → is_within_bound d (q.at.word + k) ≡ true
   pub each :
       (k : ℕ) (spot : Spot) → slice_get spots k ≡ Some spot
       → o.spot s g.dbr d q.at.seg (q.at.word + k) ≡ Ok spot

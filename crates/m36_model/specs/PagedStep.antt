@@ -12,7 +12,7 @@ use Rattle.m36_model.specs.Laws.{ExecutesLdbr}
 use Rattle.m36_model.specs.Isolation.{Executes}
 use Rattle.m36_model.specs.Flat.{Flat, flat_store, IsFlatAudited}
 use Rattle.m36_model.specs.BootedCore.{booted_dbr, descriptor_words, IsLaid, IsPage, page_word}
-use Rattle.m36_model.specs.Residence.{Paged, flat_of, Lacks, IsMoved}
+use Rattle.m36_model.specs.Residence.{Paged, flat_of, PageIsAbsent, IsMoved}
 use Rattle.m36_model.specs.declared.outcome.Fault.{Fault}
 use Rattle.m36_model.specs.declared.outcome.Outcome.{Outcome}
 use Rattle.m36_model.specs.declared.outcome.Outcome.TheVariants.{Next, Faulted, Stopped}
@@ -32,10 +32,10 @@ pub record DifferInA (x y : RegsFields) : Type 0 where
   pub others : record x { a = y.a; ind = y.ind } ≡ y
 
 -- the outcome is not a page fault
-abbrev pub IsPresent : Outcome → Type 0
-IsPresent Next = Unit {0}
-IsPresent (Faulted f) = f.number ≢ missing_page
-IsPresent (Stopped s) = Unit {0}
+abbrev pub IsNoPageFault : Outcome → Type 0
+IsNoPageFault Next = Unit {0}
+IsNoPageFault (Faulted f) = f.number ≢ missing_page
+IsNoPageFault (Stopped s) = Unit {0}
 
 -- The step has the record and the state of the flat step, and is not a page fault. The DBR is
 -- unchanged unless the step executes LDBR.
@@ -43,7 +43,7 @@ pub record IsFlatStep (kept : ℕ → ℕ → ℕ) (s : State (List ℕ)) : Type
   pub told : record_of core_store s ≡ record_of flat_store (flat_state kept s)
   pub state :
       flat_state kept (state_after core_store s) ≡ state_after flat_store (flat_state kept s)
-  pub present : IsPresent (record_of core_store s).outcome
+  pub present : IsNoPageFault (record_of core_store s).outcome
   pub dbr :
       ((state_after core_store s).regs.dbr ≡ booted_dbr) ⊎ ExecutesLdbr (record_of core_store s)
 
@@ -53,7 +53,7 @@ pub record IsPageFault (kept : ℕ → ℕ → ℕ) (s : State (List ℕ)) : Typ
   pub fault : Fault
   pub outcome : (record_of core_store s).outcome ≡ Faulted fault
   pub number : fault.number ≡ missing_page
-  pub lacks : Lacks s.store fault.at.seg fault.at.word
+  pub lacks : PageIsAbsent s.store fault.at.seg fault.at.word
   pub state : flat_state kept (state_after core_store s) ≡ flat_state kept s
 
 -- the step executes ABSA, and differs from the flat step only in what it loads

@@ -17,12 +17,12 @@ abbrev pub store_fault : Refusal
 store_fault = plain_refusal 1
 
 -- the directed fault of a descriptor or PTW whose F is off; its number is in FC
-abbrev pub directed : ℕ → Refusal
-directed fc = plain_refusal (directed_fault fc)
+abbrev pub directed_refusal : ℕ → Refusal
+directed_refusal fc = plain_refusal (directed_fault fc)
 
 -- an address modulo 2^24: sums of addresses wrap
-abbrev pub wrapped : ℕ → ℕ
-wrapped a = a % 2 ^ 24
+abbrev pub wrapped_address : ℕ → ℕ
+wrapped_address a = a % 2 ^ 24
 
 -- the frame that a PTW names: its address counts blocks of 64 words, and the low four bits are
 -- ignored
@@ -34,15 +34,15 @@ abbrev pub frame_at : PtwFields → ℕ
 frame_at p = frame_named p * 1024
 
 -- the address of a word of a page, if F of its PTW is on (true); otherwise the directed fault
-abbrev pub in_frame_by : Bool → PtwFields → ℕ → Result ℕ Refusal
-in_frame_by true p offset = Ok (wrapped (frame_at p + offset))
-in_frame_by false p offset = Err (directed p.fc)
+abbrev pub address_in_frame_by : Bool → PtwFields → ℕ → Result ℕ Refusal
+address_in_frame_by true p offset = Ok (wrapped_address (frame_at p + offset))
+address_in_frame_by false p offset = Err (directed_refusal p.fc)
 
 -- The address of a word of a page, by its PTW. A store fault if the PTW is past the end of core
 -- (None), and its directed fault if F is off.
-abbrev pub in_frame : Option PtwFields → ℕ → Result ℕ Refusal
-in_frame None offset = Err store_fault
-in_frame (Some p) offset = in_frame_by p.f p offset
+abbrev pub address_in_frame : Option PtwFields → ℕ → Result ℕ Refusal
+address_in_frame None offset = Err store_fault
+address_in_frame (Some p) offset = address_in_frame_by p.f p offset
 
 -- the PTW at an address, or None past the end of core
 abbrev pub ptw_at : List ℕ → ℕ → Option PtwFields
@@ -51,13 +51,13 @@ ptw_at core a = option_map ptw_of (slice_get core a)
 -- The address of the PTW for a page, where `addr` is the address of the page table: that of a
 -- segment, or that of the descriptor segment.
 abbrev pub ptw_from : ℕ → ℕ → ℕ
-ptw_from addr page = wrapped (addr + page)
+ptw_from addr page = wrapped_address (addr + page)
 
 -- The address of word w of a segment or of the descriptor segment. `addr` is that of its first
 -- word, if it is contiguous (true); otherwise p is the PTW of the page of the word.
 abbrev pub place_from : Bool → ℕ → ℕ → Option PtwFields → Result ℕ Refusal
-place_from true addr w p = Ok (wrapped (addr + w))
-place_from false addr w p = in_frame p (w % 1024)
+place_from true addr w p = Ok (wrapped_address (addr + w))
+place_from false addr w p = address_in_frame p (w % 1024)
 
 -- the address of the descriptor segment's PTW for the page with the descriptor of a segment
 abbrev pub directory_at : DbrFields → ℕ → ℕ
@@ -77,8 +77,8 @@ page_count d = last_page d + 1
 
 -- whether the descriptor of a segment is within the bound of the descriptor segment, and the
 -- segment number has 15 bits
-abbrev pub in_bounds : DbrFields → ℕ → Bool
-in_bounds dbr seg = nat_lt (2 * seg) (16 * (dbr.bnd + 1)) && nat_lt seg (2 ^ 15)
+abbrev pub has_descriptor_in_bounds : DbrFields → ℕ → Bool
+has_descriptor_in_bounds dbr seg = nat_lt (2 * seg) (16 * (dbr.bnd + 1)) && nat_lt seg (2 ^ 15)
 
 -- the segment number of the stack of a ring, by the DBR
 abbrev pub ring_stack : DbrFields → ℕ → ℕ
@@ -93,12 +93,12 @@ sdw_place_by true unpaged dbr seg p = place_from unpaged dbr.addr (2 * seg) p
 -- the core address of the even word of a segment's descriptor; it may be past the end of core
 abbrev pub sdw_place : List ℕ → DbrFields → ℕ → Result ℕ Refusal
 sdw_place core dbr seg =
-    sdw_place_by (in_bounds dbr seg) dbr.unpaged dbr seg (ptw_at core (directory_at dbr seg))
+    sdw_place_by (has_descriptor_in_bounds dbr seg) dbr.unpaged dbr seg (ptw_at core (directory_at dbr seg))
 
 -- the descriptor in two words, if its F is on (true); otherwise its directed fault
 abbrev pub live_by : Bool → ℕ → ℕ → Result SdwFields Refusal
 live_by true even odd = Ok (sdw_of even odd)
-live_by false even odd = Err (directed (sdw_of even odd).fc)
+live_by false even odd = Err (directed_refusal (sdw_of even odd).fc)
 
 -- The descriptor in two words. A store fault if one of them is past the end of core (None); this is
 -- checked before F.
@@ -110,21 +110,21 @@ sdw_words (Some even) (Some odd) = live_by (sdw_of even odd).f even odd
 -- the descriptor whose even word is at this address; the odd word is at the next one modulo 2^24
 abbrev pub sdw_at : List ℕ → Result ℕ Refusal → Result SdwFields Refusal
 sdw_at core (Err e) = Err e
-sdw_at core (Ok a) = sdw_words (slice_get core a) (slice_get core (wrapped (a + 1)))
+sdw_at core (Ok a) = sdw_words (slice_get core a) (slice_get core (wrapped_address (a + 1)))
 
 -- the descriptor of a live segment, or the fault of its lookup
 unfoldable pub core_sdw : List ℕ → DbrFields → ℕ → Result SdwFields Refusal
 core_sdw core dbr seg = sdw_at core (sdw_place core dbr seg)
 
 -- an address as a spot, if it is in core (true); otherwise the store fault
-abbrev pub inside_core_by : Bool → ℕ → Result Spot Refusal
-inside_core_by true a = Ok (Core_word a)
-inside_core_by false a = Err store_fault
+abbrev pub spot_in_core_by : Bool → ℕ → Result Spot Refusal
+spot_in_core_by true a = Ok (Core_word a)
+spot_in_core_by false a = Err store_fault
 
 -- an address as a spot; a store fault if it is not below the size of core
-abbrev pub inside_core : ℕ → Result ℕ Refusal → Result Spot Refusal
-inside_core size (Ok a) = inside_core_by (nat_lt a size) a
-inside_core size (Err e) = Err e
+abbrev pub spot_in_core : ℕ → Result ℕ Refusal → Result Spot Refusal
+spot_in_core size (Ok a) = spot_in_core_by (nat_lt a size) a
+spot_in_core size (Err e) = Err e
 
 -- the address of a word within the bound, by the descriptor and the PTW of the word's page
 abbrev pub word_place_by : Bool → SdwFields → ℕ → Option PtwFields → Result ℕ Refusal
@@ -136,11 +136,11 @@ word_place core d w = word_place_by d.unpaged d w (ptw_at core (page_at d (w / 1
 
 -- the spot of a word within the bound, or a store fault if its address is past the end of core
 unfoldable pub core_spot : List ℕ → DbrFields → SdwFields → ℕ → ℕ → Result Spot Refusal
-core_spot core dbr d seg w = inside_core (length core) (word_place core d w)
+core_spot core dbr d seg w = spot_in_core (length core) (word_place core d w)
 
 -- the address at which a page of a paged segment begins, which may be past the end of core
 abbrev pub page_frame : List ℕ → SdwFields → ℕ → Result ℕ Refusal
-page_frame core d page = in_frame (ptw_at core (page_at d page)) 0
+page_frame core d page = address_in_frame (ptw_at core (page_at d page)) 0
 
 -- A mark that a reference sets in the PTW at an address: the used bit, and also the modified bit if
 -- `modified` is on.

@@ -5,7 +5,7 @@ use Rattle.std.specs.Prelude.{ℕ, ◌+◌, ◌*◌, ◌%◌, ◌^◌, Bool, tru
 use Rattle.std.specs.Prelude.{◌∷◌, Result, Err, slice_index, slice_set}
 use Rattle.m36_word.specs.Field.{field}
 use Rattle.m36_desc.specs.Fields.{PtrFields}
-use Rattle.m36_desc.specs.Descriptors.{ptr_of, ptr_even, ptr_odd, packed_of}
+use Rattle.m36_desc.specs.Descriptors.{ptr_of, ptr_even, ptr_odd, pointer_of_packed}
 use Rattle.m36_model.specs.Faults.{command}
 use Rattle.m36_model.specs.Fields.{FinalFields}
 use Rattle.m36_model.specs.Registers.{RegsFields}
@@ -87,7 +87,7 @@ load_pointers g f o = completes (record g { pr = pointers_in o f })
 -- LPRP, given whether bits 0 and 1 of the word are both on, which is a command fault
 abbrev pub load_packed_by : Bool → ℕ → ℕ → RegsFields → FinalFields → Result EffectFields ℕ
 load_packed_by true n w g f = Err command
-load_packed_by false n w g f = completes (with_pr n (packed_of w f.at.ring) g)
+load_packed_by false n w g f = completes (with_pr n (pointer_of_packed w f.at.ring) g)
 
 -- LPRP: the pointer register gets the pointer of the packed pointer, in ring TRR. The fault is
 -- command if bits 0 and 1 of the word are both on.

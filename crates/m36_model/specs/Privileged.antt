@@ -5,7 +5,7 @@ use Rattle.std.specs.Prelude.{ℕ, ◌*◌, ◌^◌, [], ◌∷◌, Result, slic
 use Rattle.m36_desc.specs.Descriptors.{dbr_of, dbr_even, dbr_odd}
 use Rattle.m36_model.specs.Registers.{RegsFields}
 use Rattle.m36_model.specs.Results.{OperandFields, EffectFields, A, completes, completes_with}
-use Rattle.m36_model.specs.Results.{becomes}
+use Rattle.m36_model.specs.Results.{sets_register}
 
 -- LDBR: the fields of the pair to the DBR
 unfoldable pub load_dbr : OperandFields → RegsFields → Result EffectFields ℕ
@@ -18,4 +18,4 @@ store_dbr g = completes_with g (dbr_even g.dbr ∷ dbr_odd g.dbr ∷ [])
 -- ABSA: the core address to A 0-23, and zeros to A 24-35. Setting the indicators is this project's
 -- choice.
 unfoldable pub load_absolute_address : OperandFields → RegsFields → Result EffectFields ℕ
-load_absolute_address o g = becomes A (o.place * 2 ^ 12) g
+load_absolute_address o g = sets_register A (o.place * 2 ^ 12) g

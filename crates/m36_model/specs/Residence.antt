@@ -4,7 +4,7 @@ use Rattle.std.specs.Prelude.{◌≡◌, ℕ, ◌+◌, ◌*◌, ◌/◌, ◌%◌
 use Rattle.std.specs.Prelude.{length, take, slice_index, Option, Some, None, Result, Ok, Err}
 use Rattle.m36_model.specs.Faults.{missing_page_code, missing_page}
 use Rattle.m36_model.specs.Store.{Spot, place}
-use Rattle.m36_model.specs.Place.{directed}
+use Rattle.m36_model.specs.Place.{directed_refusal}
 use Rattle.m36_model.specs.Core.{core_store, core_word}
 use Rattle.m36_model.specs.Flat.{Flat}
 use Rattle.m36_model.specs.BootedCore.{descriptor_words, booted_dbr, IsPageable, resident_ptw}
@@ -19,7 +19,7 @@ pub record Paged : Type 0 where
 
 -- the refusal of a word whose page is in no frame
 abbrev pub absence : Refusal
-absence = directed missing_page_code
+absence = directed_refusal missing_page_code
 
 -- The content of a word by its place: the word in core, or its kept word if its page is in no
 -- frame. It is 0 if the word has no place for another reason.
@@ -36,8 +36,8 @@ unfoldable pub flat_of : Paged → Flat
 flat_of m = record { descriptors = take descriptor_words m.core; content = paged_content m }
 
 -- the page of a word is in no frame
-abbrev pub Lacks : List ℕ → ℕ → ℕ → Type 0
-Lacks core seg w = place core_store core booted_dbr seg w ≡ Err absence
+abbrev pub PageIsAbsent : List ℕ → ℕ → ℕ → Type 0
+PageIsAbsent core seg w = place core_store core booted_dbr seg w ≡ Err absence
 
 -- the PTW of a page, without marks, by its frame if it is in one
 abbrev pub ptw_of_page : Option ℕ → ℕ

@@ -156,23 +156,23 @@ words (X n) v = v ∷ []
 
 -- The indicators after a number: zero is on exactly if it is 0, and negative exactly if its first
 -- bit is on. Here and below, indicators that are not named are unchanged.
-unfoldable pub zn : ℕ → ℕ → Ind → Ind
-zn h v i =
+unfoldable pub set_zero_negative : ℕ → ℕ → Ind → Ind
+set_zero_negative h v i =
     let s = result_of h v false false in
     record i { zero = s.zero; negative = s.negative }
 
 -- zero, negative and carry get these values
-abbrev pub with_zn_carry : Bool → Bool → Bool → Ind → Ind
-with_zn_carry z n c i = record i { zero = z; negative = n; carry = c }
+abbrev pub with_zero_negative_carry : Bool → Bool → Bool → Ind → Ind
+with_zero_negative_carry z n c i = record i { zero = z; negative = n; carry = c }
 
 -- zero, negative and carry are set by a result
-unfoldable pub zn_carry : SumFields → Ind → Ind
-zn_carry s i = with_zn_carry s.zero s.negative s.carry i
+unfoldable pub set_zero_negative_carry : SumFields → Ind → Ind
+set_zero_negative_carry s i = with_zero_negative_carry s.zero s.negative s.carry i
 
 -- zero and negative are set by a result; overflow is turned on if the result has it, and never off;
 -- carry is c
-abbrev pub with_zn_overflow : SumFields → Bool → Ind → Ind
-with_zn_overflow s c i =
+abbrev pub with_zero_negative_overflow : SumFields → Bool → Ind → Ind
+with_zero_negative_overflow s c i =
     record i {
       zero = s.zero;
       negative = s.negative;
@@ -181,16 +181,16 @@ with_zn_overflow s c i =
     }
 
 -- zero, negative and overflow are set by a result; carry does not change
-unfoldable pub zn_overflow : SumFields → Ind → Ind
-zn_overflow s i = with_zn_overflow s i.carry i
+unfoldable pub set_zero_negative_overflow : SumFields → Ind → Ind
+set_zero_negative_overflow s i = with_zero_negative_overflow s i.carry i
 
 -- zero, negative, carry and overflow are set by a result
-unfoldable pub zn_carry_overflow : SumFields → Ind → Ind
-zn_carry_overflow s i = with_zn_overflow s s.carry i
+unfoldable pub set_zero_negative_carry_overflow : SumFields → Ind → Ind
+set_zero_negative_carry_overflow s i = with_zero_negative_overflow s s.carry i
 
 -- zero, negative and carry are set by a comparison
-unfoldable pub compared : ComparisonFields → Ind → Ind
-compared c i = with_zn_carry c.zero c.negative c.carry i
+unfoldable pub set_by_comparison : ComparisonFields → Ind → Ind
+set_by_comparison c i = with_zero_negative_carry c.zero c.negative c.carry i
 
 -- indicators with this zero indicator
 abbrev pub with_zero : Bool → Ind → Ind
@@ -205,46 +205,46 @@ abbrev pub next_word : RegsFields → ℕ
 next_word g = (g.ppr.ic + 1) % 2 ^ 18
 
 -- the instruction counter advances by 1
-unfoldable pub moved_on : RegsFields → RegsFields
-moved_on g = record g { ppr = record g.ppr { ic = next_word g } }
+unfoldable pub advanced : RegsFields → RegsFields
+advanced g = record g { ppr = record g.ppr { ic = next_word g } }
 
 -- the effect with these registers, which writes nothing and does not overflow
-abbrev pub leaves : RegsFields → Result EffectFields ℕ
-leaves g = Ok (record { regs = g; put = []; overflow = false })
+abbrev pub yields_registers : RegsFields → Result EffectFields ℕ
+yields_registers g = Ok (record { regs = g; put = []; overflow = false })
 
 -- the effect with these registers, except that the instruction counter advances to the next
 -- instruction
 abbrev pub completes : RegsFields → Result EffectFields ℕ
-completes g = leaves (moved_on g)
+completes g = yields_registers (advanced g)
 
 -- as `completes`, with words to write, and perhaps overflow
 abbrev pub completes_or_overflows : RegsFields → List ℕ → Bool → Result EffectFields ℕ
 completes_or_overflows g put overflow =
-    Ok (record { regs = moved_on g; put = put; overflow = overflow })
+    Ok (record { regs = advanced g; put = put; overflow = overflow })
 
 -- as `completes`, with words to write
 abbrev pub completes_with : RegsFields → List ℕ → Result EffectFields ℕ
 completes_with g put = completes_or_overflows g put false
 
 -- the registers with a new value in a register, and with these indicators
-abbrev pub takes : Working → ℕ → Ind → RegsFields → RegsFields
-takes r v i g = with_indicators i (with_value r v g)
+abbrev pub with_value_and_indicators : Working → ℕ → Ind → RegsFields → RegsFields
+with_value_and_indicators r v i g = with_indicators i (with_value r v g)
 
 -- the registers with zero and negative set by a number; h is half of its range
-abbrev pub tested : ℕ → ℕ → RegsFields → RegsFields
-tested h v g = with_indicators (zn h v g.ind) g
+abbrev pub with_test_indicators : ℕ → ℕ → RegsFields → RegsFields
+with_test_indicators h v g = with_indicators (set_zero_negative h v g.ind) g
 
 -- the registers with a new value in a register, and with zero and negative set by it
-abbrev pub takes_tested : Working → ℕ → RegsFields → RegsFields
-takes_tested r v g = takes r v (zn (half r) v g.ind) g
+abbrev pub with_tested_value : Working → ℕ → RegsFields → RegsFields
+with_tested_value r v g = with_value_and_indicators r v (set_zero_negative (half r) v g.ind) g
 
 -- the effect that puts a value into a register and sets zero and negative by it
-abbrev pub becomes : Working → ℕ → RegsFields → Result EffectFields ℕ
-becomes r v g = completes (takes_tested r v g)
+abbrev pub sets_register : Working → ℕ → RegsFields → Result EffectFields ℕ
+sets_register r v g = completes (with_tested_value r v g)
 
 -- the effect that puts the negative of a value into a register, and sets zero, negative and
 -- overflow by it
-abbrev pub becomes_negative : Working → ℕ → RegsFields → Result EffectFields ℕ
-becomes_negative r v g =
+abbrev pub sets_register_to_negative : Working → ℕ → RegsFields → Result EffectFields ℕ
+sets_register_to_negative r v g =
     let s = negation (half r) v in
-    completes_or_overflows (takes r s.value (zn_overflow s g.ind) g) [] s.overflow
+    completes_or_overflows (with_value_and_indicators r s.value (set_zero_negative_overflow s g.ind) g) [] s.overflow

@@ -7,7 +7,7 @@ use Rattle.m36_model.specs.declared.outcome.Outcome.TheVariants.{Next, Faulted, 
 use Rattle.m36_model.specs.declared.record.StepRecord.{StepRecord}
 
 -- a step of a run: the state before it, its record, and the state after it
-pub record Visited (S : Type 0) : Type 0 where
+pub record RunStep (S : Type 0) : Type 0 where
   pub before : State S
   pub told : StepRecord
   pub after : State S
@@ -24,14 +24,14 @@ only_if true xs = xs
 only_if false xs = []
 
 -- a step from a state
-abbrev pub visit : {S : Type 0} → Store S → State S → Visited S
-visit o s = record { before = s; told = record_of o s; after = state_after o s }
+abbrev pub run_one_step : {S : Type 0} → Store S → State S → RunStep S
+run_one_step o s = record { before = s; told = record_of o s; after = state_after o s }
 
 -- the run of at most n steps; it ends with the first fault or stop
-unfoldable pub visits : {S : Type 0} → Store S → ℕ → State S → List (Visited S)
-visits o zero s = []
-visits o (suc n) s =
-    visit o s ∷ only_if (is_next (record_of o s).outcome) (visits o n (state_after o s))
+unfoldable pub run_steps : {S : Type 0} → Store S → ℕ → State S → List (RunStep S)
+run_steps o zero s = []
+run_steps o (suc n) s =
+    run_one_step o s ∷ only_if (is_next (record_of o s).outcome) (run_steps o n (state_after o s))
 
 -- the state after the last of some steps or events, or the state s if there are none
 abbrev pub state_after_all : {S A : Type 0} → (A → S) → S → List A → S
@@ -40,14 +40,14 @@ state_after_all after s (x ∷ more) = state_after_all after (after x) more
 
 -- the records of a run
 abbrev pub told : {S : Type 0} → Store S → ℕ → State S → List StepRecord
-told o n s = map (λ v. v.told) (visits o n s)
+told o n s = map (λ v. v.told) (run_steps o n s)
 
 -- the steps up to the first one that ends in a ring below r
-unfoldable pub cut_below : {S : Type 0} → ℕ → List (Visited S) → List (Visited S)
+unfoldable pub cut_below : {S : Type 0} → ℕ → List (RunStep S) → List (RunStep S)
 cut_below r [] = []
 cut_below r (v ∷ steps) = v ∷ only_if (nat_le r v.told.after.ppr.prr) (cut_below r steps)
 
 -- the window of ring r: the steps of a run up to the first fault, stop, or step that ends in a ring
 -- below r
-abbrev pub window : {S : Type 0} → Store S → ℕ → ℕ → State S → List (Visited S)
-window o r n s = cut_below r (visits o n s)
+abbrev pub window : {S : Type 0} → Store S → ℕ → ℕ → State S → List (RunStep S)
+window o r n s = cut_below r (run_steps o n s)

@@ -4,8 +4,8 @@ use Rattle.std.specs.Prelude.{ℕ, Bool, Result}
 use Rattle.m36_model.specs.Registers.{RegsFields}
 use Rattle.m36_model.specs.Shifts.{count_of, left_shift, left_shift_carry, copying_right_shift}
 use Rattle.m36_model.specs.Shifts.{plain_right_shift, rotation}
-use Rattle.m36_model.specs.Results.{EffectFields, Working, half, width, value, takes, zn, completes}
-use Rattle.m36_model.specs.Results.{becomes}
+use Rattle.m36_model.specs.Results.{EffectFields, Working, half, width, value, with_value_and_indicators, set_zero_negative, completes}
+use Rattle.m36_model.specs.Results.{sets_register}
 use Rattle.m36_model.specs.declared.registers.Ind.{Ind}
 
 -- the indicators with this carry
@@ -17,22 +17,22 @@ unfoldable pub shift_left : Working → ℕ → RegsFields → Result EffectFiel
 shift_left r address g =
     let v = left_shift (width r) (value r g) (count_of address) in
     let c = left_shift_carry (width r) (value r g) (count_of address) in
-    completes (takes r v (with_carry c (zn (half r) v g.ind)) g)
+    completes (with_value_and_indicators r v (with_carry c (set_zero_negative (half r) v g.ind)) g)
 
 -- ARS, QRS, LRS: a right shift that copies the sign
 unfoldable pub shift_right : Working → ℕ → RegsFields → Result EffectFields ℕ
 shift_right r address g =
     let v = copying_right_shift (width r) (value r g) (count_of address) in
-    becomes r v g
+    sets_register r v g
 
 -- ARL, QRL, LRL: a right shift with zeros
 unfoldable pub shift_right_logical : Working → ℕ → RegsFields → Result EffectFields ℕ
 shift_right_logical r address g =
     let v = plain_right_shift (value r g) (count_of address) in
-    becomes r v g
+    sets_register r v g
 
 -- ALR, QLR, LLR: a rotation to the left
 unfoldable pub rotate_left : Working → ℕ → RegsFields → Result EffectFields ℕ
 rotate_left r address g =
     let v = rotation (width r) (value r g) (count_of address) in
-    becomes r v g
+    sets_register r v g

@@ -14,7 +14,7 @@ use Rattle.std.specs.Prelude.{ℕ, zero, suc, ◌+◌, ◌-◌, ◌%◌, Bool, t
 use Rattle.std.specs.Prelude.{[], ◌∷◌, ◌++◌, Option, Some, None, option_map, Result, Ok, Err}
 use Rattle.std.specs.Prelude.{slice_index}
 use Rattle.m36_desc.specs.Fields.{SdwFields}
-use Rattle.m36_desc.specs.Access.{ring_called}
+use Rattle.m36_desc.specs.Access.{ring_after_call}
 use Rattle.m36_inst.specs.Fields.{InstFields}
 use Rattle.m36_inst.specs.Instruction.{inst_of}
 use Rattle.m36_inst.specs.Operands.{operand_of, is_privileged, takes_direct}
@@ -38,7 +38,7 @@ use Rattle.m36_model.specs.Results.{ring_only, place_only}
 use Rattle.m36_model.specs.WordsPut.{words_written, part_written}
 use Rattle.m36_model.specs.Transfers.{is_taken}
 use Rattle.m36_model.specs.Effect.{exec, is_absa}
-use Rattle.m36_model.specs.Store.{Store, Midstep, Ran, State, begun, run, changes}
+use Rattle.m36_model.specs.Store.{Store, Midstep, ProgramResult, State, initial_midstep, run, changes}
 use Rattle.m36_model.specs.declared.outcome.Fault.{Fault}
 use Rattle.m36_model.specs.declared.outcome.Stop.TheVariants as stop
 use Rattle.m36_model.specs.declared.outcome.Halt.{Halt}
@@ -71,33 +71,33 @@ puts_with pending part first words = pending ++ puts_from part first words
 
 -- The result of an operation, from that of its effect. A refusal of the effect is a fault at the
 -- instruction.
-abbrev pub performed :
+abbrev pub operation_result :
     RegsFields → ChainEnd → Part → ℕ → Result EffectFields ℕ → Result Performed Halt
-performed g c part first (Ok e) =
+operation_result g c part first (Ok e) =
     Ok (record {
       regs = e.regs;
       puts = puts_with c.pending part first e.put;
       overflow = e.overflow;
     })
-performed g c part first (Err number) = Err (halt_here number g)
+operation_result g c part first (Err number) = Err (halt_here number g)
 
 -- the tally runout indicator after a chain, which may have set it (Some)
-abbrev pub tally_by : Bool → Option Bool → Bool
-tally_by old None = old
-tally_by old (Some b) = b
+abbrev pub tally_after_chain : Bool → Option Bool → Bool
+tally_after_chain old None = old
+tally_after_chain old (Some b) = b
 
 -- the registers with tally runout on or off
 abbrev pub with_tally : Bool → RegsFields → RegsFields
 with_tally runout g = record g { ind = record g.ind { tally = runout } }
 
 -- the registers with tally runout as the chain has set it
-unfoldable pub tallied : RegsFields → ChainEnd → RegsFields
-tallied g c = with_tally (tally_by g.ind.tally c.runout) g
+unfoldable pub with_chain_tally : RegsFields → ChainEnd → RegsFields
+with_chain_tally g c = with_tally (tally_after_chain g.ind.tally c.runout) g
 
 -- The operation that performs the effect with an operand that is known. The effect sees tally
 -- runout as the chain has set it.
 abbrev pub perform : Effect → ℕ → RegsFields → ChainEnd → Part → ℕ → OperandFields → Operation
-perform e n g c part first o = done (performed g c part first (exec e n (tallied g c) c.last o))
+perform e n g c part first o = done (operation_result g c part first (exec e n (with_chain_tally g c) c.last o))
 
 -- the operand of an effect that gets no word, ring or address
 abbrev pub no_operand : OperandFields
@@ -144,7 +144,7 @@ got_nothing a = no_operand
 -- what CALL6 gets of the answer to the check of its target: the new ring, for a reference in ring
 -- trr
 abbrev pub got_ring : ℕ → Answer → OperandFields
-got_ring trr a = ring_only (ring_called a.sdw trr)
+got_ring trr a = ring_only (ring_after_call a.sdw trr)
 
 -- the operation that reads one word and performs the effect with it
 abbrev pub reading_word : Effect → ℕ → RegsFields → ChainEnd → Operation
@@ -189,21 +189,21 @@ calling e n g c =
     refer (request_at Call c 1) (λ a. perform e n g c Whole 0 (got_ring c.last.at.ring a))
 
 -- the operation of an instruction whose operand is not direct, by how it references its operand
-abbrev pub by_kind : Effect → ℕ → RegsFields → ChainEnd → Operand → Operation
-by_kind e n g c kind.R = reading_word e n g c
-by_kind e n g c kind.R2 = reading_words e n g c 2
-by_kind e n g c kind.R16 = reading_words e n g c 16
-by_kind e n g c kind.W = writing e n g c (words_written kind.W) (part_written kind.W)
-by_kind e n g c kind.W2 = writing e n g c (words_written kind.W2) (part_written kind.W2)
-by_kind e n g c kind.W16 = writing e n g c (words_written kind.W16) (part_written kind.W16)
-by_kind e n g c kind.Wl = writing e n g c (words_written kind.Wl) (part_written kind.Wl)
-by_kind e n g c kind.Wr = writing e n g c (words_written kind.Wr) (part_written kind.Wr)
-by_kind e n g c kind.Rw = changing e n g c (part_written kind.Rw)
-by_kind e n g c kind.Rwl = changing e n g c (part_written kind.Rwl)
-by_kind e n g c kind.A = addressing e n g c (is_absa e)
-by_kind e n g c kind.T = transferring e n g c (is_taken e (tallied g c))
-by_kind e n g c kind.N = perform e n g c Whole 0 no_operand
-by_kind e n g c kind.Call6 = calling e n g c
+abbrev pub operate_by_kind : Effect → ℕ → RegsFields → ChainEnd → Operand → Operation
+operate_by_kind e n g c kind.R = reading_word e n g c
+operate_by_kind e n g c kind.R2 = reading_words e n g c 2
+operate_by_kind e n g c kind.R16 = reading_words e n g c 16
+operate_by_kind e n g c kind.W = writing e n g c (words_written kind.W) (part_written kind.W)
+operate_by_kind e n g c kind.W2 = writing e n g c (words_written kind.W2) (part_written kind.W2)
+operate_by_kind e n g c kind.W16 = writing e n g c (words_written kind.W16) (part_written kind.W16)
+operate_by_kind e n g c kind.Wl = writing e n g c (words_written kind.Wl) (part_written kind.Wl)
+operate_by_kind e n g c kind.Wr = writing e n g c (words_written kind.Wr) (part_written kind.Wr)
+operate_by_kind e n g c kind.Rw = changing e n g c (part_written kind.Rw)
+operate_by_kind e n g c kind.Rwl = changing e n g c (part_written kind.Rwl)
+operate_by_kind e n g c kind.A = addressing e n g c (is_absa e)
+operate_by_kind e n g c kind.T = transferring e n g c (is_taken e (with_chain_tally g c))
+operate_by_kind e n g c kind.N = perform e n g c Whole 0 no_operand
+operate_by_kind e n g c kind.Call6 = calling e n g c
 
 -- The words that the effect gets of the direct operand w. NOP accepts one and does not use it.
 abbrev pub direct_word : Operand → ℕ → List ℕ
@@ -212,9 +212,9 @@ direct_word _ w = []
 
 -- what the effect gets of the direct operand w, if the instruction accepts one (true); otherwise an
 -- illegal procedure
-abbrev pub takes_word : Effect → RegsFields → ℕ → Bool → Result OperandFields Fault
-takes_word e g w true = Ok (words_only (direct_word (operand_of e) w))
-takes_word e g w false = Err (fault_here illegal_procedure g)
+abbrev pub direct_operand : Effect → RegsFields → ℕ → Bool → Result OperandFields Fault
+direct_operand e g w true = Ok (words_only (direct_word (operand_of e) w))
+direct_operand e g w false = Err (fault_here illegal_procedure g)
 
 -- performs the effect with this operand, or ends with the fault
 abbrev pub with_operand :
@@ -224,13 +224,13 @@ with_operand e n g c (Err f) = done (Err (halt.Fault f))
 
 -- the operation with the direct operand w; an illegal procedure unless the instruction accepts one
 -- (true)
-abbrev pub by_direct : Effect → ℕ → RegsFields → ChainEnd → ℕ → Bool → Operation
-by_direct e n g c w taken = with_operand e n g c (takes_word e g w taken)
+abbrev pub operate_direct : Effect → ℕ → RegsFields → ChainEnd → ℕ → Bool → Operation
+operate_direct e n g c w taken = with_operand e n g c (direct_operand e g w taken)
 
 -- the operation with a direct operand (Some), or with the operand at the end of the chain (None)
 abbrev pub operate_on : Effect → ℕ → RegsFields → ChainEnd → Option ℕ → Operation
-operate_on e n g c None = by_kind e n g c (operand_of e)
-operate_on e n g c (Some w) = by_direct e n g c w (takes_direct e)
+operate_on e n g c None = operate_by_kind e n g c (operand_of e)
+operate_on e n g c (Some w) = operate_direct e n g c w (takes_direct e)
 
 -- The operation of an instruction: references its operand, and then performs the effect.
 unfoldable pub operate : Effect → ℕ → RegsFields → ChainEnd → Operation
@@ -295,14 +295,14 @@ addressed e n g w =
     otherwise (formation g (inst_of w)) (operated e n g w) (halted g (Some w) None)
 
 -- the fault or stop with which MME, DRL or DIS ends the step
-abbrev pub at_once : Effect → RegsFields → Halt
-at_once effect.Mme g = halt_here master_mode_entry g
-at_once effect.Drl g = halt_here derail g
-at_once _ g = halt.Stop stop.Dis
+abbrev pub immediate_halt : Effect → RegsFields → Halt
+immediate_halt effect.Mme g = halt_here master_mode_entry g
+immediate_halt effect.Drl g = halt_here derail g
+immediate_halt _ g = halt.Stop stop.Dis
 
 -- The end of a step of MME, DRL or DIS. They form no address (this project's choice).
 abbrev pub no_address : Effect → RegsFields → ℕ → Act Ending
-no_address e g w = halted g (Some w) None (at_once e g)
+no_address e g w = halted g (Some w) None (immediate_halt e g)
 
 -- executes an instruction that may be executed, in the word w, by how it references its operand
 abbrev pub started : Effect → ℕ → RegsFields → ℕ → Operand → Act Ending
@@ -352,7 +352,7 @@ unfoldable pub program : RegsFields → Act Ending
 program g = ask (fetch_request g) (fetched g)
 
 -- the record of a step, from the run of its program over a store; g are the registers before it
-abbrev pub step_record : {S : Type 0} → RegsFields → Ran Ending S → StepRecord
+abbrev pub step_record : {S : Type 0} → RegsFields → ProgramResult Ending S → StepRecord
 step_record g t =
     record {
       ppr = g.ppr;
@@ -365,22 +365,22 @@ step_record g t =
 
 -- the state after a step: all words of an instruction are written together, once nothing can refuse
 -- it
-abbrev pub stepped : {S : Type 0} → Store S → Ran Ending S → State S
+abbrev pub stepped : {S : Type 0} → Store S → ProgramResult Ending S → State S
 stepped o t =
     record { regs = t.value.after; store = o.put t.mid.store (changes t.mid.claims t.value.puts) }
 
 -- the state within a step at its beginning: nothing is claimed or completed
 abbrev pub start : {S : Type 0} → State S → Midstep S
-start s = begun s.store
+start s = initial_midstep s.store
 
 -- the run of a step's program over a store
-abbrev pub ran : {S : Type 0} → Store S → State S → Ran Ending S
-ran o s = run o s.regs (program s.regs) (start s)
+abbrev pub run_of_step : {S : Type 0} → Store S → State S → ProgramResult Ending S
+run_of_step o s = run o s.regs (program s.regs) (start s)
 
 -- the record of a step
 unfoldable pub record_of : {S : Type 0} → Store S → State S → StepRecord
-record_of o s = step_record s.regs (ran o s)
+record_of o s = step_record s.regs (run_of_step o s)
 
 -- the state after a step
 unfoldable pub state_after : {S : Type 0} → Store S → State S → State S
-state_after o s = stepped o (ran o s)
+state_after o s = stepped o (run_of_step o s)

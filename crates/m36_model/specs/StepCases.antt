@@ -28,10 +28,10 @@ use Rattle.m36_model.specs.Results.{OperandFields, EffectFields, words_only}
 use Rattle.m36_model.specs.Transfers.{is_taken}
 use Rattle.m36_model.specs.Effect.{exec, is_absa}
 use Rattle.m36_model.specs.WordsPut.{words_written, part_written}
-use Rattle.m36_model.specs.Step.{tallied, no_operand, request_at, got_word, got_words, got_place}
+use Rattle.m36_model.specs.Step.{with_chain_tally, no_operand, request_at, got_word, got_words, got_place}
 use Rattle.m36_model.specs.Step.{got_nothing, got_ring, direct_word, operate, outcome_of}
 use Rattle.m36_model.specs.Step.{outcome_after, formation, decode, has_right, fetch_request}
-use Rattle.m36_model.specs.Step.{at_once, is_barred, start, record_of, state_after}
+use Rattle.m36_model.specs.Step.{immediate_halt, is_barred, start, record_of, state_after}
 use Rattle.m36_model.specs.declared.outcome.Fault.{Fault}
 use Rattle.m36_model.specs.declared.outcome.Halt.{Halt}
 use Rattle.m36_model.specs.declared.outcome.Halt.TheVariants as halt
@@ -115,7 +115,7 @@ pub record IsClaimed {S : Type 0} (o : Store S) (g : RegsFields) (q : Request) (
   pub claims : u.mid.claims ≡ m.claims ++ u.spots
 
 -- A word was read and then claimed, to be written.
-pub record IsChanged {S : Type 0} (o : Store S) (g : RegsFields) (c : ChainEnd) (part : Part)
+pub record IsReadAndClaimed {S : Type 0} (o : Store S) (g : RegsFields) (c : ChainEnd) (part : Part)
     (m : Midstep S) (u : Reached S) : Type 0 where
   pub answer : Answer
   pub between : Midstep S
@@ -153,10 +153,10 @@ IsOperandOf o g e c kind.W2 m u = IsClaimedFor o g c kind.W2 m u
 IsOperandOf o g e c kind.W16 m u = IsClaimedFor o g c kind.W16 m u
 IsOperandOf o g e c kind.Wl m u = IsClaimedFor o g c kind.Wl m u
 IsOperandOf o g e c kind.Wr m u = IsClaimedFor o g c kind.Wr m u
-IsOperandOf o g e c kind.Rw m u = IsChanged o g c (part_written kind.Rw) m u
-IsOperandOf o g e c kind.Rwl m u = IsChanged o g c (part_written kind.Rwl) m u
+IsOperandOf o g e c kind.Rw m u = IsReadAndClaimed o g c (part_written kind.Rw) m u
+IsOperandOf o g e c kind.Rwl m u = IsReadAndClaimed o g c (part_written kind.Rwl) m u
 IsOperandOf o g e c kind.A m u = IsAddressed o g c (is_absa e) m u
-IsOperandOf o g e c kind.T m u = IsTargeted o g c (is_taken e (tallied g c)) m u
+IsOperandOf o g e c kind.T m u = IsTargeted o g c (is_taken e (with_chain_tally g c)) m u
 IsOperandOf o g e c kind.N m u = IsUnreferenced m no_operand u
 IsOperandOf o g e c kind.Call6 m u =
     IsReferenced o g (request_at Call c 1) (got_ring c.last.at.ring) m u
@@ -169,11 +169,11 @@ IsOperand o g e c (Some w) m u =
     (takes_direct e ≡ true) × IsUnreferenced m (words_only (direct_word (operand_of e) w)) u
 
 -- the changes that write words, or a part of each, at spots, in order
-abbrev pub at_spots : Part → List Spot → List ℕ → List Change
-at_spots part [] words = []
-at_spots part (spot ∷ spots) [] = []
-at_spots part (spot ∷ spots) (w ∷ words) =
-    record { spot = spot; part = part; value = w } ∷ at_spots part spots words
+abbrev pub changes_at_spots : Part → List Spot → List ℕ → List Change
+changes_at_spots part [] words = []
+changes_at_spots part (spot ∷ spots) [] = []
+changes_at_spots part (spot ∷ spots) (w ∷ words) =
+    record { spot = spot; part = part; value = w } ∷ changes_at_spots part spots words
 
 -- The full effect. The tally word, whose spot the chain has claimed, is written first, and then the
 -- words of the operand.
@@ -188,7 +188,7 @@ pub record HasEffect {S : Type 0} (o : Store S) (s : State S) (e : StepRecord)
   pub reached : Reached S
   pub operand : IsOperand o s.regs instruction end end.last.direct chained reached
   pub result : EffectFields
-  pub effected : exec instruction number (tallied s.regs end) end.last reached.operand ≡ Ok result
+  pub effected : exec instruction number (with_chain_tally s.regs end) end.last reached.operand ≡ Ok result
   pub tallies : length chained.claims ≡ length end.pending
   pub words : length reached.spots ≡ length result.put
   pub told : e ≡ record {
@@ -203,8 +203,8 @@ pub record HasEffect {S : Type 0} (o : Store S) (s : State S) (e : StepRecord)
     regs = result.regs;
     store =
         o.put reached.mid.store
-        (at_spots Whole chained.claims (map (λ p. p.value) end.pending)
-        ++ at_spots reached.part reached.spots result.put);
+        (changes_at_spots Whole chained.claims (map (λ p. p.value) end.pending)
+        ++ changes_at_spots reached.part reached.spots result.put);
   }
 
 -- the cases of a step with this record and this state after it
@@ -224,7 +224,7 @@ pub data StepCase {S : Type 0} (o : Store S) (s : State S) (e : StepRecord)
       → StepCase o s e t
   no_address :
       (word : ℕ) (m : Midstep S) (i : Effect) (n : ℕ) → IsAdmitted o s word i n m
-      → operand_of i ≡ kind.N → ChangedOnlyMarks s e t m (Some word) None (outcome_of (at_once i s.regs))
+      → operand_of i ≡ kind.N → ChangedOnlyMarks s e t m (Some word) None (outcome_of (immediate_halt i s.regs))
       → StepCase o s e t
   address_refused :
       (word : ℕ) (before m : Midstep S) (i : Effect) (n : ℕ) (h : Halt) → IsAdmitted o s word i n before

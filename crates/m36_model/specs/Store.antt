@@ -4,7 +4,7 @@ use Rattle.std.specs.Prelude.{ℕ, zero, suc, ◌+◌, ◌-◌, ◌*◌, ◌/◌
 use Rattle.std.specs.Prelude.{◌&&◌, ◌==◌, nat_le, if◌then◌else◌, List, [], ◌∷◌, ◌++◌, map, length}
 use Rattle.std.specs.Prelude.{slice_get, Option, Some, None, Result, Ok, Err}
 use Rattle.m36_desc.specs.Fields.{SdwFields, DbrFields}
-use Rattle.m36_desc.specs.Access.{first_of, in_order, ordered_rows, read_rows, write_rows}
+use Rattle.m36_desc.specs.Access.{first_violation, has_ordered_brackets, ordered_rows, read_rows, write_rows}
 use Rattle.m36_desc.specs.Access.{fetch_rows, transfer_rows, call_rows}
 use Rattle.m36_desc.specs.Violations.{illegal_ring_order, out_of_segment_bounds}
 use Rattle.m36_model.specs.Faults.{access_violation}
@@ -30,10 +30,10 @@ pub record Change : Type 0 where
   pub value : ℕ
 
 -- a word with a part of it replaced by v; a half is right-justified in v
-abbrev pub written : Part → ℕ → ℕ → ℕ
-written Whole old v = v
-written Left old v = v * 2 ^ 18 + old % 2 ^ 18
-written Right old v = (old / 2 ^ 18) * 2 ^ 18 + v
+abbrev pub with_part_written : Part → ℕ → ℕ → ℕ
+with_part_written Whole old v = v
+with_part_written Left old v = v * 2 ^ 18 + old % 2 ^ 18
+with_part_written Right old v = (old / 2 ^ 18) * 2 ^ 18 + v
 
 -- the refusal with an access violation of this number
 abbrev pub violation : ℕ → Refusal
@@ -129,13 +129,13 @@ rows Locate d trr prr same word = ordered_rows d []
 
 -- The number of the access violation of a reference, if there is one: that of the first row whose
 -- condition holds.
-unfoldable pub denied : RequestKind → SdwFields → ℕ → ℕ → Bool → ℕ → Option ℕ
-denied kind d trr prr same word = first_of (rows kind d trr prr same word)
+unfoldable pub refusing_violation : RequestKind → SdwFields → ℕ → ℕ → Bool → ℕ → Option ℕ
+refusing_violation kind d trr prr same word = first_violation (rows kind d trr prr same word)
 
 -- Whether a word is within the bound of its segment. The bound is the number of the last block of
 -- 16 words.
-abbrev pub within : SdwFields → ℕ → Bool
-within d word = nat_le (word / 16) d.bound
+abbrev pub is_within_bound : SdwFields → ℕ → Bool
+is_within_bound d word = nat_le (word / 16) d.bound
 
 -- the refusal of a word past the bound
 abbrev pub past_bound : Refusal
@@ -144,7 +144,7 @@ past_bound = violation out_of_segment_bounds
 -- Whether a word may have a place: the brackets of its descriptor are in order, and it is within
 -- the bound.
 abbrev pub placed : SdwFields → ℕ → Bool
-placed d word = in_order d && within d word
+placed d word = has_ordered_brackets d && is_within_bound d word
 
 -- the spot that is given, if the word is within the bound (true); otherwise the refusal
 abbrev pub place_within : Bool → Result Spot Refusal → Result Spot Refusal
@@ -160,7 +160,7 @@ when_ordered false given = Err (violation illegal_ring_order)
 -- a spot, by the descriptor of its segment: brackets in order, bound, and place
 abbrev pub place_by :
     Result SdwFields Refusal → (SdwFields → Result Spot Refusal) → ℕ → Result Spot Refusal
-place_by (Ok d) spot word = when_ordered (in_order d) (place_within (within d word) (spot d))
+place_by (Ok d) spot word = when_ordered (has_ordered_brackets d) (place_within (is_within_bound d word) (spot d))
 place_by (Err e) spot word = Err e
 
 -- The spot of a word of a segment, without access checks. Refused, in this order, if the segment
@@ -170,27 +170,27 @@ unfoldable pub place : {S : Type 0} → Store S → S → DbrFields → ℕ → 
 place o s dbr seg word = place_by (o.sdw s dbr seg) (λ d. o.spot s dbr d seg word) word
 
 -- R1 of the segment with this descriptor, if its brackets are in order
-abbrev pub first_ring_by : Result SdwFields Refusal → Result ℕ Refusal
-first_ring_by (Ok d) = when_ordered (in_order d) (Ok d.r1)
-first_ring_by (Err e) = Err e
+abbrev pub segment_r1_by : Result SdwFields Refusal → Result ℕ Refusal
+segment_r1_by (Ok d) = when_ordered (has_ordered_brackets d) (Ok d.r1)
+segment_r1_by (Err e) = Err e
 
 -- R1 of a segment, if it has a live descriptor and its brackets are in order
-unfoldable pub first_ring : {S : Type 0} → Store S → S → DbrFields → ℕ → Result ℕ Refusal
-first_ring o s dbr seg = first_ring_by (o.sdw s dbr seg)
+unfoldable pub segment_r1 : {S : Type 0} → Store S → S → DbrFields → ℕ → Result ℕ Refusal
+segment_r1 o s dbr seg = segment_r1_by (o.sdw s dbr seg)
 
 -- a spot put before the spots of the words after it, or the refusal of one of these
-abbrev pub placed_next : Result (List Spot) (ℕ × Refusal) → Spot → Result (List Spot) (ℕ × Refusal)
-placed_next (Ok spots) spot = Ok (spot ∷ spots)
-placed_next (Err e) spot = Err e
+abbrev pub spots_with : Result (List Spot) (ℕ × Refusal) → Spot → Result (List Spot) (ℕ × Refusal)
+spots_with (Ok spots) spot = Ok (spot ∷ spots)
+spots_with (Err e) spot = Err e
 
 -- The spots of a word and of the words after it (`rest`), or the first word that is refused and
 -- why. The Boolean says whether the word is within the bound.
-abbrev pub placed_one :
+abbrev pub spots_from :
     Bool → ℕ → Result Spot Refusal → Result (List Spot) (ℕ × Refusal)
     → Result (List Spot) (ℕ × Refusal)
-placed_one false word spot rest = Err (word, past_bound)
-placed_one true word (Err e) rest = Err (word, e)
-placed_one true word (Ok spot) rest = placed_next rest spot
+spots_from false word spot rest = Err (word, past_bound)
+spots_from true word (Err e) rest = Err (word, e)
+spots_from true word (Ok spot) rest = spots_with rest spot
 
 -- the spots of n words of a segment that begin at a word, or the first that is refused and why
 unfoldable pub spots_of :
@@ -198,7 +198,7 @@ unfoldable pub spots_of :
     → Result (List Spot) (ℕ × Refusal)
 spots_of o s dbr d seg word zero = Ok []
 spots_of o s dbr d seg word (suc n) =
-    placed_one (within d word) word (o.spot s dbr d seg word) (spots_of o s dbr d seg (word + 1) n)
+    spots_from (is_within_bound d word) word (o.spot s dbr d seg word) (spots_of o s dbr d seg (word + 1) n)
 
 -- The spots of a check of a target: none. The word is refused if it is past the bound (false).
 abbrev pub bound_only : Bool → ℕ → Result (List Spot) (ℕ × Refusal)
@@ -206,17 +206,17 @@ bound_only true word = Ok []
 bound_only false word = Err (word, past_bound)
 
 -- the spots of a request: `target` for a check of a target (true), and otherwise `spots`
-abbrev pub places_by :
+abbrev pub spots_of_request_by :
     Bool → Result (List Spot) (ℕ × Refusal) → Result (List Spot) (ℕ × Refusal)
     → Result (List Spot) (ℕ × Refusal)
-places_by true target spots = target
-places_by false target spots = spots
+spots_of_request_by true target spots = target
+spots_of_request_by false target spots = spots
 
 -- the spots of a request, or the first word that is refused and why
 unfoldable pub places :
     {S : Type 0} → Store S → S → DbrFields → SdwFields → Request → Result (List Spot) (ℕ × Refusal)
 places o s dbr d q =
-    places_by (is_target q.kind) (bound_only (within d q.at.word) q.at.word)
+    spots_of_request_by (is_target q.kind) (bound_only (is_within_bound d q.at.word) q.at.word)
     (spots_of o s dbr d q.at.seg q.at.word q.count)
 
 -- the state within a step: its store, the spots that its Writes have claimed, and its completed
@@ -227,8 +227,8 @@ pub record Midstep (S : Type 0) : Type 0 where
   pub refs : List Reference
 
 -- the state within a step at its beginning: nothing is claimed or completed
-abbrev pub begun : {S : Type 0} → S → Midstep S
-begun s = record { store = s; claims = []; refs = [] }
+abbrev pub initial_midstep : {S : Type 0} → S → Midstep S
+initial_midstep s = record { store = s; claims = []; refs = [] }
 
 -- the change that a put makes, before other changes; no change if its number is not claimed
 abbrev pub change_of : Put → Option Spot → List Change → List Change
@@ -246,8 +246,8 @@ pub record Served (S : Type 0) : Type 0 where
   pub mid : Midstep S
 
 -- the reply to a request that is refused at a word; the state is unchanged
-abbrev pub refused : {S : Type 0} → Midstep S → Request → ℕ → Refusal → Served S
-refused m q word why = record { reply = Err (fault_in q.at word why); mid = m }
+abbrev pub refused_reply : {S : Type 0} → Midstep S → Request → ℕ → Refusal → Served S
+refused_reply m q word why = record { reply = Err (fault_in q.at word why); mid = m }
 
 -- the store after the marks of a request
 abbrev pub after_marks : {S : Type 0} → Store S → S → DbrFields → Request → S
@@ -290,9 +290,9 @@ abbrev pub with_claims : RequestKind → List Spot → List Spot → List Spot
 with_claims kind spots claims = if claims_words kind then claims ++ spots else claims
 
 -- the core address of the word of a Locate, or 0 for other kinds
-abbrev pub located : RequestKind → List Spot → ℕ
-located Locate (Core_word a ∷ spots) = a
-located _ _ = 0
+abbrev pub located_address : RequestKind → List Spot → ℕ
+located_address Locate (Core_word a ∷ spots) = a
+located_address _ _ = 0
 
 -- The reply to a request that is served, and the state after it. The spots that it claims follow
 -- earlier claims, and its reference follows earlier references.
@@ -304,7 +304,7 @@ answered_with o s claims refs q d spots =
       reply = Ok (record {
         sdw = d;
         first = length claims;
-        place = located q.kind spots;
+        place = located_address q.kind spots;
         words =
             if reads q.kind then map (o.word (o.put s (changes claims q.pending))) spots else [];
       });
@@ -320,22 +320,22 @@ answered_with o s claims refs q d spots =
 abbrev pub serve_places :
     {S : Type 0} → Store S → RegsFields → Midstep S → Request → SdwFields
     → Result (List Spot) (ℕ × Refusal) → Served S
-serve_places o g m q d (Err e) = refused m q e.0 e.1
+serve_places o g m q d (Err e) = refused_reply m q e.0 e.1
 serve_places o g m q d (Ok spots) =
     answered_with o (after_marks o m.store g.dbr q) m.claims m.refs q d spots
 
 -- the reply after the descriptor was found: the access violation, or as `serve_places`
 abbrev pub serve_rights :
     {S : Type 0} → Store S → RegsFields → Midstep S → Request → SdwFields → Option ℕ → Served S
-serve_rights o g m q d (Some acv) = refused m q q.at.word (violation acv)
+serve_rights o g m q d (Some acv) = refused_reply m q q.at.word (violation acv)
 serve_rights o g m q d None = serve_places o g m q d (places o m.store g.dbr d q)
 
 -- the reply to a reference: the refusal of its descriptor, or as `serve_rights`
 abbrev pub serve_sdw :
     {S : Type 0} → Store S → RegsFields → Midstep S → Request → Result SdwFields Refusal → Served S
-serve_sdw o g m q (Err why) = refused m q q.at.word why
+serve_sdw o g m q (Err why) = refused_reply m q q.at.word why
 serve_sdw o g m q (Ok d) =
-    serve_rights o g m q d (denied q.kind d q.at.ring g.ppr.prr (q.at.seg == g.ppr.psr) q.at.word)
+    serve_rights o g m q d (refusing_violation q.kind d q.at.ring g.ppr.prr (q.at.seg == g.ppr.psr) q.at.word)
 
 -- Serves a reference. Checked in this order: descriptor, brackets, rights, bound and place. Then
 -- its marks are set, and its words are read.
@@ -347,18 +347,18 @@ abbrev pub without_marks : {S : Type 0} → Store S → Store S
 without_marks o = record o { marked = λ s dbr kind seg word. s }
 
 -- the reply to a read of one word outside of any step: with access checks, but without marks
-unfoldable pub examined : {S : Type 0} → Store S → RegsFields → S → AtFields → Result Answer Fault
-examined o g s at =
-    (serve (without_marks o) g (begun s)
+unfoldable pub examined_reply : {S : Type 0} → Store S → RegsFields → S → AtFields → Result Answer Fault
+examined_reply o g s at =
+    (serve (without_marks o) g (initial_midstep s)
     (record { kind = Read; at = at; count = 1; pending = [] })).reply
 
 -- the result of a program that was run, and the state within the step after it
-pub record Ran (A S : Type 0) : Type 0 where
+pub record ProgramResult (A S : Type 0) : Type 0 where
   pub value : A
   pub mid : Midstep S
 
 -- runs a program over a store, from a state within a step
-unfoldable pub run : {A S : Type 0} → Store S → RegsFields → Act A → Midstep S → Ran A S
+unfoldable pub run : {A S : Type 0} → Store S → RegsFields → Act A → Midstep S → ProgramResult A S
 run o g (done a) m = record { value = a; mid = m }
 run o g (ask q next) m = let t = serve o g m q in run o g (next t.reply) t.mid
 

@@ -4,7 +4,7 @@ use Rattle.std.specs.Prelude.{◌≡◌, ℕ, Bool, true, false, ◌&&◌, ◌==
 use Rattle.std.specs.Prelude.{Some, Result, Ok}
 use Rattle.m36_desc.specs.Fields.{SdwFields, DbrFields}
 use Rattle.m36_model.specs.Act.{RequestKind}
-use Rattle.m36_model.specs.Store.{Spot, Core_word, Segment_word, Change, Store, written, placed}
+use Rattle.m36_model.specs.Store.{Spot, Core_word, Segment_word, Change, Store, with_part_written, placed}
 use Rattle.m36_model.specs.Sight.{content_in}
 use Rattle.m36_model.specs.declared.outcome.Refusal.{Refusal}
 
@@ -24,10 +24,10 @@ same_spot (Segment_word s w) (Segment_word s' w') = (s == s') && (w == w')
 abbrev pub overlay : List Change → Spot → ℕ → ℕ
 overlay [] spot v = v
 overlay (p ∷ puts) spot v =
-    overlay puts spot (if same_spot p.spot spot then written p.part v p.value else v)
+    overlay puts spot (if same_spot p.spot spot then with_part_written p.part v p.value else v)
 
 -- a word of a segment, with its spot by the tables
-pub record IsWord (sdws : ℕ → Result SdwFields Refusal)
+pub record IsPlacedWord (sdws : ℕ → Result SdwFields Refusal)
     (spots : SdwFields → ℕ → ℕ → Result Spot Refusal) (seg w : ℕ) (spot : Spot) : Type 0 where
   pub sdw : SdwFields
   pub live : sdws seg ≡ Ok sdw
@@ -35,11 +35,11 @@ pub record IsWord (sdws : ℕ → Result SdwFields Refusal)
   pub found : spots sdw seg w ≡ Ok spot
 
 -- the change is of a word of a segment
-pub record IsSpot (sdws : ℕ → Result SdwFields Refusal)
+pub record IsSegmentChange (sdws : ℕ → Result SdwFields Refusal)
     (spots : SdwFields → ℕ → ℕ → Result Spot Refusal) (p : Change) : Type 0 where
   pub seg : ℕ
   pub w : ℕ
-  pub word : IsWord sdws spots seg w p.spot
+  pub word : IsPlacedWord sdws spots seg w p.spot
 
 -- What holds of a store whose tables satisfy Has, for the spots in Lies: those of all words of
 -- segments. Near old new says that new differs from old only by marks.
@@ -52,30 +52,30 @@ pub record Lawful {S : Type 0} (o : Store S) (dbr : DbrFields) (Has : S → Type
   pub spot_is :
       (s : S) → Has s → (seg w : ℕ) (d : SdwFields) → sdws seg ≡ Ok d → placed d w ≡ true
       → o.spot s dbr d seg w ≡ spots d seg w
-  pub lies : (seg w : ℕ) (p : Spot) → IsWord sdws spots seg w p → Lies p
+  pub lies : (seg w : ℕ) (p : Spot) → IsPlacedWord sdws spots seg w p → Lies p
   -- Second: the word at the spot of a word of a segment is its content.
   pub word_is :
-      (s : S) → Has s → (seg w : ℕ) (p : Spot) → IsWord sdws spots seg w p
+      (s : S) → Has s → (seg w : ℕ) (p : Spot) → IsPlacedWord sdws spots seg w p
       → content_in o s dbr seg w ≡ Some (o.word s p)
   -- Different words of segments have different spots.
   pub apart :
-      (seg w seg' w' : ℕ) (p p' : Spot) → IsWord sdws spots seg w p → IsWord sdws spots seg' w' p'
+      (seg w seg' w' : ℕ) (p p' : Spot) → IsPlacedWord sdws spots seg w p → IsPlacedWord sdws spots seg' w' p'
       → same_spot p p' ≡ true → (seg ≡ seg') × (w ≡ w')
   -- Third: marks change the tables only by marks, and change no word of a segment.
   pub marks_tables :
-      (s : S) → Has s → (kind : RequestKind) (seg w : ℕ) (p : Spot) → IsWord sdws spots seg w p
+      (s : S) → Has s → (kind : RequestKind) (seg w : ℕ) (p : Spot) → IsPlacedWord sdws spots seg w p
       → Has (o.marked s dbr kind seg w)
   pub marks_word :
-      (s : S) → Has s → (kind : RequestKind) (seg w : ℕ) (p p' : Spot) → IsWord sdws spots seg w p
+      (s : S) → Has s → (kind : RequestKind) (seg w : ℕ) (p p' : Spot) → IsPlacedWord sdws spots seg w p
       → Lies p' → o.word (o.marked s dbr kind seg w) p' ≡ o.word s p'
   pub marks_near :
-      (s : S) → Has s → (kind : RequestKind) (seg w : ℕ) (p : Spot) → IsWord sdws spots seg w p
+      (s : S) → Has s → (kind : RequestKind) (seg w : ℕ) (p : Spot) → IsPlacedWord sdws spots seg w p
       → Near s (o.marked s dbr kind seg w)
   pub near_self : (s : S) → Near s s
   pub near_then : (s t u : S) → Near s t → Near t u → Near s u
   -- Writes to words of segments change no table, and no other word.
   pub put_tables :
-      (s : S) → Has s → (puts : List Change) → Each (IsSpot sdws spots) puts → Has (o.put s puts)
+      (s : S) → Has s → (puts : List Change) → Each (IsSegmentChange sdws spots) puts → Has (o.put s puts)
   pub put_word :
-      (s : S) → Has s → (puts : List Change) → Each (IsSpot sdws spots) puts → (p : Spot) → Lies p
+      (s : S) → Has s → (puts : List Change) → Each (IsSegmentChange sdws spots) puts → (p : Spot) → Lies p
       → o.word (o.put s puts) p ≡ overlay puts p (o.word s p)

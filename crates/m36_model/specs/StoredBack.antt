@@ -6,13 +6,13 @@ use Rattle.m36_desc.specs.Descriptors.{its_of_ptr}
 use Rattle.m36_model.specs.Fields.{FinalFields}
 use Rattle.m36_model.specs.Registers.{RegsFields}
 use Rattle.m36_model.specs.Act.{Left, Right}
-use Rattle.m36_model.specs.Store.{written}
+use Rattle.m36_model.specs.Store.{with_part_written}
 use Rattle.m36_model.specs.Tally.{tally_address, tally_count, tally_delta, tally_word}
 use Rattle.m36_model.specs.Results.{OperandFields, EffectFields, AQ, words_only, upper, lower}
 use Rattle.m36_model.specs.Results.{operand, value, with_value, words, completes}
 use Rattle.m36_model.specs.Pointers.{pointer_raised, store_pointers, load_pointers}
 use Rattle.m36_model.specs.Pointers.{control_pointer, store_control}
-use Rattle.m36_model.specs.CallReturn.{return_by, return_to}
+use Rattle.m36_model.specs.CallReturn.{return_through, return_to}
 use Rattle.m36_model.specs.Privileged.{load_dbr, store_dbr}
 use Rattle.m36_model.specs.Isolation.{HasPointers}
 
@@ -33,10 +33,10 @@ HasWritten o (Err number) = ⊥
 -- is read back from two words, and from A and Q, and the fields of a tally word from the word.
 -- LDBR, RTCD and LPRI load what SDBR, STCD and SPRI have stored.
 pub record StoredIsLoaded : Type 0 where
-  pub left : (old v : ℕ) → v < 2 ^ 18 → left_of (written Left old v) ≡ v
-  pub left_stays : (old v : ℕ) → v < 2 ^ 18 → left_of (written Right old v) ≡ left_of old
-  pub right : (old v : ℕ) → v < 2 ^ 18 → right_of (written Right old v) ≡ v
-  pub right_stays : (old v : ℕ) → right_of (written Left old v) ≡ right_of old
+  pub left : (old v : ℕ) → v < 2 ^ 18 → left_of (with_part_written Left old v) ≡ v
+  pub left_stays : (old v : ℕ) → v < 2 ^ 18 → left_of (with_part_written Right old v) ≡ left_of old
+  pub right : (old v : ℕ) → v < 2 ^ 18 → right_of (with_part_written Right old v) ≡ v
+  pub right_stays : (old v : ℕ) → right_of (with_part_written Left old v) ≡ right_of old
   pub pair_back : (v : ℕ) → operand AQ (words_only (words AQ v)) ≡ v
   pub number_back : (v : ℕ) (g : RegsFields) → value AQ (with_value AQ v g) ≡ v
   pub address :
@@ -49,7 +49,7 @@ pub record StoredIsLoaded : Type 0 where
   pub control :
       (g h : RegsFields) (f : FinalFields) (o : OperandFields) → g.ppr.psr < 2 ^ 15
       → g.ppr.prr < 2 ^ 3 → HasWritten o (store_control g)
-      → return_to f o h ≡ return_by (its_of_ptr (control_pointer g)) f o h
+      → return_to f o h ≡ return_through (its_of_ptr (control_pointer g)) f o h
   pub pointers :
       (g h : RegsFields) (f : FinalFields) (o : OperandFields) → HasPointers g → All IsPtr g.pr
       → HasWritten o (store_pointers g)

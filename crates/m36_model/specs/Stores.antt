@@ -32,14 +32,14 @@ unfoldable pub store_indicators : RegsFields → Result EffectFields ℕ
 store_indicators g = completes_with g (indicators_half g.ind ∷ [])
 
 -- a conditional store: A to the word if the condition holds; zero shows whether it did
-abbrev pub store_where : Bool → ℕ → RegsFields → Result EffectFields ℕ
-store_where holds v g =
+abbrev pub store_if : Bool → ℕ → RegsFields → Result EffectFields ℕ
+store_if holds v g =
     completes_with (with_indicators (with_zero holds g.ind) g) ((if holds then g.a else v) ∷ [])
 
 -- STAC: stores if the word is 0
-unfoldable pub store_where_zero : ℕ → RegsFields → Result EffectFields ℕ
-store_where_zero v g = store_where (v == 0) v g
+unfoldable pub store_if_zero : ℕ → RegsFields → Result EffectFields ℕ
+store_if_zero v g = store_if (v == 0) v g
 
 -- STACQ: stores if the word equals Q
-unfoldable pub store_where_equal : ℕ → RegsFields → Result EffectFields ℕ
-store_where_equal v g = store_where (v == g.q) v g
+unfoldable pub store_if_equal : ℕ → RegsFields → Result EffectFields ℕ
+store_if_equal v g = store_if (v == g.q) v g

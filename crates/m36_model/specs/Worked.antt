@@ -31,8 +31,8 @@ words_from place [] = []
 words_from place (w ∷ words) = (place, w) ∷ words_from (place + 1) words
 
 -- the descriptor of an unpaged segment with these brackets, one block of 16 words, and no rights
-abbrev pub rings : ℕ → ℕ → ℕ → SdwFields
-rings r1 r2 r3 =
+abbrev pub descriptor_with_rings : ℕ → ℕ → ℕ → SdwFields
+descriptor_with_rings r1 r2 r3 =
     record {
       addr = 0;
       r1 = r1;
@@ -73,13 +73,13 @@ gate_with_entries n d = record d { no_gate = false; limit = n }
 
 -- the descriptor with n as the number of the last block of 16 words: n + 1 blocks are within the
 -- bound
-abbrev pub last_block : ℕ → SdwFields → SdwFields
-last_block n d = record d { bound = n }
+abbrev pub with_last_block : ℕ → SdwFields → SdwFields
+with_last_block n d = record d { bound = n }
 
 -- The two words of the descriptor of segment n, with their addresses, if the segment begins at core
 -- address `place`. The descriptor segment begins at word 0.
-abbrev pub segment : ℕ → ℕ → SdwFields → List (ℕ × ℕ)
-segment n place d =
+abbrev pub descriptor_entry : ℕ → ℕ → SdwFields → List (ℕ × ℕ)
+descriptor_entry n place d =
     words_from (2 * n) (sdw_even (record d { addr = place }) ∷ sdw_odd d ∷ [])
 
 -- the descriptor with the rights to read and to execute added
@@ -105,22 +105,22 @@ abbrev pub at_word : ℕ → ℕ → ℕ → AtFields
 at_word seg word ring = record { seg = seg; word = word; ring = ring }
 
 -- the final address at a word, with bit 0 and no direct operand
-abbrev pub ends_in : ℕ → ℕ → ℕ → FinalFields
-ends_in seg word ring = record { at = at_word seg word ring; bit = 0; direct = None }
+abbrev pub final_address_at : ℕ → ℕ → ℕ → FinalFields
+final_address_at seg word ring = record { at = at_word seg word ring; bit = 0; direct = None }
 
 -- the reference to `count` words that begin at a word of a segment
-abbrev pub referred : Kind → ℕ → ℕ → ℕ → ℕ → Reference
-referred kind seg word ring count =
+abbrev pub reference_to : Kind → ℕ → ℕ → ℕ → ℕ → Reference
+reference_to kind seg word ring count =
     record { at = at_word seg word ring; kind = kind; count = count }
 
 -- the outcome of a step that ends with a fault of this number, other than an access violation, at a
 -- word
-abbrev pub faults : ℕ → AtFields → Outcome
-faults number at = Faulted (plain_fault number at)
+abbrev pub fault_outcome : ℕ → AtFields → Outcome
+fault_outcome number at = Faulted (plain_fault number at)
 
 -- the outcome of a step that ends with an access violation of this number, at a word
-abbrev pub violates : ℕ → AtFields → Outcome
-violates acv at = Faulted (fault_by (violation acv) at)
+abbrev pub violation_outcome : ℕ → AtFields → Outcome
+violation_outcome acv at = Faulted (fault_by (violation acv) at)
 
 -- the outcome of one step
 abbrev pub outcome_of_step : State (List ℕ) → Outcome

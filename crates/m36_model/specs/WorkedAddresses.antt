@@ -10,10 +10,10 @@ use Rattle.m36_model.specs.Core.{core_store}
 use Rattle.m36_model.specs.Step.{record_of, state_after}
 use Rattle.m36_model.specs.Pointers.{pointer}
 use Rattle.m36_model.specs.Tally.{tally}
-use Rattle.m36_model.specs.Worked.{words_from, segment, rings, readable, writable, privileged}
-use Rattle.m36_model.specs.Worked.{gate_with_entries, last_block, procedure}
-use Rattle.m36_model.specs.Worked.{core_of, at_instruction, at_word, ends_in, referred}
-use Rattle.m36_model.specs.Worked.{faults, violates, outcome_of_step, address_of_step}
+use Rattle.m36_model.specs.Worked.{words_from, descriptor_entry, descriptor_with_rings, readable, writable, privileged}
+use Rattle.m36_model.specs.Worked.{gate_with_entries, with_last_block, procedure}
+use Rattle.m36_model.specs.Worked.{core_of, at_instruction, at_word, final_address_at, reference_to}
+use Rattle.m36_model.specs.Worked.{fault_outcome, violation_outcome, outcome_of_step, address_of_step}
 use Rattle.m36_model.specs.Worked.{references_of_step, registers_after, word_after}
 use Rattle.m36_model.specs.declared.place.Kind.TheVariants.{Fetch, Indirect, Read, Write}
 use Rattle.m36_model.specs.declared.outcome.Stop.TheVariants as stop
@@ -23,7 +23,7 @@ use Rattle.m36_model.specs.declared.outcome.Outcome.TheVariants.{Next, Stopped}
 abbrev pub load_core : List ℕ
 load_core =
     core_of 0o100
-    (segment 1 0o40 (privileged (procedure (rings 0 0 0)))
+    (descriptor_entry 1 0o40 (privileged (procedure (descriptor_with_rings 0 0 0)))
     ++ words_from 0o40 (0o000002235000 ∷ 0o000000616000 ∷ 5 ∷ []))
 
 -- this core, at the load, in ring 0
@@ -33,10 +33,10 @@ at_load = record { regs = at_instruction 1 0 0; store = load_core }
 -- The load reads its word into A and advances; the whole record of the step.
 abbrev pub LoadReadsItsWord : Type 0
 LoadReadsItsWord = record_of core_store at_load ≡ record {
-  refs = record { items = referred Fetch 1 0 0 1 ∷ referred Read 1 2 0 1 ∷ [] };
+  refs = record { items = reference_to Fetch 1 0 0 1 ∷ reference_to Read 1 2 0 1 ∷ [] };
   after = record (at_instruction 1 0 1) { a = 5 };
   word = Some 0o000002235000;
-  at = Some (ends_in 1 2 0);
+  at = Some (final_address_at 1 2 0);
   outcome = Next;
   ppr = record { psr = 1; prr = 0; ic = 0 };
 }
@@ -44,7 +44,7 @@ LoadReadsItsWord = record_of core_store at_load ≡ record {
 -- The next step is the stop: it forms no address and changes nothing.
 abbrev pub StopFollows : Type 0
 StopFollows = record_of core_store (state_after core_store at_load) ≡ record {
-  refs = record { items = referred Fetch 1 1 0 1 ∷ [] };
+  refs = record { items = reference_to Fetch 1 1 0 1 ∷ [] };
   after = record (at_instruction 1 0 1) { a = 5 };
   word = Some 0o000000616000;
   at = None;
@@ -63,18 +63,18 @@ abbrev pub LastWordOfTheBoundIsRead : Type 0
 LastWordOfTheBoundIsRead = outcome_of_step (bound_state 0o000017235000) ≡ Next
 
 -- `lda 16` of word 20 is an access violation: out of segment bounds.
-abbrev pub WordPastTheBoundIsNot : Type 0
-WordPastTheBoundIsNot =
-    outcome_of_step (bound_state 0o000020235000) ≡ violates out_of_segment_bounds (at_word 1 0o20 0)
+abbrev pub WordPastTheBoundIsRefused : Type 0
+WordPastTheBoundIsRefused =
+    outcome_of_step (bound_state 0o000020235000) ≡ violation_outcome out_of_segment_bounds (at_word 1 0o20 0)
 
 -- `lda pr0|0,*` in ring 1 reads the ITS pair 000123100043 000000000000 in segment 2, whose R1 is 4,
 -- so the ring is raised to 4. Segment 123 has brackets 0, 3, 3, and may not be read from ring 4.
 abbrev pub pair_core : List ℕ
 pair_core =
     core_of 0o400
-    (segment 1 0o320 (procedure (rings 1 1 1))
-    ++ segment 2 0o340 (gate_with_entries 0 (readable (rings 4 4 4)))
-    ++ segment 0o123 0o360 (readable (rings 0 3 3))
+    (descriptor_entry 1 0o320 (procedure (descriptor_with_rings 1 1 1))
+    ++ descriptor_entry 2 0o340 (gate_with_entries 0 (readable (descriptor_with_rings 4 4 4)))
+    ++ descriptor_entry 0o123 0o360 (readable (descriptor_with_rings 0 3 3))
     ++ words_from 0o320 (0o000000235120 ∷ [])
     ++ words_from 0o340 (0o000123100043 ∷ []))
 
@@ -91,16 +91,16 @@ at_pair =
 -- The address has ring 4, the read is refused, and the pair is one reference to two words.
 abbrev pub PairTakesTheBracketOfItsSegment : Type 0
 PairTakesTheBracketOfItsSegment =
-    (address_of_step at_pair ≡ Some (ends_in 0o123 0 4))
-    × (outcome_of_step at_pair ≡ violates out_of_read_bracket (at_word 0o123 0 4))
-    × (references_of_step at_pair ≡ referred Fetch 1 0 1 1 ∷ referred Indirect 2 0 1 2 ∷ [])
+    (address_of_step at_pair ≡ Some (final_address_at 0o123 0 4))
+    × (outcome_of_step at_pair ≡ violation_outcome out_of_read_bracket (at_word 0o123 0 4))
+    × (references_of_step at_pair ≡ reference_to Fetch 1 0 1 1 ∷ reference_to Indirect 2 0 1 2 ∷ [])
 
 -- Words 1 to 16 of segment 1 each point to the next one, indirectly, and word 17 points to word 18,
 -- which is `5`. `lda 1,*` has 17 indirect words, and `lda 2,*` has 16.
 abbrev pub long_chain_core : ℕ → List ℕ
 long_chain_core instruction =
     core_of 0o100
-    (segment 1 0o40 (last_block 2 (procedure (rings 0 0 0)))
+    (descriptor_entry 1 0o40 (with_last_block 2 (procedure (descriptor_with_rings 0 0 0)))
     ++ words_from 0o40
     (instruction
     ∷ 0o000002000020 ∷ 0o000003000020 ∷ 0o000004000020 ∷ 0o000005000020
@@ -116,7 +116,7 @@ long_chain instruction = record { regs = at_instruction 1 0 0; store = long_chai
 -- The 17th indirect word is a lockup fault at this word.
 abbrev pub SeventeenthIndirectWordLocksUp : Type 0
 SeventeenthIndirectWordLocksUp =
-    outcome_of_step (long_chain 0o000001235020) ≡ faults lockup_fault (at_word 1 0o21 0)
+    outcome_of_step (long_chain 0o000001235020) ≡ fault_outcome lockup_fault (at_word 1 0o21 0)
 
 -- With 16 indirect words the load reads the 5.
 abbrev pub SixteenIndirectWordsAreServed : Type 0
@@ -129,7 +129,7 @@ SixteenIndirectWordsAreServed =
 abbrev pub held_core : List ℕ
 held_core =
     core_of 0o100
-    (segment 1 0o40 (last_block 2 (procedure (rings 0 0 0)))
+    (descriptor_entry 1 0o40 (with_last_block 2 (procedure (descriptor_with_rings 0 0 0)))
     ++ words_from 0o40 (0o000010235071 ∷ [])
     ++ words_from 0o50 (0o000020000000 ∷ []))
 
@@ -143,7 +143,7 @@ at_held =
 
 -- The index that was held is added to the address of the last indirect word.
 abbrev pub HeldIndexIsAddedAtTheEnd : Type 0
-HeldIndexIsAddedAtTheEnd = address_of_step at_held ≡ Some (ends_in 1 0o25 0)
+HeldIndexIsAddedAtTheEnd = address_of_step at_held ≡ Some (final_address_at 1 0o25 0)
 
 -- Tally words: ID twice, the second time with a runout; then SD, AD and DI.
 abbrev pub TallyWordsCount : Type 0
@@ -176,7 +176,7 @@ data_and_procedure d = writable (procedure d)
 abbrev pub tally_core : (SdwFields → SdwFields) → ℕ → List ℕ
 tally_core rights instruction =
     core_of 0o100
-    (segment 1 0o40 (rights (rings 0 0 0))
+    (descriptor_entry 1 0o40 (rights (descriptor_with_rings 0 0 0))
     ++ words_from 0o40 (instruction ∷ [])
     ++ words_from 0o50 (0o000010000200 ∷ []))
 
@@ -203,8 +203,8 @@ LoadSeesTheNewTallyWord =
     × ((registers_after load_through_tally).a ≡ 0o000011000100)
     × (word_after load_through_tally 0o50 ≡ 0o000011000100)
     × (references_of_step load_through_tally
-    ≡ referred Fetch 1 0 0 1 ∷ referred Indirect 1 0o10 0 1 ∷ referred Write 1 0o10 0 1
-    ∷ referred Read 1 0o10 0 1 ∷ [])
+    ≡ reference_to Fetch 1 0 0 1 ∷ reference_to Indirect 1 0o10 0 1 ∷ reference_to Write 1 0o10 0 1
+    ∷ reference_to Read 1 0o10 0 1 ∷ [])
 
 -- The store overwrites the new value of the tally word.
 abbrev pub StoreComesAfterTheTallyWord : Type 0
@@ -215,11 +215,11 @@ StoreComesAfterTheTallyWord =
 abbrev pub RefusedTallyWordChangesNothing : Type 0
 RefusedTallyWordChangesNothing =
     (record_of core_store (at_tally procedure 0o000010235056) ≡ record {
-      refs = record { items = referred Fetch 1 0 0 1 ∷ referred Indirect 1 0o10 0 1 ∷ [] };
+      refs = record { items = reference_to Fetch 1 0 0 1 ∷ reference_to Indirect 1 0o10 0 1 ∷ [] };
       after = record (at_instruction 1 0 0) { a = 0o123456 };
       word = Some 0o000010235056;
       at = None;
-      outcome = violates no_write_right (at_word 1 0o10 0);
+      outcome = violation_outcome no_write_right (at_word 1 0o10 0);
       ppr = record { psr = 1; prr = 0; ic = 0 };
     })
     × (state_after core_store (at_tally procedure 0o000010755056)
@@ -229,7 +229,7 @@ RefusedTallyWordChangesNothing =
 abbrev pub DirectOperandIsTheAddress : Type 0
 DirectOperandIsTheAddress =
     ((registers_after (bound_state 0o000003235007)).a ≡ 3)
-    × (references_of_step (bound_state 0o000003235007) ≡ referred Fetch 1 0 0 1 ∷ [])
+    × (references_of_step (bound_state 0o000003235007) ≡ reference_to Fetch 1 0 0 1 ∷ [])
     × (address_of_step (bound_state 0o000003235007) ≡ Some (record {
       at = at_word 1 3 0;
       bit = 0;
@@ -240,18 +240,18 @@ DirectOperandIsTheAddress =
 -- 3,dl` does not accept one, and `nop 3,dl` does.
 abbrev pub DirectOperandsAreRefused : Type 0
 DirectOperandsAreRefused =
-    (outcome_of_step (bound_state 0o000003600003) ≡ faults illegal_procedure (at_word 1 0 0))
-    × (outcome_of_step (bound_state 0o000003764007) ≡ faults illegal_procedure (at_word 1 0 0))
+    (outcome_of_step (bound_state 0o000003600003) ≡ fault_outcome illegal_procedure (at_word 1 0 0))
+    × (outcome_of_step (bound_state 0o000003764007) ≡ fault_outcome illegal_procedure (at_word 1 0 0))
     × (outcome_of_step (bound_state 0o000003011007) ≡ Next)
 
 -- The instruction `lda 3` with tags 40, 41, 46, 47 and 50: three fault tags, reported at the
 -- instruction; a tag of a pair where none may be; a modification that is not provided.
 abbrev pub TagsOfTheInstruction : Type 0
 TagsOfTheInstruction =
-    (outcome_of_step (bound_state 0o000003235040) ≡ faults fault_tag_1 (at_word 1 0 0))
-    × (outcome_of_step (bound_state 0o000003235041) ≡ faults illegal_procedure (at_word 1 0 0))
-    × (outcome_of_step (bound_state 0o000003235046) ≡ faults fault_tag_2 (at_word 1 0 0))
-    × (outcome_of_step (bound_state 0o000003235047) ≡ faults fault_tag_3 (at_word 1 0 0))
+    (outcome_of_step (bound_state 0o000003235040) ≡ fault_outcome fault_tag_1 (at_word 1 0 0))
+    × (outcome_of_step (bound_state 0o000003235041) ≡ fault_outcome illegal_procedure (at_word 1 0 0))
+    × (outcome_of_step (bound_state 0o000003235046) ≡ fault_outcome fault_tag_2 (at_word 1 0 0))
+    × (outcome_of_step (bound_state 0o000003235047) ≡ fault_outcome fault_tag_3 (at_word 1 0 0))
     × (outcome_of_step (bound_state 0o000003235050) ≡ Stopped stop.Tag)
 
 -- `lda pr0|0,*` again, through a word with tag 46 in the segment whose R1 is 4: the fault tag is
@@ -262,4 +262,4 @@ at_fault_tag = record { regs = at_pair.regs; store = slice_set pair_core 0o340 0
 -- The fault is reported in ring 4, although the reference was made in ring 1.
 abbrev pub FaultTagTakesTheBracketOfItsSegment : Type 0
 FaultTagTakesTheBracketOfItsSegment =
-    outcome_of_step at_fault_tag ≡ faults fault_tag_2 (at_word 2 0 4)
+    outcome_of_step at_fault_tag ≡ fault_outcome fault_tag_2 (at_word 2 0 4)

@@ -9,9 +9,9 @@ use Rattle.m36_model.specs.Core.{core_store}
 use Rattle.m36_model.specs.Step.{state_after}
 use Rattle.m36_model.specs.Modification.{ptr}
 use Rattle.m36_model.specs.Pointers.{pointer}
-use Rattle.m36_model.specs.Worked.{words_from, segment, rings, readable, executable, writable}
+use Rattle.m36_model.specs.Worked.{words_from, descriptor_entry, descriptor_with_rings, readable, executable, writable}
 use Rattle.m36_model.specs.Worked.{privileged, gate_with_entries, procedure}
-use Rattle.m36_model.specs.Worked.{core_of, at_instruction, at_word, faults, violates}
+use Rattle.m36_model.specs.Worked.{core_of, at_instruction, at_word, fault_outcome, violation_outcome}
 use Rattle.m36_model.specs.Worked.{outcome_of_step, registers_after, word_after}
 use Rattle.m36_model.specs.declared.outcome.Outcome.TheVariants.{Next}
 
@@ -20,8 +20,8 @@ use Rattle.m36_model.specs.declared.outcome.Outcome.TheVariants.{Next}
 abbrev pub gate_core : ℕ → List ℕ
 gate_core instruction =
     core_of 0o100
-    (segment 1 0o40 (procedure (rings 0 7 7))
-    ++ segment 3 0o60 (gate_with_entries 2 (executable (rings 0 0 5)))
+    (descriptor_entry 1 0o40 (procedure (descriptor_with_rings 0 7 7))
+    ++ descriptor_entry 3 0o60 (gate_with_entries 2 (executable (descriptor_with_rings 0 0 5)))
     ++ words_from 0o40 (instruction ∷ []))
 
 -- this core, at the instruction in a ring; pointer register 2 points to word 0 of the gate
@@ -45,20 +45,20 @@ CallThroughAGate =
 -- `call6 pr2|2` is refused: word 2 is not an entry.
 abbrev pub CallPastTheLimiter : Type 0
 CallPastTheLimiter =
-    outcome_of_step (at_gate 4 0o200002713100) ≡ violates not_a_gate (at_word 3 2 4)
+    outcome_of_step (at_gate 4 0o200002713100) ≡ violation_outcome not_a_gate (at_word 3 2 4)
 
 -- A call from ring 6 is refused: the ring is above the call bracket.
 abbrev pub CallFromAboveTheBracket : Type 0
 CallFromAboveTheBracket =
-    outcome_of_step (at_gate 6 0o200001713100) ≡ violates out_of_call_bracket (at_word 3 1 6)
+    outcome_of_step (at_gate 6 0o200001713100) ≡ violation_outcome out_of_call_bracket (at_word 3 1 6)
 
 -- Core with two segments. Segment 1 has `call6 pr2|1`. Segment 4 has E and G on and brackets 2, 3,
 -- 3.
 abbrev pub call_core : List ℕ
 call_core =
     core_of 0o100
-    (segment 1 0o40 (procedure (rings 0 7 7))
-    ++ segment 4 0o60 (executable (rings 2 3 3))
+    (descriptor_entry 1 0o40 (procedure (descriptor_with_rings 0 7 7))
+    ++ descriptor_entry 4 0o60 (executable (descriptor_with_rings 2 3 3))
     ++ words_from 0o40 (0o200001713100 ∷ []))
 
 -- This core, at the call in a ring. Pointer register 2 points to segment 4, in the ring `pointed`;
@@ -77,11 +77,11 @@ at_call ring pointed =
 
 -- A call from ring 1, which is below R1, is refused.
 abbrev pub OutwardCall : Type 0
-OutwardCall = outcome_of_step (at_call 1 1) ≡ violates outward_call (at_word 4 1 1)
+OutwardCall = outcome_of_step (at_call 1 1) ≡ violation_outcome outward_call (at_word 4 1 1)
 
 -- A call from ring 1 through a pointer of ring 3 is refused: R2 is above ring 1.
 abbrev pub CallWithRaisedRing : Type 0
-CallWithRaisedRing = outcome_of_step (at_call 1 3) ≡ violates bad_outward_call (at_word 4 1 3)
+CallWithRaisedRing = outcome_of_step (at_call 1 3) ≡ violation_outcome bad_outward_call (at_word 4 1 3)
 
 -- A call from ring 3 stays in ring 3, and PR7 is the base of the segment of PR6.
 abbrev pub CallWithinTheRing : Type 0
@@ -95,8 +95,8 @@ CallWithinTheRing =
 abbrev pub return_core : SdwFields → ℕ → List ℕ
 return_core brackets pair =
     core_of 0o200
-    (segment 1 0o40 (privileged (procedure (rings 0 7 7)))
-    ++ segment 2 0o100 (readable (writable brackets))
+    (descriptor_entry 1 0o40 (privileged (procedure (descriptor_with_rings 0 7 7)))
+    ++ descriptor_entry 2 0o100 (readable (writable brackets))
     ++ words_from 0o40 (0o200000610100 ∷ 0o000000616000 ∷ [])
     ++ words_from 0o100 (pair ∷ 0o000001000000 ∷ []))
 
@@ -112,7 +112,7 @@ at_return ring brackets pair =
 
 -- at the return, in ring 0, through a pair of ring 4
 abbrev pub returns_outward : State (List ℕ)
-returns_outward = at_return 0 (rings 0 0 0) 0o000001400043
+returns_outward = at_return 0 (descriptor_with_rings 0 0 0) 0o000001400043
 
 -- The return goes to ring 4, all pointer registers get this ring, and the DIS there is an illegal
 -- procedure.
@@ -124,19 +124,19 @@ ReturnTakesThePairsRing =
     ≡ slice_set (replicate 8 (pointer 0 4 0)) 2 (pointer 2 4 0))
     ×
     (outcome_of_step (state_after core_store returns_outward)
-    ≡ faults illegal_procedure (at_word 1 1 4))
+    ≡ fault_outcome illegal_procedure (at_word 1 1 4))
 
 -- From ring 4 through a pair of ring 0 in a segment with R1 4: execution continues in ring 4.
 abbrev pub ReturnTakesTheGreatestRing : Type 0
 ReturnTakesTheGreatestRing =
-    (registers_after (at_return 4 (rings 4 4 4) 0o000001000043)).ppr
+    (registers_after (at_return 4 (descriptor_with_rings 4 4 4) 0o000001000043)).ppr
     ≡ record { psr = 1; prr = 4; ic = 1 }
 
 -- core with one segment: `lprp4 1`, and a word that begins with octal 60
 abbrev pub packed_core : List ℕ
 packed_core =
     core_of 0o100
-    (segment 1 0o40 (procedure (rings 0 7 7))
+    (descriptor_entry 1 0o40 (procedure (descriptor_with_rings 0 7 7))
     ++ words_from 0o40 (0o000001764000 ∷ 0o600003000007 ∷ []))
 
 -- this core, at the instruction in ring 0
@@ -146,7 +146,7 @@ at_packed = record { regs = at_instruction 1 0 0; store = packed_core }
 -- The load of that word is a command fault, and PR4 is unchanged.
 abbrev pub PackedPointerWithAWrongBitNumber : Type 0
 PackedPointerWithAWrongBitNumber =
-    (outcome_of_step at_packed ≡ faults command (at_word 1 0 0))
+    (outcome_of_step at_packed ≡ fault_outcome command (at_word 1 0 0))
     × (registers_after at_packed ≡ at_instruction 1 0 0)
 
 -- A lock: `stac pr1|0` stores A into word 0 of segment 2 if it is zero, and the zero indicator
@@ -154,8 +154,8 @@ PackedPointerWithAWrongBitNumber =
 abbrev pub lock_core : List ℕ
 lock_core =
     core_of 0o200
-    (segment 1 0o40 (procedure (rings 0 7 7))
-    ++ segment 2 0o100 (readable (writable (rings 4 4 4)))
+    (descriptor_entry 1 0o40 (procedure (descriptor_with_rings 0 7 7))
+    ++ descriptor_entry 2 0o100 (readable (writable (descriptor_with_rings 4 4 4)))
     ++ words_from 0o42 (0o100000354100 ∷ []))
 
 -- at the first `stac`, in ring 4; A has the value for the lock

@@ -15,8 +15,8 @@ use Rattle.m36_model.specs.Stores.{indicators_half}
 use Rattle.m36_model.specs.Sums.{sign_extended}
 use Rattle.m36_model.specs.Products.{multiply, divide}
 use Rattle.m36_model.specs.ShiftEffects.{shift_left, shift_right, rotate_left}
-use Rattle.m36_model.specs.Worked.{words_from, segment, rings, procedure}
-use Rattle.m36_model.specs.Worked.{core_of, at_instruction, at_word, faults}
+use Rattle.m36_model.specs.Worked.{words_from, descriptor_entry, descriptor_with_rings, procedure}
+use Rattle.m36_model.specs.Worked.{core_of, at_instruction, at_word, fault_outcome}
 use Rattle.m36_model.specs.Worked.{outcome_of_step, registers_after}
 use Rattle.m36_model.specs.declared.outcome.Outcome.TheVariants.{Next}
 
@@ -31,7 +31,7 @@ ComparisonIsSigned =
 abbrev pub sum_core : List ℕ
 sum_core =
     core_of 0o100
-    (segment 1 0o40 (procedure (rings 0 0 0)) ++ words_from 0o40 (0o000001075000 ∷ 1 ∷ []))
+    (descriptor_entry 1 0o40 (procedure (descriptor_with_rings 0 0 0)) ++ words_from 0o40 (0o000001075000 ∷ 1 ∷ []))
 
 -- this core, at the sum, with 377777777777 in A
 abbrev pub at_sum : State (List ℕ)
@@ -48,7 +48,7 @@ at_masked_sum =
 -- Without the mask the step is an overflow fault, and the sum is in A.
 abbrev pub OverflowStoresAndFaults : Type 0
 OverflowStoresAndFaults =
-    (outcome_of_step at_sum ≡ faults overflow_fault (at_word 1 0 0))
+    (outcome_of_step at_sum ≡ fault_outcome overflow_fault (at_word 1 0 0))
     × (registers_after at_sum ≡ record (at_instruction 1 0 1) {
       a = 0o400000000000;
       ind = record no_indicators { negative = true; overflow = true };
@@ -137,7 +137,7 @@ RotationComesRound = rotate_left A 1 (with_a 0o400000000001) ≡ Ok (record {
 abbrev pub subroutine_core : List ℕ
 subroutine_core =
     core_of 0o100
-    (segment 1 0o40 (procedure (rings 0 0 0)) ++ words_from 0o43 (0o000005701000 ∷ []))
+    (descriptor_entry 1 0o40 (procedure (descriptor_with_rings 0 0 0)) ++ words_from 0o43 (0o000005701000 ∷ []))
 
 -- this core, at the instruction in ring 0
 abbrev pub at_subroutine : State (List ℕ)

@@ -93,7 +93,7 @@ impl Effect36 {
     }
 
     /// As `completed`, with words to write.
-    #[tactic(auto, unfolding(crate::specs::Results::moved_on))]
+    #[tactic(auto, unfolding(crate::specs::Results::advanced))]
     pub fn completed_with(regs: Regs, put: Held) -> Effect36
         ensures { Ok (effect_fields result) ≡ completes_with regs (words_of_held put) }
     {

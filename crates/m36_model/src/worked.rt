@@ -1,7 +1,7 @@
 //! Steps that were worked out by hand. Each is a theorem that the definitions compute.
 
 ghost use Rattle.m36_model.specs.WorkedAddresses.{LoadReadsItsWord, StopFollows};
-ghost use Rattle.m36_model.specs.WorkedAddresses.{LastWordOfTheBoundIsRead, WordPastTheBoundIsNot};
+ghost use Rattle.m36_model.specs.WorkedAddresses.{LastWordOfTheBoundIsRead, WordPastTheBoundIsRefused};
 ghost use Rattle.m36_model.specs.WorkedAddresses.{PairTakesTheBracketOfItsSegment};
 ghost use Rattle.m36_model.specs.WorkedAddresses.{SeventeenthIndirectWordLocksUp};
 ghost use Rattle.m36_model.specs.WorkedAddresses.{SixteenIndirectWordsAreServed};
@@ -32,7 +32,7 @@ pub fn worked_steps()
     ensures load_reads_its_word { LoadReadsItsWord }
     ensures stop_follows { StopFollows }
     ensures last_word_of_the_bound_is_read { LastWordOfTheBoundIsRead }
-    ensures word_past_the_bound_is_not { WordPastTheBoundIsNot }
+    ensures word_past_the_bound_is_not { WordPastTheBoundIsRefused }
     ensures pair_takes_the_bracket_of_its_segment { PairTakesTheBracketOfItsSegment }
     ensures seventeenth_indirect_word_locks_up { SeventeenthIndirectWordLocksUp }
     ensures sixteen_indirect_words_are_served { SixteenIndirectWordsAreServed }

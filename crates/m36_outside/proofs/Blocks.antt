@@ -3,7 +3,7 @@
 use Rattle.std.proofs.Common.{◌≡◌, ℕ, zero, suc, ◌+◌, ◌-◌, ◌<◌, ◌≤◌, List, [], ◌∷◌, ◌++◌, length, get_or, take, drop, nat_le, nat_lt, slice_range, Option, Some, None, inl, inr, refl, sym, ap, subst, ◌∙◌, arith, length-append, true}
 use Rattle.std.proofs.lemmas.List.{append_assoc, take_at, drop_at, take_all, take-append-drop, take-append-le, drop-append-le, take_more, drop_more}
 use Rattle.std.proofs.lemmas.Bool.{cases_Bool, leb-true, leb-false, ltb-true, and_parts, and_from, le-leb}
-use Rattle.m36_outside.specs.Block.{IsStored, has_room, is_room, marks_of, parts}
+use Rattle.m36_outside.specs.Block.{IsStored, has_room, is_room, offsets_of, split_at_pieces}
 use Rattle.m36_outside.specs.Passing.{TakesPart, TakesSome, TakesLines, joined}
 use Rattle.m36_outside.specs.Put.{PutResult}
 use Rattle.m36_outside.specs.Written.{Grew, GrewWithin}
@@ -16,30 +16,30 @@ use Rattle.m36_outside.proofs.Takes.{joined_more, taken_is}
 
 -- ---- the offsets of pieces
 
-marks_length : (from : ℕ) (pieces : List (List ℕ)) → length (marks_of from pieces) ≡ length pieces + 1
+marks_length : (from : ℕ) (pieces : List (List ℕ)) → length (offsets_of from pieces) ≡ length pieces + 1
 marks_length from [] = refl
 marks_length from (piece ∷ pieces) =
-    let more : length (marks_of (from + length piece) pieces) ≡ length pieces + 1 = marks_length (from + length piece) pieces in
+    let more : length (offsets_of (from + length piece) pieces) ≡ length pieces + 1 = marks_length (from + length piece) pieces in
     omega arith
 
-pub block_length : (marks : List ℕ) (pieces : List (List ℕ)) → marks ≡ marks_of 0 pieces → length marks ≡ length pieces + 1
-block_length marks pieces is = ap length is ∙ marks_length 0 pieces
+pub block_length : (offsets : List ℕ) (pieces : List (List ℕ)) → offsets ≡ offsets_of 0 pieces → length offsets ≡ length pieces + 1
+block_length offsets pieces is = ap length is ∙ marks_length 0 pieces
 
 marks_more :
     (from : ℕ) (pieces : List (List ℕ)) (piece : List ℕ)
-    → marks_of from (pieces ++ piece ∷ []) ≡ marks_of from pieces ++ (from + length (joined pieces ++ piece)) ∷ []
+    → offsets_of from (pieces ++ piece ∷ []) ≡ offsets_of from pieces ++ (from + length (joined pieces ++ piece)) ∷ []
 marks_more from [] piece = refl
 marks_more from (first ∷ pieces) piece =
     let place : (from + length first) + length (joined pieces ++ piece) ≡ from + length ((first ++ joined pieces) ++ piece) =
     omega (arith, length-append (joined pieces) piece, length-append first (joined pieces), length-append (first ++ joined pieces) piece) in
     ap (λ l. from ∷ l) (marks_more (from + length first) pieces piece
-    ∙ ap (λ n. marks_of (from + length first) pieces ++ n ∷ []) place)
+    ∙ ap (λ n. offsets_of (from + length first) pieces ++ n ∷ []) place)
 
 -- no pieces
 pub block_none :
-    (bytes marks : List ℕ) (pieces : List (List ℕ))
-    → take 1 marks ≡ 0 ∷ [] → pieces ≡ [] → IsStored bytes marks 0 0 pieces
-block_none bytes marks pieces begins none = subst (λ (l : List (List ℕ)). IsStored bytes marks 0 0 l) (sym none) record {
+    (bytes offsets : List ℕ) (pieces : List (List ℕ))
+    → take 1 offsets ≡ 0 ∷ [] → pieces ≡ [] → IsStored bytes offsets 0 0 pieces
+block_none bytes offsets pieces begins none = subst (λ (l : List (List ℕ)). IsStored bytes offsets 0 0 l) (sym none) record {
   fits = omega arith;
   few = omega arith;
   len_is = refl;
@@ -50,23 +50,23 @@ block_none bytes marks pieces begins none = subst (λ (l : List (List ℕ)). IsS
 
 -- one more piece
 pub block_more :
-    (bytes marks bytes' marks' : List ℕ) (len count len' count' : ℕ) (pieces pieces' : List (List ℕ)) (piece : List ℕ)
-    → IsStored bytes marks len count pieces
+    (bytes offsets bytes' offsets' : List ℕ) (len count len' count' : ℕ) (pieces pieces' : List (List ℕ)) (piece : List ℕ)
+    → IsStored bytes offsets len count pieces
     → is_room len count (length piece) ≡ true
     → len' ≡ len + length piece → count' ≡ count + 1
     → take len' bytes' ≡ take len bytes ++ piece
-    → take (count' + 1) marks' ≡ take (count + 1) marks ++ len' ∷ []
+    → take (count' + 1) offsets' ≡ take (count + 1) offsets ++ len' ∷ []
     → pieces' ≡ pieces ++ piece ∷ []
-    → IsStored bytes' marks' len' count' pieces'
-block_more bytes marks bytes' marks' len count len' count' pieces pieces' piece lie room end next put marked are =
-    let parts = and_parts (nat_lt count 2048) (nat_le (len + length piece) 32768) room in
-    let few : count < 2048 = ltb-true count 2048 parts.0 in
-    let fits : len + length piece ≤ 32768 = leb-true (len + length piece) 32768 parts.1 in
+    → IsStored bytes' offsets' len' count' pieces'
+block_more bytes offsets bytes' offsets' len count len' count' pieces pieces' piece lie room end next put marked are =
+    let split_at_pieces = and_parts (nat_lt count 2048) (nat_le (len + length piece) 32768) room in
+    let few : count < 2048 = ltb-true count 2048 split_at_pieces.0 in
+    let fits : len + length piece ≤ 32768 = leb-true (len + length piece) 32768 split_at_pieces.1 in
     let whole = lie.len_is in
     let many = lie.count_is in
     let all = joined_more pieces piece in
     let place : len' ≡ 0 + length (joined pieces ++ piece) = omega (arith, length-append (joined pieces) piece) in
-    subst (λ (l : List (List ℕ)). IsStored bytes' marks' len' count' l) (sym are) record {
+    subst (λ (l : List (List ℕ)). IsStored bytes' offsets' len' count' l) (sym are) record {
       fits = omega arith;
       few = omega arith;
       len_is = omega (arith, ap length all, length-append (joined pieces) piece);
@@ -74,25 +74,25 @@ block_more bytes marks bytes' marks' len count len' count' pieces pieces' piece 
       bytes_are = put ∙ ap (λ l. l ++ piece) lie.bytes_are ∙ sym all;
       marks_are = marked
           ∙ ap (λ l. l ++ len' ∷ []) lie.marks_are
-          ∙ ap (λ n. marks_of 0 pieces ++ n ∷ []) place
+          ∙ ap (λ n. offsets_of 0 pieces ++ n ∷ []) place
           ∙ sym (marks_more 0 pieces piece);
     }
 
 -- the counters decide whether there is room
 pub block_room :
-    (bytes marks : List ℕ) (len count : ℕ) (pieces : List (List ℕ)) (piece : List ℕ)
-    → IsStored bytes marks len count pieces
+    (bytes offsets : List ℕ) (len count : ℕ) (pieces : List (List ℕ)) (piece : List ℕ)
+    → IsStored bytes offsets len count pieces
     → is_room len count (length piece) ≡ has_room pieces piece
-block_room bytes marks len count pieces piece lie =
+block_room bytes offsets len count pieces piece lie =
     ap (λ n. is_room len n (length piece)) lie.count_is ∙ ap (λ n. is_room n (length pieces) (length piece)) lie.len_is
 
 -- if there is room for more than a piece, there is room for the piece
 pub room_less :
     (len count wanted most : ℕ) → is_room len count most ≡ true → wanted ≤ most → is_room len count wanted ≡ true
 room_less len count wanted most room less =
-    let parts = and_parts (nat_lt count 2048) (nat_le (len + most) 32768) room in
-    let fits : len + most ≤ 32768 = leb-true (len + most) 32768 parts.1 in
-    and_from (nat_lt count 2048) (nat_le (len + wanted) 32768) parts.0 (le-leb (len + wanted) 32768 (omega arith))
+    let split_at_pieces = and_parts (nat_lt count 2048) (nat_le (len + most) 32768) room in
+    let fits : len + most ≤ 32768 = leb-true (len + most) 32768 split_at_pieces.1 in
+    and_from (nat_lt count 2048) (nat_le (len + wanted) 32768) split_at_pieces.0 (le-leb (len + wanted) 32768 (omega arith))
 
 -- ---- the piece with an index
 
@@ -102,7 +102,7 @@ record Lies (bytes piece : List ℕ) (from until : ℕ) : Type 0 where
   pub within : until ≤ length bytes
   pub is : slice_range bytes from until ≡ piece
 
-first_mark : (from : ℕ) (pieces : List (List ℕ)) (e : ℕ) → get_or (marks_of from pieces) 0 e ≡ from
+first_mark : (from : ℕ) (pieces : List (List ℕ)) (e : ℕ) → get_or (offsets_of from pieces) 0 e ≡ from
 first_mark from [] e = refl
 first_mark from (piece ∷ pieces) e = refl
 
@@ -120,49 +120,49 @@ lies_first before piece after until end =
 lies_at :
     (from : ℕ) (before : List ℕ) (pieces : List (List ℕ)) (place d e : ℕ)
     → from ≡ length before → place < length pieces
-    → Lies (before ++ joined pieces) (get_or pieces place []) (get_or (marks_of from pieces) place d) (get_or (marks_of from pieces) (suc place) e)
+    → Lies (before ++ joined pieces) (get_or pieces place []) (get_or (offsets_of from pieces) place d) (get_or (offsets_of from pieces) (suc place) e)
 lies_at from before [] place d e start inside = absurd (omega arith)
 lies_at from before (piece ∷ pieces) zero d e start inside =
-    let until = get_or (marks_of (from + length piece) pieces) 0 e in
+    let until = get_or (offsets_of (from + length piece) pieces) 0 e in
     let end : until ≡ length before + length piece =
     first_mark (from + length piece) pieces e ∙ ap (λ n. n + length piece) start in
     subst (λ n. Lies (before ++ (piece ++ joined pieces)) piece n until) (sym start) (lies_first before piece (joined pieces) until end)
 lies_at from before (piece ∷ pieces) (suc place) d e start inside =
     let next : from + length piece ≡ length (before ++ piece) = omega (arith, length-append before piece) in
-    let from' = get_or (marks_of (from + length piece) pieces) place d in
-    let until = get_or (marks_of (from + length piece) pieces) (suc place) e in
+    let from' = get_or (offsets_of (from + length piece) pieces) place d in
+    let until = get_or (offsets_of (from + length piece) pieces) (suc place) e in
     subst (λ l. Lies l (get_or pieces place []) from' until) (append_assoc before piece (joined pieces))
     (lies_at (from + length piece) (before ++ piece) pieces place d e next (omega arith))
 
 -- the piece with an index is between its mark and the next
 lies :
-    (pieces : List (List ℕ)) (bytes marks : List ℕ) (place : ℕ)
-    → bytes ≡ joined pieces → marks ≡ marks_of 0 pieces → place < length pieces
-    → Lies bytes (get_or pieces place []) (get_or marks place 0) (get_or marks (place + 1) 0)
-lies pieces bytes marks place all is inside =
+    (pieces : List (List ℕ)) (bytes offsets : List ℕ) (place : ℕ)
+    → bytes ≡ joined pieces → offsets ≡ offsets_of 0 pieces → place < length pieces
+    → Lies bytes (get_or pieces place []) (get_or offsets place 0) (get_or offsets (place + 1) 0)
+lies pieces bytes offsets place all is inside =
     let next : suc place ≡ place + 1 = omega arith in
-    subst (λ n. Lies bytes (get_or pieces place []) (get_or marks place 0) (get_or marks n 0)) next
+    subst (λ n. Lies bytes (get_or pieces place []) (get_or offsets place 0) (get_or offsets n 0)) next
     (subst (λ m. Lies bytes (get_or pieces place []) (get_or m place 0) (get_or m (suc place) 0)) (sym is)
-    (subst (λ b. Lies b (get_or pieces place []) (get_or (marks_of 0 pieces) place 0) (get_or (marks_of 0 pieces) (suc place) 0)) (sym all)
+    (subst (λ b. Lies b (get_or pieces place []) (get_or (offsets_of 0 pieces) place 0) (get_or (offsets_of 0 pieces) (suc place) 0)) (sym all)
     (lies_at 0 [] pieces place 0 0 refl inside)))
 
 pub piece_order :
-    (pieces : List (List ℕ)) (bytes marks : List ℕ) (place : ℕ)
-    → bytes ≡ joined pieces → marks ≡ marks_of 0 pieces → place < length pieces
-    → get_or marks place 0 ≤ get_or marks (place + 1) 0
-piece_order pieces bytes marks place all is inside = (lies pieces bytes marks place all is inside).order
+    (pieces : List (List ℕ)) (bytes offsets : List ℕ) (place : ℕ)
+    → bytes ≡ joined pieces → offsets ≡ offsets_of 0 pieces → place < length pieces
+    → get_or offsets place 0 ≤ get_or offsets (place + 1) 0
+piece_order pieces bytes offsets place all is inside = (lies pieces bytes offsets place all is inside).order
 
 pub piece_within :
-    (pieces : List (List ℕ)) (bytes marks : List ℕ) (place : ℕ)
-    → bytes ≡ joined pieces → marks ≡ marks_of 0 pieces → place < length pieces
-    → get_or marks (place + 1) 0 ≤ length bytes
-piece_within pieces bytes marks place all is inside = (lies pieces bytes marks place all is inside).within
+    (pieces : List (List ℕ)) (bytes offsets : List ℕ) (place : ℕ)
+    → bytes ≡ joined pieces → offsets ≡ offsets_of 0 pieces → place < length pieces
+    → get_or offsets (place + 1) 0 ≤ length bytes
+piece_within pieces bytes offsets place all is inside = (lies pieces bytes offsets place all is inside).within
 
 pub piece_is :
-    (pieces : List (List ℕ)) (bytes marks : List ℕ) (place : ℕ)
-    → bytes ≡ joined pieces → marks ≡ marks_of 0 pieces → place < length pieces
-    → slice_range bytes (get_or marks place 0) (get_or marks (place + 1) 0) ≡ get_or pieces place []
-piece_is pieces bytes marks place all is inside = (lies pieces bytes marks place all is inside).is
+    (pieces : List (List ℕ)) (bytes offsets : List ℕ) (place : ℕ)
+    → bytes ≡ joined pieces → offsets ≡ offsets_of 0 pieces → place < length pieces
+    → slice_range bytes (get_or offsets place 0) (get_or offsets (place + 1) 0) ≡ get_or pieces place []
+piece_is pieces bytes offsets place all is inside = (lies pieces bytes offsets place all is inside).is
 
 pub ruleset blocks = (block_none, block_length, block_more, block_room, room_less, piece_order, piece_within, piece_is)
 
@@ -205,11 +205,11 @@ pub block_cut :
     → Grew start now (joined (take place pieces)) → GrewWithin now next piece
     → place < length pieces → piece ≡ get_or pieces place [] → GrewWithin start next (joined pieces)
 block_cut start now next pieces place piece first more inside is =
-    let parts : joined pieces ≡ (joined (take place pieces) ++ piece) ++ joined (drop (place + 1) pieces) =
+    let split_at_pieces : joined pieces ≡ (joined (take place pieces) ++ piece) ++ joined (drop (place + 1) pieces) =
     ap joined (split_at pieces place piece inside is)
     ∙ joined_both (take place pieces) (piece ∷ drop (place + 1) pieces)
     ∙ sym (append_assoc (joined (take place pieces)) piece (joined (drop (place + 1) pieces))) in
-    subst (λ t. GrewWithin start next t) (sym parts)
+    subst (λ t. GrewWithin start next t) (sym split_at_pieces)
     (grew_longer start next (joined (take place pieces) ++ piece) (joined (drop (place + 1) pieces))
     (grew_more start now next (joined (take place pieces)) piece first more))
 
@@ -241,7 +241,7 @@ pub ruleset putting = (block_grew, block_took, block_cut, block_took_some, block
 parts_whole :
     (bytes piece : List ℕ) (pieces : List (List ℕ))
     → length piece ≤ length bytes
-    → parts bytes (piece ∷ pieces) ≡ take (length piece) bytes ∷ parts (drop (length piece) bytes) pieces
+    → split_at_pieces bytes (piece ∷ pieces) ≡ take (length piece) bytes ∷ split_at_pieces (drop (length piece) bytes) pieces
 parts_whole bytes piece pieces all = elim (cases_Bool (nat_le (length piece) (length bytes))) [
   | inl e ↦ rw e refl
   | inr e ↦ let few : length bytes < length piece = leb-false (length piece) (length bytes) e in absurd (omega arith)
@@ -249,20 +249,20 @@ parts_whole bytes piece pieces all = elim (cases_Bool (nat_le (length piece) (le
 
 parts_rest :
     (bytes piece : List ℕ) (pieces : List (List ℕ))
-    → length bytes < length piece → parts bytes (piece ∷ pieces) ≡ bytes ∷ []
+    → length bytes < length piece → split_at_pieces bytes (piece ∷ pieces) ≡ bytes ∷ []
 parts_rest bytes piece pieces few = elim (cases_Bool (nat_le (length piece) (length bytes))) [
   | inl e ↦ let all : length piece ≤ length bytes = leb-true (length piece) (length bytes) e in absurd (omega arith)
   | inr e ↦ rw e refl
 ]
 
 -- all bytes of pieces, split at their boundaries, are the pieces
-parts_all : (pieces : List (List ℕ)) → parts (joined pieces) pieces ≡ pieces
+parts_all : (pieces : List (List ℕ)) → split_at_pieces (joined pieces) pieces ≡ pieces
 parts_all [] = refl
 parts_all (piece ∷ pieces) =
     let all : length piece ≤ length (piece ++ joined pieces) = omega (arith, length-append piece (joined pieces)) in
     parts_whole (piece ++ joined pieces) piece pieces all
-    ∙ ap (λ l. l ∷ parts (drop (length piece) (piece ++ joined pieces)) pieces) (take_at piece (joined pieces) (length piece) refl)
-    ∙ ap (λ l. piece ∷ parts l pieces) (drop_at piece (joined pieces) (length piece) refl)
+    ∙ ap (λ l. l ∷ split_at_pieces (drop (length piece) (piece ++ joined pieces)) pieces) (take_at piece (joined pieces) (length piece) refl)
+    ∙ ap (λ l. piece ∷ split_at_pieces l pieces) (drop_at piece (joined pieces) (length piece) refl)
     ∙ ap (λ l. piece ∷ l) (parts_all pieces)
 
 -- if two texts begin with the same bytes, the shorter is a prefix of the longer
@@ -306,10 +306,10 @@ takes_front_of old pieces piece taken rest alike few =
 parts_take :
     (old : List (List ℕ)) (piece : List ℕ) (pieces : List (List ℕ)) (taken rest : List ℕ)
     → piece ++ joined pieces ≡ taken ++ rest
-    → TakesSome old (old ++ parts taken (piece ∷ pieces)) (piece ∷ pieces)
+    → TakesSome old (old ++ split_at_pieces taken (piece ∷ pieces)) (piece ∷ pieces)
 parts_take old piece [] taken rest alike = elim (cases_Bool (nat_le (length piece) (length taken))) [
   | inl e ↦ let all : length piece ≤ length taken = leb-true (length piece) (length taken) e in
-      let same : parts taken (piece ∷ []) ≡ piece ∷ [] =
+      let same : split_at_pieces taken (piece ∷ []) ≡ piece ∷ [] =
       parts_whole taken piece [] all ∙ ap (λ l. l ∷ []) (begins_short taken rest piece (joined []) (sym alike) all) in
       subst (λ l. TakesSome old (old ++ l) (piece ∷ [])) (sym same)
       (takes_front_of old [] piece piece [] refl (omega arith))
@@ -320,8 +320,8 @@ parts_take old piece [] taken rest alike = elim (cases_Bool (nat_le (length piec
 parts_take old piece (next ∷ pieces) taken rest alike = elim (cases_Bool (nat_le (length piece) (length taken))) [
   | inl e ↦ let all : length piece ≤ length taken = leb-true (length piece) (length taken) e in
       let left = drop (length piece) taken in
-      let more = parts left (next ∷ pieces) in
-      let same : parts taken (piece ∷ (next ∷ pieces)) ≡ piece ∷ more =
+      let more = split_at_pieces left (next ∷ pieces) in
+      let same : split_at_pieces taken (piece ∷ (next ∷ pieces)) ≡ piece ∷ more =
       parts_whole taken piece (next ∷ pieces) all
       ∙ ap (λ l. l ∷ more) (begins_short taken rest piece (joined (next ∷ pieces)) (sym alike) all) in
       let later = parts_take (old ++ piece ∷ []) next pieces left rest (begins_left piece (joined (next ∷ pieces)) taken rest alike all) in
@@ -357,10 +357,10 @@ some_written old new due some =
 pub block_taken :
     (old new pieces : List (List ℕ)) (before taken : List ℕ)
     → Grew (Some before) (Some taken) (joined pieces) → before ≡ []
-    → new ≡ old ++ parts taken pieces → new ≡ old ++ pieces
+    → new ≡ old ++ split_at_pieces taken pieces → new ≡ old ++ pieces
 block_taken old new pieces before taken grown none took =
     let same : taken ≡ joined pieces = taken_is before taken (joined pieces) grown none in
-    took ∙ ap (λ l. old ++ parts l pieces) same ∙ ap (λ l. old ++ l) (parts_all pieces)
+    took ∙ ap (λ l. old ++ split_at_pieces l pieces) same ∙ ap (λ l. old ++ l) (parts_all pieces)
 
 pub block_written :
     (old new pieces : List (List ℕ)) → new ≡ old ++ pieces → Grew (Some (joined old)) (Some (joined new)) (joined pieces)
@@ -369,7 +369,7 @@ block_written old new pieces took = ap (λ l. Some l) (ap joined took ∙ joined
 pub block_all_written :
     (old new pieces : List (List ℕ)) (before taken : List ℕ)
     → Grew (Some before) (Some taken) (joined pieces) → before ≡ []
-    → new ≡ old ++ parts taken pieces → Grew (Some (joined old)) (Some (joined new)) (joined pieces)
+    → new ≡ old ++ split_at_pieces taken pieces → Grew (Some (joined old)) (Some (joined new)) (joined pieces)
 block_all_written old new pieces before taken grown none took =
     block_written old new pieces (block_taken old new pieces before taken grown none took)
 
@@ -377,7 +377,7 @@ block_all_written old new pieces before taken grown none took =
 pub begun_taken :
     (old new pieces : List (List ℕ)) (before taken : List ℕ)
     → GrewWithin (Some before) (Some taken) (joined pieces) → before ≡ [] → 0 < length pieces
-    → new ≡ old ++ parts taken pieces → TakesSome old new pieces
+    → new ≡ old ++ split_at_pieces taken pieces → TakesSome old new pieces
 begun_taken old new [] before taken within none some took = absurd (omega arith)
 begun_taken old new (piece ∷ pieces) before taken within none some took =
     let same : taken ≡ within.part = taken_is before taken within.part within.grew none in
@@ -388,7 +388,7 @@ begun_taken old new (piece ∷ pieces) before taken within none some took =
 pub begun_written :
     (old new pieces : List (List ℕ)) (before taken : List ℕ)
     → GrewWithin (Some before) (Some taken) (joined pieces) → before ≡ [] → 0 < length pieces
-    → new ≡ old ++ parts taken pieces → GrewWithin (Some (joined old)) (Some (joined new)) (joined pieces)
+    → new ≡ old ++ split_at_pieces taken pieces → GrewWithin (Some (joined old)) (Some (joined new)) (joined pieces)
 begun_written old new pieces before taken within none some took =
     some_written old new pieces (begun_taken old new pieces before taken within none some took)
 
@@ -396,14 +396,14 @@ begun_written old new pieces before taken within none some took =
 pub block_says :
     (answer : Put) (old new pieces : List (List ℕ)) (before taken : List ℕ)
     → PutResult answer (Some before) (Some taken) (joined pieces) → before ≡ [] → 0 < length pieces
-    → new ≡ old ++ parts taken pieces → PutResult answer (Some (joined old)) (Some (joined new)) (joined pieces)
+    → new ≡ old ++ split_at_pieces taken pieces → PutResult answer (Some (joined old)) (Some (joined new)) (joined pieces)
 block_says Done old new pieces before taken grown none some took = block_all_written old new pieces before taken grown none took
 block_says Failed old new pieces before taken within none some took = begun_written old new pieces before taken within none some took
 
 pub block_takes :
     (answer : Put) (old new pieces : List (List ℕ)) (before taken : List ℕ)
     → PutResult answer (Some before) (Some taken) (joined pieces) → before ≡ [] → 0 < length pieces
-    → new ≡ old ++ parts taken pieces → TakesLines answer old new pieces
+    → new ≡ old ++ split_at_pieces taken pieces → TakesLines answer old new pieces
 block_takes Done old new pieces before taken grown none some took = block_taken old new pieces before taken grown none took
 block_takes Failed old new pieces before taken within none some took = begun_taken old new pieces before taken within none some took
 

@@ -2,8 +2,8 @@
 use Rattle.std.proofs.Common.{◌≡◌, ℕ, ◌<◌, ◌≤◌, List, [], ◌++◌, length, take, Option, Some, None, IfSome, refl, sym, ap, ◌∙◌, arith, length-append}
 use Rattle.std.proofs.lemmas.List.{append-nil, append_assoc}
 use Rattle.std.specs.Io.KnownBytes.{Consumes, Keeps, IsAtEnd}
-use Rattle.m36_outside.specs.Chunk.{Moves, AddResult, ChunkResult}
-use Rattle.m36_outside.specs.Piece.{Moved}
+use Rattle.m36_outside.specs.Chunk.{ConsumesIntoText, AddResult, ChunkResult}
+use Rattle.m36_outside.specs.Piece.{ConsumesIntoBuffer}
 use Rattle.m36_outside.specs.ReadAnswer.{file_limit}
 use Rattle.m36_outside.specs.declared.reading.Chunk.{Chunk}
 use Rattle.m36_outside.specs.declared.reading.Chunk.TheVariants.{More, End, TooLarge, Failed, NoMemory}
@@ -16,7 +16,7 @@ consumes_none (Some left) = refl
 -- one more read
 pub consumes_more :
     (start now next : Option (List ℕ)) (before after : List ℕ)
-    → Consumes start now before → Moves now next before after → Consumes start next after
+    → Consumes start now before → ConsumesIntoText now next before after → Consumes start next after
 consumes_more None now next before after first more = tt
 consumes_more (Some all) None next before after first more = absurd first
 consumes_more (Some all) (Some left) None before after first more = absurd more.taken
@@ -66,7 +66,7 @@ consumes_kept (Some all) (Some left) (Some rest) bytes same more = sym same ∙ 
 pub piece_got :
     (start now next : Option (List ℕ)) (count : ℕ) (into : List ℕ)
     → Keeps start now → Consumes now next (take count into) → 1 ≤ count → count ≤ length into
-    → IfSome start (λ left. Moved (Some left) next count into)
+    → IfSome start (λ left. ConsumesIntoBuffer (Some left) next count into)
 piece_got None now next count into first more some room = tt
 piece_got (Some left) None next count into first more some room = absurd first
 piece_got (Some left) (Some same) None count into first more some room = absurd more
@@ -105,7 +105,7 @@ keeps_all None = tt
 keeps_all (Some left) = refl
 
 -- a piece of an input whose bytes are not known
-pub piece_unknown : (count : ℕ) (into : List ℕ) → 1 ≤ count → count ≤ length into → Moved None None count into
+pub piece_unknown : (count : ℕ) (into : List ℕ) → 1 ≤ count → count ≤ length into → ConsumesIntoBuffer None None count into
 piece_unknown count into some room = record { some = some; room = room; left = refl }
 
 pub ruleset pieces = (piece_got, piece_end, piece_failed, piece_unknown, keeps_on, keeps_all)

@@ -6,7 +6,7 @@ use Rattle.std.specs.declared.io.ErrorKind.TheVariants.{NotFound}
 use Rattle.m36_outside.specs.Chunk.{AddResult, ChunkGives, GivesPiece}
 use Rattle.m36_outside.specs.Given.{Gives, GivesAll, GivesTooMuch, GivesSome, ReadGives}
 use Rattle.m36_outside.specs.ReadAnswer.{file_limit, IsWithinLimit}
-use Rattle.m36_outside.specs.System.{refusal_of}
+use Rattle.m36_outside.specs.System.{open_refusal_of}
 use Rattle.m36_outside.specs.declared.folder.ReadAnswer.{ReadAnswer}
 use Rattle.m36_outside.specs.declared.folder.ReadAnswer.TheVariants.{Read, Absent, TooLarge, Failed, NoMemory}
 use Rattle.m36_outside.specs.declared.reading.Chunk.{Chunk}
@@ -104,19 +104,19 @@ opened_gives NoMemory old new before after given none noted =
     record { pieces = given.pieces; gave = behind old new before after given.pieces given.gave none noted }
 
 -- a file that was not opened gave nothing
-refusal_gives : (kind : ErrorKind) (now : List (List ℕ)) → ReadGives (refusal_of kind) now now
+refusal_gives : (kind : ErrorKind) (now : List (List ℕ)) → ReadGives (open_refusal_of kind) now now
 refusal_gives NotFound now = refl
 refusal_gives _ now = record { pieces = []; gave = sym (append-nil now) }
 
 pub refused_gives :
     (answer : ReadAnswer) (kind : ErrorKind) (now : List (List ℕ))
-    → answer ≡ refusal_of kind → ReadGives answer now now
+    → answer ≡ open_refusal_of kind → ReadGives answer now now
 refused_gives answer kind now is = subst (λ a. ReadGives a now now) (sym is) (refusal_gives kind now)
 
 -- and the answer is within the limit
-refusal_within : (kind : ErrorKind) → IsWithinLimit (refusal_of kind)
+refusal_within : (kind : ErrorKind) → IsWithinLimit (open_refusal_of kind)
 refusal_within NotFound = tt
 refusal_within _ = tt
 
-pub refused_within : (answer : ReadAnswer) (kind : ErrorKind) → answer ≡ refusal_of kind → IsWithinLimit answer
+pub refused_within : (answer : ReadAnswer) (kind : ErrorKind) → answer ≡ open_refusal_of kind → IsWithinLimit answer
 refused_within answer kind is = subst IsWithinLimit (sym is) (refusal_within kind)

@@ -1,7 +1,7 @@
 -- Laws of pieces that are gathered in a block before they are put into a sink.
 use Rattle.std.proofs.Common.{◌≡◌, ℕ, List, [], ◌∷◌, ◌++◌, Option, sym, ap, subst, ◌∙◌}
 use Rattle.std.proofs.lemmas.List.{append-nil, append_assoc}
-use Rattle.m36_outside.specs.Gathered.{Gathers, Loses, Adds}
+use Rattle.m36_outside.specs.Gathered.{Gathers, FailsPartway, Adds}
 use Rattle.m36_outside.specs.Passing.{joined, TakesPart, TakesSome, TakesLines}
 use Rattle.m36_outside.specs.Put.{PutResult}
 use Rattle.m36_outside.specs.Written.{Grew, GrewWithin}
@@ -39,10 +39,10 @@ gathers_after old now new more written between written' taken midway taken' grew
 pub loses_behind :
     (old now more : List (List ℕ)) (written between written' : Option (List ℕ)) (taken midway taken' : List (List ℕ))
     → Grew written between (joined old) → midway ≡ taken ++ old → now ≡ []
-    → Loses (now ++ more) between written' midway taken' → Loses (old ++ more) written written' taken taken'
+    → FailsPartway (now ++ more) between written' midway taken' → FailsPartway (old ++ more) written written' taken taken'
 loses_behind old now more written between written' taken midway taken' grew took none next =
     let same : now ++ more ≡ more = ap (λ l. l ++ more) none in
-    let rest = subst (λ l. Loses l between written' midway taken') same next in record {
+    let rest = subst (λ l. FailsPartway l between written' midway taken') same next in record {
       grew = subst (λ t. GrewWithin written written' t) (sym (joined_both old more)) (grew_more written between written' (joined old) (joined more) grew rest.grew);
       took = takes_lines_more taken midway taken' old more took rest.took;
     }
@@ -55,13 +55,13 @@ adds_behind Done start old now new more written between written' taken midway ta
     subst (λ l. Gathers l new more written written' taken taken') same
     (gathers_after old now new more written between written' taken midway taken' grew took none next)
 adds_behind Failed start old now new more written between written' taken midway taken' same grew took none next =
-    subst (λ l. Loses (l ++ more) written written' taken taken') same
+    subst (λ l. FailsPartway (l ++ more) written written' taken taken') same
     (loses_behind old now more written between written' taken midway taken' grew took none next)
 
 -- the pieces of the block could not be put
 pub loses_here :
     (old more : List (List ℕ)) (written written' : Option (List ℕ)) (taken taken' : List (List ℕ))
-    → GrewWithin written written' (joined old) → TakesSome taken taken' old → Loses (old ++ more) written written' taken taken'
+    → GrewWithin written written' (joined old) → TakesSome taken taken' old → FailsPartway (old ++ more) written written' taken taken'
 loses_here old more written written' taken taken' grew took = record {
   grew = subst (λ t. GrewWithin written written' t) (sym (joined_both old more)) (grew_longer written written' (joined old) (joined more) grew);
   took = takes_lines_longer taken taken' old more took;
@@ -82,9 +82,9 @@ gathers_put old new piece written written' taken taken' none same grew took = re
 pub loses_put :
     (old : List (List ℕ)) (piece : List ℕ) (written written' : Option (List ℕ)) (taken taken' : List (List ℕ))
     → old ≡ [] → GrewWithin written written' piece → TakesPart written written' taken taken' piece
-    → Loses (old ++ piece ∷ []) written written' taken taken'
+    → FailsPartway (old ++ piece ∷ []) written written' taken taken'
 loses_put old piece written written' taken taken' none grew took =
-    subst (λ l. Loses (l ++ piece ∷ []) written written' taken taken') (sym none) (record {
+    subst (λ l. FailsPartway (l ++ piece ∷ []) written written' taken taken') (sym none) (record {
       grew = subst (λ t. GrewWithin written written' t) (sym (append-nil piece)) grew;
       took = takes_some_of_line written written' taken taken' piece took;
     })
@@ -138,11 +138,11 @@ pub completes_added :
     → Completes now start (joined old ++ before) all → before ≡ piece ++ left
     → Gathers old new (piece ∷ []) now next taken taken' → Completes next start (joined new ++ left) all
 completes_added now next start taken taken' old new piece before left all run begins added =
-    let parts : joined old ++ piece ≡ joined added.handed ++ joined new =
+    let split_at_pieces : joined old ++ piece ≡ joined added.handed ++ joined new =
     sym (joined_more old piece) ∙ ap joined added.due ∙ joined_both added.handed new in
     let same : joined old ++ before ≡ joined added.handed ++ (joined new ++ left) =
     ap (λ l. joined old ++ l) begins ∙ sym (append_assoc (joined old) piece left)
-    ∙ ap (λ l. l ++ left) parts ∙ append_assoc (joined added.handed) (joined new) left in
+    ∙ ap (λ l. l ++ left) split_at_pieces ∙ append_assoc (joined added.handed) (joined new) left in
     completes_rest now next start (joined old ++ before) (joined added.handed) (joined new ++ left) all run same added.grew
 
 pub lines_added :
@@ -159,7 +159,7 @@ lines_added now next taken taken' start old new piece before left all run begins
 pub completes_lost :
     (now new start : Option (List ℕ)) (taken taken' old : List (List ℕ)) (piece before left all : List ℕ)
     → Completes now start (joined old ++ before) all → before ≡ piece ++ left
-    → Loses (old ++ piece ∷ []) now new taken taken' → GrewWithin start new all
+    → FailsPartway (old ++ piece ∷ []) now new taken taken' → GrewWithin start new all
 completes_lost now new start taken taken' old piece before left all run begins lost =
     let same : joined old ++ before ≡ joined (old ++ piece ∷ []) ++ left =
     ap (λ l. joined old ++ l) begins ∙ sym (append_assoc (joined old) piece left)
@@ -169,7 +169,7 @@ completes_lost now new start taken taken' old piece before left all run begins l
 pub lines_lost :
     (now next : Option (List ℕ)) (taken new start old : List (List ℕ)) (piece : List ℕ) (before left all : List (List ℕ))
     → CompletesLines taken start (old ++ before) all → before ≡ piece ∷ left
-    → Loses (old ++ piece ∷ []) now next taken new → TakesSome start new all
+    → FailsPartway (old ++ piece ∷ []) now next taken new → TakesSome start new all
 lines_lost now next taken new start old piece before left all run begins lost =
     let same : old ++ before ≡ (old ++ piece ∷ []) ++ left =
     ap (λ l. old ++ l) begins ∙ sym (append_assoc old (piece ∷ []) left) in

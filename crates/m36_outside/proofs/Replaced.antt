@@ -3,8 +3,8 @@ use Rattle.std.proofs.Common.{◌≡◌, ℕ, suc, ◌+◌, ◌⊎◌, inl, inr,
 use Rattle.std.proofs.lemmas.List.{append-nil, append_assoc, replicate_more}
 use Rattle.std.specs.declared.io.ErrorKind.{ErrorKind}
 use Rattle.std.specs.declared.io.ErrorKind.TheVariants.{AlreadyExists}
-use Rattle.m36_outside.specs.NameCalls.{ErrorUnless, FailsBy, MakesNone, MakesSpare, ReplaceCalls, SpareErrors, SpareUsed}
-use Rattle.m36_outside.specs.NameCalls.{spare_name, tried}
+use Rattle.m36_outside.specs.NameCalls.{ErrorUnless, LogsFailure, MakesNone, MakesSpare, ReplaceCalls, SpareErrors, SpareUsed}
+use Rattle.m36_outside.specs.NameCalls.{spare_name, refused_tries}
 use Rattle.m36_outside.specs.Signals.{Signals, GivesUp}
 use Rattle.m36_outside.specs.System.{FileHasError, NotesWrite}
 use Rattle.m36_outside.specs.declared.name_calls.NameCall.{NameCall}
@@ -15,18 +15,18 @@ use Rattle.m36_outside.proofs.Signalled.{signals_none, signals_on, gives_up_on}
 
 -- ---- spare names
 
-tried_suc : (n : ℕ) → tried (suc n) ≡ tried n ++ Make (spare_name n) false ∷ []
-unfolding tried
+tried_suc : (n : ℕ) → refused_tries (suc n) ≡ refused_tries n ++ Make (spare_name n) false ∷ []
+unfolding refused_tries
 tried_suc n = refl
 
-tried_next : (n : ℕ) → tried (n + 1) ≡ tried n ++ Make (spare_name n) false ∷ []
-tried_next n = let e : n + 1 ≡ suc n = omega arith in ap tried e ∙ tried_suc n
+tried_next : (n : ℕ) → refused_tries (n + 1) ≡ refused_tries n ++ Make (spare_name n) false ∷ []
+tried_next n = let e : n + 1 ≡ suc n = omega arith in ap refused_tries e ∙ tried_suc n
 
-tried_zero : tried 0 ≡ []
-unfolding tried
+tried_zero : refused_tries 0 ≡ []
+unfolding refused_tries
 tried_zero = refl
 
-pub tried_none : (calls : List NameCall) → calls ≡ calls ++ tried 0
+pub tried_none : (calls : List NameCall) → calls ≡ calls ++ refused_tries 0
 tried_none calls = sym (append-nil calls) ∙ ap (λ l. calls ++ l) (sym tried_zero)
 
 pub refused_none : (errors : List ErrorKind) → errors ≡ errors ++ replicate 0 AlreadyExists
@@ -35,11 +35,11 @@ refused_none errors = sym (append-nil errors)
 -- one more spare name was refused
 pub tried_more :
     (start now next : List NameCall) (count : ℕ) (name : List ℕ)
-    → now ≡ start ++ tried count → name ≡ spare_name count → next ≡ now ++ Make name false ∷ []
-    → next ≡ start ++ tried (count + 1)
+    → now ≡ start ++ refused_tries count → name ≡ spare_name count → next ≡ now ++ Make name false ∷ []
+    → next ≡ start ++ refused_tries (count + 1)
 tried_more start now next count name first is more =
     more ∙ ap (λ n. now ++ Make n false ∷ []) is ∙ ap (λ l. l ++ Make (spare_name count) false ∷ []) first
-    ∙ append_assoc start (tried count) (Make (spare_name count) false ∷ [])
+    ∙ append_assoc start (refused_tries count) (Make (spare_name count) false ∷ [])
     ∙ ap (λ l. start ++ l) (sym (tried_next count))
 
 pub refused_more :
@@ -53,7 +53,7 @@ refused_more start now next count first more =
 
 pub makes_spare :
     (spare : List ℕ) (count : ℕ) (calls now calls' : List NameCall) (errors errors' : List ErrorKind)
-    → now ≡ calls ++ tried count → spare ≡ spare_name count → calls' ≡ now ++ Make spare true ∷ []
+    → now ≡ calls ++ refused_tries count → spare ≡ spare_name count → calls' ≡ now ++ Make spare true ∷ []
     → errors' ≡ errors ++ replicate count AlreadyExists
     → MakesSpare spare calls calls' errors errors'
 makes_spare spare count calls now calls' errors errors' so_far is noted refused = record {
@@ -66,7 +66,7 @@ makes_spare spare count calls now calls' errors errors' so_far is noted refused 
 -- a spare name was refused with another error
 pub makes_none :
     (name : List ℕ) (count : ℕ) (kind : ErrorKind) (calls now calls' : List NameCall) (errors before errors' : List ErrorKind)
-    → now ≡ calls ++ tried count → name ≡ spare_name count → calls' ≡ now ++ Make name false ∷ []
+    → now ≡ calls ++ refused_tries count → name ≡ spare_name count → calls' ≡ now ++ Make name false ∷ []
     → before ≡ errors ++ replicate count AlreadyExists → errors' ≡ before ++ kind ∷ []
     → MakesNone calls calls' errors errors'
 makes_none name count kind calls now calls' errors before errors' so_far is noted first refused = record {
@@ -80,7 +80,7 @@ makes_none name count kind calls now calls' errors before errors' so_far is note
 -- all spare names were refused
 pub makes_none_of_all :
     (count : ℕ) (calls calls' : List NameCall) (errors errors' : List ErrorKind)
-    → calls' ≡ calls ++ tried (count + 1) → errors' ≡ errors ++ replicate (count + 1) AlreadyExists
+    → calls' ≡ calls ++ refused_tries (count + 1) → errors' ≡ errors ++ replicate (count + 1) AlreadyExists
     → MakesNone calls calls' errors errors'
 makes_none_of_all count calls calls' errors errors' noted refused = record {
   count = count + 1;
@@ -96,14 +96,14 @@ makes_none_of_all count calls calls' errors errors' noted refused = record {
 -- it could not be written
 pub filled_not :
     (done : Bool) (old failed new : List ErrorKind)
-    → GivesUp old failed → ErrorUnless done failed new → FailsBy old new
+    → GivesUp old failed → ErrorUnless done failed new → LogsFailure old new
 filled_not done old failed new cause removal =
     record { failed = failed; cause = inl cause; removal = (done, removal) }
 
 -- it could not be renamed
 pub renamed_not :
     (done : Bool) (old failed new : List ErrorKind)
-    → ErrorUnless false old failed → ErrorUnless done failed new → FailsBy old new
+    → ErrorUnless false old failed → ErrorUnless done failed new → LogsFailure old new
 renamed_not done old failed new cause removal =
     record { failed = failed; cause = inr (old, signals_none old, cause); removal = (done, removal) }
 
@@ -155,12 +155,12 @@ replaced :
 replaced Done spare name calls now new errors errors' made used = record {
   count = made.count;
   noted = used ∙ ap (λ l. l ++ Rename spare name true ∷ []) made.noted
-      ∙ ap (λ s. calls ++ tried made.count ++ Make s true ∷ [] ++ Rename s name true ∷ []) made.name;
+      ∙ ap (λ s. calls ++ refused_tries made.count ++ Make s true ∷ [] ++ Rename s name true ∷ []) made.name;
 }
 replaced Failed spare name calls now new errors errors' made used = record {
   count = made.count;
   noted = inr (subst (λ l. SpareUsed Failed (spare_name made.count) name l new)
-      (made.noted ∙ ap (λ s. calls ++ tried made.count ++ Make s true ∷ []) made.name)
+      (made.noted ∙ ap (λ s. calls ++ refused_tries made.count ++ Make s true ∷ []) made.name)
       (subst (λ s. SpareUsed Failed s name now new) made.name used));
 }
 
@@ -187,7 +187,7 @@ pub replaced_errors :
 replaced_errors Done spare name calls calls' errors now new made signals =
     (made.count, subst (λ l. Signals l new) made.refused signals)
 replaced_errors Failed spare name calls calls' errors now new made fault =
-    record { why = inr (made.count, subst (λ l. FailsBy l new) made.refused fault) }
+    record { why = inr (made.count, subst (λ l. LogsFailure l new) made.refused fault) }
 
 pub replaced_errors_not :
     (name : List ℕ) (calls new : List NameCall) (errors errors' : List ErrorKind)

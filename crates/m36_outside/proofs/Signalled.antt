@@ -7,7 +7,7 @@ use Rattle.std.specs.declared.io.ErrorKind.{ErrorKind}
 use Rattle.std.specs.declared.io.ErrorKind.TheVariants.{NotFound, WriteZero, Interrupted}
 use Rattle.m36_outside.specs.Chunk.{AddResult, ChunkHasError}
 use Rattle.m36_outside.specs.Signals.{Signals, IsFault, GivesUp}
-use Rattle.m36_outside.specs.System.{OpenHasError, ReadHasError, PutHasError, refusal_of}
+use Rattle.m36_outside.specs.System.{OpenHasError, ReadHasError, PutHasError, open_refusal_of}
 use Rattle.m36_outside.specs.declared.folder.ReadAnswer.{ReadAnswer}
 use Rattle.m36_outside.specs.declared.folder.ReadAnswer.TheVariants as read
 use Rattle.m36_outside.specs.declared.reading.Chunk.{Chunk}
@@ -194,13 +194,13 @@ read_has_error read.NoMemory name old new signals = signals
 -- a file could not be opened
 refusal_has_error :
     (kind : ErrorKind) (name : List ℕ) (old new : List ErrorKind)
-    → new ≡ old ++ kind ∷ [] → ReadHasError (refusal_of kind) name old new
+    → new ≡ old ++ kind ∷ [] → ReadHasError (open_refusal_of kind) name old new
 refusal_has_error NotFound name old new noted = inr (NotFound, refl, noted)
 refusal_has_error kind name old new noted = record { why = inr (kind, refl, noted) }
 
 pub refused_has_error :
     (answer : ReadAnswer) (kind : ErrorKind) (name : List ℕ) (old new : List ErrorKind)
-    → answer ≡ refusal_of kind → new ≡ old ++ kind ∷ [] → ReadHasError answer name old new
+    → answer ≡ open_refusal_of kind → new ≡ old ++ kind ∷ [] → ReadHasError answer name old new
 refused_has_error answer kind name old new is noted =
     subst (λ a. ReadHasError a name old new) (sym is) (refusal_has_error kind name old new noted)
 

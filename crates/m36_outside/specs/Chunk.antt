@@ -10,7 +10,7 @@ use Rattle.m36_outside.specs.declared.reading.Chunk.TheVariants.{More, End, TooL
 use Rattle.m36_outside.specs.declared.reading.Chunk.TheVariants.{NoMemory}
 
 -- Bytes moved from what the reader had left, if that is known, to the end of the text.
-pub record Moves (old new : Option (List ℕ)) (before after : List ℕ) : Type 0 where
+pub record ConsumesIntoText (old new : Option (List ℕ)) (before after : List ℕ) : Type 0 where
   pub got : List ℕ
   pub taken : Consumes old new got
   pub added : after ≡ before ++ got
@@ -22,9 +22,9 @@ pub record GrowsWithinLimit (before after : List ℕ) : Type 0 where
 
 -- what an answer implies for the bytes that are left and for the text, before and after the read
 abbrev pub ChunkResult : Chunk → Option (List ℕ) → Option (List ℕ) → List ℕ → List ℕ → Type 0
-ChunkResult More old new before after = Moves old new before after × GrowsWithinLimit before after
-ChunkResult End old new before after = Moves old new before after × IsAtEnd new × (after ≡ before)
-ChunkResult TooLarge old new before after = Moves old new before after × (file_limit < length after)
+ChunkResult More old new before after = ConsumesIntoText old new before after × GrowsWithinLimit before after
+ChunkResult End old new before after = ConsumesIntoText old new before after × IsAtEnd new × (after ≡ before)
+ChunkResult TooLarge old new before after = ConsumesIntoText old new before after × (file_limit < length after)
 ChunkResult Failed old new before after = ⊤
 ChunkResult NoMemory old new before after = ⊤
 

@@ -2,13 +2,13 @@
 use Rattle.std.specs.Prelude.{ℕ, ◌≡◌, ◌<◌, ◌+◌, ◌-◌, ◌^◌, ◌⊎◌, min}
 
 -- the greatest value of each count, at which it saturates
-abbrev pub last_count : ℕ
-last_count = 2 ^ 64 - 1
+abbrev pub greatest_count : ℕ
+greatest_count = 2 ^ 64 - 1
 
 -- A count rose in a call: it is greater after the call than before, or it is at its maximum.
 abbrev pub Rose : ℕ → ℕ → Type 0
-Rose old new = (old < new) ⊎ (new ≡ last_count)
+Rose old new = (old < new) ⊎ (new ≡ greatest_count)
 
 -- the count after one more fault
 abbrev pub raised : ℕ → ℕ
-raised count = min (count + 1) last_count
+raised count = min (count + 1) greatest_count

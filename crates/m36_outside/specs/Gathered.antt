@@ -18,7 +18,7 @@ pub record Gathers (old new more : List (List ℕ)) (written written' : Option (
 
 -- The sink took the first pieces of those that it must get and a prefix of the next, and then
 -- failed.
-pub record Loses (due : List (List ℕ)) (written written' : Option (List ℕ))
+pub record FailsPartway (due : List (List ℕ)) (written written' : Option (List ℕ))
     (taken taken' : List (List ℕ)) : Type 0 where
   pub grew : PutResult Failed written written' (joined due)
   pub took : TakesLines Failed taken taken' due
@@ -30,4 +30,4 @@ abbrev pub Adds : Put → List (List ℕ) → List (List ℕ) → List (List ℕ
 Adds Done old new more written written' taken taken' =
     Gathers old new more written written' taken taken'
 Adds Failed old new more written written' taken taken' =
-    Loses (old ++ more) written written' taken taken'
+    FailsPartway (old ++ more) written written' taken taken'

@@ -21,23 +21,23 @@ spare_name number =
     codes ".m36-" ++ (48 + number / 100) ∷ (48 + number / 10 % 10) ∷ (48 + number % 10) ∷ []
 
 -- the calls that tried each of the first `n` spare names in order, all of which the system refused
-unfoldable pub tried : ℕ → List NameCall
-tried zero = []
-tried (suc n) = tried n ++ Make (spare_name n) false ∷ []
+unfoldable pub refused_tries : ℕ → List NameCall
+refused_tries zero = []
+refused_tries (suc n) = refused_tries n ++ Make (spare_name n) false ∷ []
 
 -- A file was created under the first spare name that was free; each before it existed already.
 pub record MakesSpare (spare : List ℕ) (calls calls' : List NameCall)
     (errors errors' : List ErrorKind) : Type 0 where
   pub count : ℕ
   pub name : spare ≡ spare_name count
-  pub noted : calls' ≡ calls ++ tried count ++ Make spare true ∷ []
+  pub noted : calls' ≡ calls ++ refused_tries count ++ Make spare true ∷ []
   pub refused : errors' ≡ errors ++ replicate count AlreadyExists
 
 -- No file could be created under a spare name. The last try was refused with error `kind`.
 pub record MakesNone (calls calls' : List NameCall) (errors errors' : List ErrorKind)
     : Type 0 where
   pub count : ℕ
-  pub noted : calls' ≡ calls ++ tried count
+  pub noted : calls' ≡ calls ++ refused_tries count
   pub before : ℕ
   pub kind : ErrorKind
   pub refused : errors' ≡ errors ++ replicate before AlreadyExists ++ kind ∷ []
@@ -53,7 +53,7 @@ SpareUsed Failed spare name old new =
 
 -- The errors logged by a failure: those of a call that gave up or was refused, and after them at
 -- most the error of the removal of the spare file.
-pub record FailsBy (old new : List ErrorKind) : Type 0 where
+pub record LogsFailure (old new : List ErrorKind) : Type 0 where
   pub failed : List ErrorKind
   pub cause : GivesUp old failed
       ⊎ ((before : List ErrorKind) × Signals old before × ErrorUnless false before failed)
@@ -62,25 +62,25 @@ pub record FailsBy (old new : List ErrorKind) : Type 0 where
 -- The errors of writing and renaming the spare file. Done: only interruptions by signals.
 abbrev pub SpareErrors : Put → List ErrorKind → List ErrorKind → Type 0
 SpareErrors Done old new = Signals old new
-SpareErrors Failed old new = FailsBy old new
+SpareErrors Failed old new = LogsFailure old new
 
 -- The calls that replace a file as a whole: tries of spare names, the creation of the spare file,
 -- and its renaming.
-pub record Replaces (name : List ℕ) (old new : List NameCall) : Type 0 where
+pub record IsFileReplaced (name : List ℕ) (old new : List NameCall) : Type 0 where
   pub count : ℕ
   pub noted : new
-      ≡ old ++ tried count ++ Make (spare_name count) true ∷ []
+      ≡ old ++ refused_tries count ++ Make (spare_name count) true ∷ []
       ++ Rename (spare_name count) name true ∷ []
 
 -- No file was renamed: no spare file was created, or one was and its removal was tried.
-pub record ReplacesNot (name : List ℕ) (old new : List NameCall) : Type 0 where
+pub record NoFileIsRenamed (name : List ℕ) (old new : List NameCall) : Type 0 where
   pub count : ℕ
-  pub noted : (new ≡ old ++ tried count)
+  pub noted : (new ≡ old ++ refused_tries count)
       ⊎ SpareUsed Failed (spare_name count) name
-      (old ++ tried count ++ Make (spare_name count) true ∷ []) new
+      (old ++ refused_tries count ++ Make (spare_name count) true ∷ []) new
 
 -- what the answer to the writing of a file implies for the calls that change names: a file is
 -- replaced whole or not at all
 abbrev pub ReplaceCalls : Put → List ℕ → List NameCall → List NameCall → Type 0
-ReplaceCalls Done name old new = Replaces name old new
-ReplaceCalls Failed name old new = ReplacesNot name old new
+ReplaceCalls Done name old new = IsFileReplaced name old new
+ReplaceCalls Failed name old new = NoFileIsRenamed name old new

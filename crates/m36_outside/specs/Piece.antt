@@ -6,19 +6,19 @@ use Rattle.m36_outside.specs.declared.lines.Piece.{Piece}
 use Rattle.m36_outside.specs.declared.lines.Piece.TheVariants.{Got, End, Failed}
 
 -- what is left, if it is known, with these bytes before it
-abbrev pub preceded : List ℕ → Option (List ℕ) → Option (List ℕ)
-preceded bytes None = None
-preceded bytes (Some left) = Some (bytes ++ left)
+abbrev pub prepended : List ℕ → Option (List ℕ) → Option (List ℕ)
+prepended bytes None = None
+prepended bytes (Some left) = Some (bytes ++ left)
 
 -- The first bytes of the buffer were the first of those that were left, and are consumed.
-pub record Moved (old new : Option (List ℕ)) (count : ℕ) (into : List ℕ) : Type 0 where
+pub record ConsumesIntoBuffer (old new : Option (List ℕ)) (count : ℕ) (into : List ℕ) : Type 0 where
   pub some : 1 ≤ count
   pub room : count ≤ length into
-  pub left : old ≡ preceded (take count into) new
+  pub left : old ≡ prepended (take count into) new
 
 -- what the answer implies for what is left, before and after the call, and for the buffer after it
 abbrev pub PieceResult : Piece → Option (List ℕ) → Option (List ℕ) → List ℕ → Type 0
-PieceResult (Got count) old new into = Moved old new count into
+PieceResult (Got count) old new into = ConsumesIntoBuffer old new count into
 PieceResult End old new into = IsAtEnd old × (new ≡ old)
 PieceResult Failed old new into = new ≡ old
 

@@ -8,5 +8,5 @@ pub record SinkState : Type 0 where
   pub faults : ℕ
 
 -- the state of a sink with these three parts
-abbrev pub seen : Option (List ℕ) → List (List ℕ) → ℕ → SinkState
-seen written taken faults = record { written = written; taken = taken; faults = faults }
+abbrev pub sink_state : Option (List ℕ) → List (List ℕ) → ℕ → SinkState
+sink_state written taken faults = record { written = written; taken = taken; faults = faults }

@@ -2,7 +2,7 @@
 use Rattle.std.specs.Prelude.{ℕ, ◌≡◌, List, [], ◌∷◌, ◌++◌, ◌⊎◌, ⊤, Contains, IsUtf8, replicate}
 use Rattle.std.specs.declared.io.ErrorKind.{ErrorKind}
 use Rattle.std.specs.declared.io.ErrorKind.TheVariants.{NotFound, AlreadyExists}
-use Rattle.m36_outside.specs.NameCalls.{FailsBy, ReplaceCalls}
+use Rattle.m36_outside.specs.NameCalls.{LogsFailure, ReplaceCalls}
 use Rattle.m36_outside.specs.Signals.{Signals, GivesUp}
 use Rattle.m36_outside.specs.declared.folder.ReadAnswer.{ReadAnswer}
 use Rattle.m36_outside.specs.declared.folder.ReadAnswer.TheVariants as read
@@ -52,17 +52,17 @@ pub record NamesFile (name : List ℕ) : Type 0 where
   pub no_slash : ¬ (Contains name slash)
 
 -- the answer for a file that could not be opened: Absent if it was not found, otherwise Failed
-abbrev pub refusal_of : ErrorKind → ReadAnswer
-refusal_of NotFound = read.Absent
-refusal_of _ = read.Failed
+abbrev pub open_refusal_of : ErrorKind → ReadAnswer
+open_refusal_of NotFound = read.Absent
+open_refusal_of _ = read.Failed
 
 -- A file could not be opened because of one error, and the answer is that for this error.
 abbrev pub IsRefused : ReadAnswer → List ErrorKind → List ErrorKind → Type 0
 IsRefused answer old new =
-    (kind : ErrorKind) × (refusal_of kind ≡ answer) × (new ≡ old ++ kind ∷ [])
+    (kind : ErrorKind) × (open_refusal_of kind ≡ answer) × (new ≡ old ++ kind ∷ [])
 
 -- No file was read: a read gave up, or the file could not be opened.
-pub record ReadsNot (old new : List ErrorKind) : Type 0 where
+pub record NoFileIsRead (old new : List ErrorKind) : Type 0 where
   pub why : GivesUp old new ⊎ IsRefused read.Failed old new
 
 -- Absent: the name names no file, or the system reported that the file was not found. Failed: no
@@ -72,7 +72,7 @@ ReadHasError (read.Read bytes) name old new = OpenHasError (read.Read bytes) old
 ReadHasError read.Absent name old new =
     NamesNoFile name ⊎ IsRefused read.Absent old new
 ReadHasError read.TooLarge name old new = OpenHasError read.TooLarge old new
-ReadHasError read.Failed name old new = ReadsNot old new
+ReadHasError read.Failed name old new = NoFileIsRead old new
 ReadHasError read.NoMemory name old new = OpenHasError read.NoMemory old new
 
 -- the answer of the folder to a write, from the answer to the put that wrote the file
@@ -82,16 +82,16 @@ write_answer_of Failed = write.Failed
 
 -- No file was written: the name names no file; or, after some spare names that files had already,
 -- a call failed.
-pub record WritesNot (name : List ℕ) (old new : List ErrorKind) : Type 0 where
+pub record NoFileIsWritten (name : List ℕ) (old new : List ErrorKind) : Type 0 where
   pub why :
-      NamesNoFile name ⊎ ((count : ℕ) × FailsBy (old ++ replicate count AlreadyExists) new)
+      NamesNoFile name ⊎ ((count : ℕ) × LogsFailure (old ++ replicate count AlreadyExists) new)
 
 -- Failed: no file was written. Done: the only errors were refusals of spare names that files had
 -- already, and then interruptions by signals.
 abbrev pub FileHasError : Put → List ℕ → List ErrorKind → List ErrorKind → Type 0
 FileHasError Done name old new =
     (count : ℕ) × Signals (old ++ replicate count AlreadyExists) new
-FileHasError Failed name old new = WritesNot name old new
+FileHasError Failed name old new = NoFileIsWritten name old new
 
 -- Nothing was logged, or a prefix of the content.
 pub record NotesPart (old new : List (List ℕ)) (content : List ℕ) : Type 0 where

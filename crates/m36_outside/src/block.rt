@@ -2,12 +2,12 @@
 
 ghost use Rattle.std.specs.Prelude.{ℕ, [], ◌∷◌, ◌++◌, ◌+◌, ◌≡◌, ◌<◌, ◌≤◌, ◌==◌, length, get_or, take, slice_range};
 ghost use Rattle.std.specs.Bool.{OnTrue, OnFalse};
-ghost use Rattle.m36_outside.specs.Block.{has_room, is_room, marks_of};
+ghost use Rattle.m36_outside.specs.Block.{has_room, is_room, offsets_of};
 ghost use Rattle.m36_outside.specs.Gathered.{Adds};
 ghost use Rattle.m36_outside.specs.Passing.{joined, TakesLines};
 ghost use Rattle.m36_outside.specs.Put.{PutResult, PutHasCause, OnFailed};
 
-use crate::passed::{Entries, Log};
+use crate::log::{Entries, Log};
 use crate::sink::{Put, Sink};
 use crate::spelled::{SHORT, Spelled};
 use crate::text::Text;
@@ -30,7 +30,7 @@ pub struct Block {
     bytes: [u8; BYTES],
     /// The offset in `bytes` of each piece, then the offset of the end of the last one, then
     /// unused marks.
-    marks: [usize; PIECES_AND_END],
+    offsets: [usize; PIECES_AND_END],
     /// The number of bytes of all pieces.
     len: usize,
     /// The number of pieces.
@@ -46,7 +46,7 @@ impl Model for Block {
 
     ghost view = { λ b. b.pieces.entries };
 
-    ghost invariant = { λ b. IsStored b.bytes b.marks b.len b.count b.pieces.entries };
+    ghost invariant = { λ b. IsStored b.bytes b.offsets b.len b.count b.pieces.entries };
 }
 
 impl Block {
@@ -57,7 +57,7 @@ impl Block {
     {
         Block {
             bytes: [0; BYTES],
-            marks: [0; PIECES_AND_END],
+            offsets: [0; PIECES_AND_END],
             len: 0,
             count: 0,
             pieces: Log::new(),
@@ -93,15 +93,15 @@ impl Block {
         requires { place < length self.now }
         ensures { result.now ≡ get_or self.now place [] }
     {
-        let marks = self.marks();
-        between(self.bytes(), marks[place], marks[place + 1])
+        let offsets = self.offsets();
+        between(self.bytes(), offsets[place], offsets[place + 1])
     }
 
     // The offset of each piece, and the offset of the end of the last one.
-    fn marks(&self) -> &[usize]
-        ensures { result.now ≡ marks_of 0 self.now }
+    fn offsets(&self) -> &[usize]
+        ensures { result.now ≡ offsets_of 0 self.now }
     {
-        &self.marks[..self.count + 1]
+        &self.offsets[..self.count + 1]
     }
 
     /// Appends a piece if there is room for it, and returns whether there is.
@@ -114,8 +114,8 @@ impl Block {
         if !is_room(self.len, self.count, piece.len()) {
             return false;
         }
-        self.len = copy_after(&mut self.bytes, self.len, piece);
-        self.count = mark(&mut self.marks, self.count, self.len);
+        self.len = append_piece(&mut self.bytes, self.len, piece);
+        self.count = add_offset(&mut self.offsets, self.count, self.len);
         self.pieces.note(&piece);
         true
     }
@@ -131,8 +131,8 @@ impl Block {
         if !is_room(self.len, self.count, SHORT) {
             return self.push_copy(line);
         }
-        self.len = spell_after(&mut self.bytes, self.len, line);
-        self.count = mark(&mut self.marks, self.count, self.len);
+        self.len = append_spelled(&mut self.bytes, self.len, line);
+        self.count = add_offset(&mut self.offsets, self.count, self.len);
         self.pieces.note(&Line { line });
         true
     }
@@ -156,7 +156,7 @@ impl Block {
     {
         self.len = 0;
         self.count = 0;
-        self.marks[0] = 0;
+        self.offsets[0] = 0;
         self.pieces = Log::new();
     }
 
@@ -264,7 +264,7 @@ fn is_room(len: usize, count: usize, wanted: usize) -> bool
 /// Copies a piece to the offset `len`, and returns the offset after it.
 #[inline(always)]
 #[tactic(auto, using(crate::proofs::Fronts::front_put))]
-fn copy_after(bytes: &mut [u8; BYTES], len: usize, piece: &[u8]) -> usize
+fn append_piece(bytes: &mut [u8; BYTES], len: usize, piece: &[u8]) -> usize
     requires { len + length piece.now ≤ BYTES }
     ensures end { result ≡ len + length piece.now }
     ensures bytes { take result bytes.new ≡ take len bytes.old ++ piece.now }
@@ -277,7 +277,7 @@ fn copy_after(bytes: &mut [u8; BYTES], len: usize, piece: &[u8]) -> usize
 /// Spells a short text at the offset `len`, and returns the offset after it.
 #[inline(always)]
 #[tactic(auto, using(crate::proofs::Fronts::front_put))]
-fn spell_after<L: Spelled>(bytes: &mut [u8; BYTES], len: usize, line: &L) -> usize
+fn append_spelled<L: Spelled>(bytes: &mut [u8; BYTES], len: usize, line: &L) -> usize
     requires { len + SHORT ≤ BYTES }
     ensures end { result ≡ len + length (L.text line.now) }
     ensures short { length (L.text line.now) ≤ SHORT }
@@ -290,12 +290,12 @@ fn spell_after<L: Spelled>(bytes: &mut [u8; BYTES], len: usize, line: &L) -> usi
 /// then.
 #[inline(always)]
 #[tactic(auto, using(std::proofs::lemmas::List::take_more_set))]
-fn mark(marks: &mut [usize; PIECES_AND_END], count: usize, end: usize) -> usize
+fn add_offset(offsets: &mut [usize; PIECES_AND_END], count: usize, end: usize) -> usize
     requires { count < PIECES }
     ensures count { result ≡ count + 1 }
-    ensures marks { take (result + 1) marks.new ≡ take (count + 1) marks.old ++ end ∷ [] }
+    ensures offsets { take (result + 1) offsets.new ≡ take (count + 1) offsets.old ++ end ∷ [] }
 {
-    marks[count + 1] = end;
+    offsets[count + 1] = end;
     count + 1
 }
 
@@ -330,7 +330,7 @@ pub(crate) struct TakenPart<'a> {
 }
 
 impl<'a> Entries<Text> for TakenPart<'a> {
-    ghost use Rattle.m36_outside.specs.Block.{parts};
+    ghost use Rattle.m36_outside.specs.Block.{split_at_pieces};
 
-    ghost entries = { λ begun. parts begun.taken.now.entries begun.block.now };
+    ghost entries = { λ begun. split_at_pieces begun.taken.now.entries begun.block.now };
 }

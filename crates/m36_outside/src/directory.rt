@@ -3,15 +3,15 @@
 ghost use Rattle.std.specs.Prelude.{[], ◌∷◌, ◌++◌, ◌≡◌, ◌≤◌, ◌<◌, ◌^◌, None, MatchOption};
 ghost use Rattle.m36_outside.specs.Given.{ReadGives};
 ghost use Rattle.m36_outside.specs.ReadAnswer.{IsWithinLimit, ReadHasCause};
-ghost use Rattle.m36_outside.specs.System.{ReadHasError, WriteHasError, WriteTakes, WriteCalls, NamesFile, NamesNoFile, refusal_of, write_answer_of};
+ghost use Rattle.m36_outside.specs.System.{ReadHasError, WriteHasError, WriteTakes, WriteCalls, NamesFile, NamesNoFile, open_refusal_of, write_answer_of};
 ghost use Rattle.m36_outside.specs.WriteAnswer.{WriteResult, WriteHasCause};
 
 use crate::faults::{after_put, after_read};
-use crate::file_notes::FileLogs;
+use crate::file_logs::FileLogs;
 use crate::folder::{Folder, ReadAnswer, WriteAnswer};
 use crate::folder_calls::FolderCalls;
-use crate::passed::Log;
-use crate::reading::read_alone;
+use crate::log::Log;
+use crate::reading::read_and_log;
 use crate::replacing::write_file;
 use crate::sink::Put;
 use std::alloc::Global;
@@ -162,18 +162,18 @@ fn read_file<R: Files>(rt: &R, alloc: Global, name: &[u8], notes: &mut FileLogs)
         return ReadAnswer::Absent;
     };
     match File::open(rt, name) {
-        Ok(file) => read_alone(file, alloc, &mut notes.given, &mut notes.errors),
+        Ok(file) => read_and_log(file, alloc, &mut notes.given, &mut notes.errors),
         Err(e) => {
             let kind = e.kind();
             notes.errors.note(&kind);
-            refusal(kind)
+            open_refusal(kind)
         }
     }
 }
 
 /// The answer for a file that could not be opened: Absent if it was not found, otherwise Failed.
-fn refusal(kind: ErrorKind) -> ReadAnswer
-    ensures { result ≡ refusal_of kind }
+fn open_refusal(kind: ErrorKind) -> ReadAnswer
+    ensures { result ≡ open_refusal_of kind }
 {
     match kind {
         ErrorKind::NotFound => ReadAnswer::Absent,

@@ -58,7 +58,7 @@ impl FileList {
             (file_named self.now name.now ≡ None)
             (λ text. file_named self.now name.now ≡ Some text.now) }
     {
-        let place = place_of(self.files.as_slice(), name);
+        let place = index_of_file(self.files.as_slice(), name);
         if place < self.files.len() {
             Some(&self.files[place].content)
         } else {
@@ -93,7 +93,7 @@ impl FileList {
         ensures err { OnErr result (self.new ≡ self.old) }
     {
         let content = Text::from_bytes(alloc, content)?;
-        let place = place_of(self.files.as_slice(), name);
+        let place = index_of_file(self.files.as_slice(), name);
         if place < self.files.len() {
             let file = &mut self.files[place];
             file.content = content;
@@ -143,7 +143,7 @@ fn push_file(
 
 /// The index of the first file with this name, or the length of the list if there is none.
 #[tactic(auto, using(crate::proofs::FilesNamed::places))]
-fn place_of(files: &[NamedFile], name: &[u8]) -> usize
+fn index_of_file(files: &[NamedFile], name: &[u8]) -> usize
     ensures { result ≡ position_or_len (has_name name.now) files.now }
 {
     for (place, file) in files.iter().enumerate() {

@@ -11,7 +11,7 @@ ghost use Rattle.m36_outside.specs.System.{OpenHasError, PieceHasError};
 use crate::folder::{FILE_LIMIT, ReadAnswer};
 use crate::lines::Piece;
 use crate::logged::LoggedReader;
-use crate::passed::Log;
+use crate::log::Log;
 use crate::text::Text;
 use m36_word::NoMemory;
 use std::alloc::Global;
@@ -57,7 +57,7 @@ pub fn read_whole<R: Read>(from: &mut LoggedReader<R>, alloc: Global) -> ReadAns
 
 /// As `read_whole`, for a reader without a log. The pieces that it gave and its errors are added
 /// to `given` and `errors`.
-pub fn read_alone<R: Read + Drop>(
+pub fn read_and_log<R: Read + Drop>(
     reader: R,
     alloc: Global,
     given: &mut Log<Text>,

@@ -10,11 +10,11 @@ ghost use Rattle.m36_outside.specs.Put.{PutResult};
 ghost use Rattle.m36_outside.specs.System.{FileHasError, NotesWrite, PutHasError, NamesNoFile};
 
 use crate::directory::name_of_file;
-use crate::file_notes::FileLogs;
+use crate::file_logs::FileLogs;
 use crate::name_calls::{make_spare, remove, rename};
-use crate::passed::Log;
+use crate::log::Log;
 use crate::sink::Put;
-use crate::writing::write_alone;
+use crate::writing::write_and_log;
 use std::io::Write;
 use std::rt::Files;
 
@@ -78,7 +78,7 @@ fn fill<W: Write>(file: &mut W, content: &[u8], notes: &mut FileLogs) -> Put
     ensures error { PutHasError result notes.old.errors.entries notes.new.errors.entries }
 {
     let mut taken = Log::new();
-    let answer = write_alone(file, content, &mut taken, &mut notes.errors);
+    let answer = write_and_log(file, content, &mut taken, &mut notes.errors);
     notes.taken.note(&taken);
     answer
 }

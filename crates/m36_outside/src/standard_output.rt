@@ -7,10 +7,10 @@ ghost use Rattle.m36_outside.specs.System.{PutHasError};
 
 use crate::block::{Block, TakenPart};
 use crate::faults::after_put;
-use crate::passed::Log;
+use crate::log::Log;
 use crate::sink::{Put, Sink};
 use crate::text::Text;
-use crate::writing::write_alone;
+use crate::writing::write_and_log;
 use std::io;
 use std::io::ErrorKind;
 use std::marker::Model;
@@ -72,7 +72,7 @@ impl<R: Print + Drop> Sink for StdSink<R> {
         ensures error { PutHasError result self.old.errors self.new.errors }
     {
         let mut taken = Log::new();
-        let answer = write_alone(
+        let answer = write_and_log(
             &mut io::writer(&self.rt),
             piece,
             &mut taken,
@@ -99,7 +99,7 @@ impl<R: Print + Drop> Sink for StdSink<R> {
             return Put::Done;
         }
         let mut taken = Log::new();
-        let answer = write_alone(
+        let answer = write_and_log(
             &mut io::writer(&self.rt),
             block.bytes(),
             &mut taken,

@@ -6,9 +6,9 @@ ghost use Rattle.m36_outside.specs.Piece.{PieceResult, PieceHasCause};
 ghost use Rattle.m36_outside.specs.Remaining.{piece_length};
 
 use crate::lines::{Lines, Piece};
-use crate::passed::Log;
+use crate::log::Log;
 use crate::text::Text;
-use crate::unread::Remaining;
+use crate::remaining::Remaining;
 use m36_word::NoMemory;
 use std::alloc::Global;
 use std::marker::Model;

@@ -7,7 +7,7 @@ ghost use Rattle.m36_outside.specs.Signals.{Signals, GivesUp};
 ghost use Rattle.m36_outside.specs.System.{NotesDone, PutHasError};
 
 use crate::logged::WriterLogs;
-use crate::passed::Log;
+use crate::log::Log;
 use crate::sink::Put;
 use std::io::{ErrorKind, Write};
 
@@ -38,7 +38,7 @@ pub fn write_whole<W: Write>(writer: &mut W, notes: &mut WriterLogs, bytes: &[u8
 
 /// As `write_whole`, for a writer without a log. The bytes that it took and its errors are added
 /// to `taken` and `errors`.
-pub fn write_alone<W: Write>(
+pub fn write_and_log<W: Write>(
     writer: &mut W,
     bytes: &[u8],
     taken: &mut Log<u8>,

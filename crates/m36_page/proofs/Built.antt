@@ -6,11 +6,11 @@ use Rattle.std.proofs.lemmas.List.{get_or-set_same, get_or-set_other, length-set
 use Rattle.std.proofs.lemmas.List.Elements.{All-get_or}
 use Rattle.m36_page.specs.Fields.{TableFields, PagerFields}
 use Rattle.m36_page.specs.Copied.{IsCopied}
-use Rattle.m36_page.specs.Residence.{is_of, table_of, has_page_in, spot_in, kept_in, has_page, spot_of, kept_word, absent_ptw, resident_ptw, frame_of, Holds, IsPager, Reads, IsConsistent, IsInside}
+use Rattle.m36_page.specs.Residence.{is_table_of, table_of, has_page_in, spot_in, kept_in, has_page, spot_of, kept_word, absent_ptw, resident_ptw, frame_of, Holds, IsPager, AgreesWithCore, IsConsistent, HasPtwPlaces}
 use Rattle.m36_page.specs.Changes.{IsSameShape, KeepsContents, OthersStay}
 use Rattle.m36_page.proofs.Frames.{held_inside, bounded}
 use Rattle.m36_page.proofs.Tables.{found, words_pages, words_spots, words_kept, words_were, words_others, words_whole}
-use Rattle.m36_page.specs.Moved.{HasWords, IsEvicted, IsBroughtIn, IsEmptied}
+use Rattle.m36_page.specs.Moved.{HasWords, IsEvicted, IsTakenIn, IsEmptied}
 use Rattle.m36_page.proofs.Moves.{resident_frame, away_kept, away_settled, away_frame, away_out, same_page}
 
 -- ---- evicted
@@ -104,12 +104,12 @@ same_some a b e = cc
 pub taken_from : (p : PagerFields) (core : List ℕ) (new : PagerFields) (mid now : List ℕ) (k seg page i : ℕ) (d : TableFields)
     → IsConsistent p core → has_page p seg page ≡ true → frame_of p core seg page ≡ None
     → get_or p.holders k None ≡ None → k < length p.holders
-    → position (is_of seg) p.tables ≡ Some i
+    → position (is_table_of seg) p.tables ≡ Some i
     → new.first ≡ p.first → new.tables ≡ p.tables → new.holders ≡ set p.holders k (Some (seg, page))
     → IsCopied (get_or p.tables i d).words (1024 * page) core (1024 * (p.first + k)) mid
     → now ≡ set mid (spot_of p seg page) (resident_ptw (p.first + k))
-    → IsBroughtIn p core new now k seg page
-taken_from p core new mid now k seg page i d s has out empty inside at first tables holders copied e =
+    → IsTakenIn p core new now k seg page
+taken_from p core new mid now k seg page i d s has out empty_frame inside at first tables holders copied e =
     let below = s.pager.below seg page has in
     let room = s.frames in
     let size = copied.size in
@@ -131,7 +131,7 @@ taken_from p core new mid now k seg page i d s has out empty inside at first tab
     record {
       has = has;
       out = out;
-      empty = empty;
+      empty_frame = empty_frame;
       inside = inside;
       shape = record {
         first = first;
@@ -192,7 +192,7 @@ same_holder p new j left stay (Some h) o' e f = stay h.0 h.1 e ∙ sym e
 
 -- frames other than the one that a page was taken into hold what they held
 pub taken_holders : (p : PagerFields) (core : List ℕ) (new : PagerFields) (now : List ℕ) (k seg page : ℕ)
-    → IsBroughtIn p core new now k seg page → (j : ℕ) → j ≢ k → get_or new.holders j None ≡ get_or p.holders j None
+    → IsTakenIn p core new now k seg page → (j : ℕ) → j ≢ k → get_or new.holders j None ≡ get_or p.holders j None
 taken_holders p core new now k seg page taken j other =
     same_holder p new j
     (λ x q h. elim (taken.left j x q h) [ inl here ↦ absurd (other here.0) | inr from ↦ from ])
@@ -221,7 +221,7 @@ pub emptied : (p : PagerFields) (core : List ℕ) (new : PagerFields) (now : Lis
 emptied p core new now k seg page s away = record {
   kept = away_kept p core new now k seg page s away;
   settled = away_settled p core new now k seg page s away;
-  empty = holder_gone new k seg page p (λ x q h. (away.left k x q h).1 refl) (get_or new.holders k None) refl;
+  empty_frame = holder_gone new k seg page p (λ x q h. (away.left k x q h).1 refl) (get_or new.holders k None) refl;
   spot = λ x q h.
       let both : (x, q) ≡ (seg, page) = same_some (x, q) (seg, page) (sym h ∙ away.held) in
       ap (λ (y : ℕ × ℕ). get_or now (spot_of p y.0 y.1) 0) both ∙ away.spot;
@@ -251,7 +251,7 @@ emptied_none p core k s none = record {
     others = λ a out. refl;
   };
   settled = s;
-  empty = none;
+  empty_frame = none;
   spot = λ x q h. absurd (held_some p k x q h none);
   same = λ still. (refl, refl);
   others = record { holders = λ j other. refl; words = λ a out. refl; kept = λ x w out. refl };
@@ -269,19 +269,19 @@ pub has_table : (p : PagerFields) (seg page : ℕ) → has_page p seg page ≡ t
 unfolding has_page
 has_table p seg page e = table_some (table_of p.tables seg) page e
 
-pub spot_by : (p : PagerFields) (seg page i : ℕ) (d : TableFields) → position (is_of seg) p.tables ≡ Some i
+pub spot_by : (p : PagerFields) (seg page i : ℕ) (d : TableFields) → position (is_table_of seg) p.tables ≡ Some i
     → spot_of p seg page ≡ (get_or p.tables i d).at + page
 unfolding spot_of
 spot_by p seg page i d at = ap (λ t. spot_in t page) (found p.tables seg i d at).2
 
-pub page_inside : (p : PagerFields) (seg page i : ℕ) (d : TableFields) → position (is_of seg) p.tables ≡ Some i
+pub page_inside : (p : PagerFields) (seg page i : ℕ) (d : TableFields) → position (is_table_of seg) p.tables ≡ Some i
     → has_page p seg page ≡ true → page < (get_or p.tables i d).pages
 unfolding has_page
 page_inside p seg page i d at has =
     ltb-true page (get_or p.tables i d).pages (sym (ap (λ t. has_page_in t page) (found p.tables seg i d at).2) ∙ has)
 
 -- a table has the words of a page of it
-pub page_room : (p : PagerFields) (seg page i : ℕ) (d : TableFields) → IsPager p → position (is_of seg) p.tables ≡ Some i
+pub page_room : (p : PagerFields) (seg page i : ℕ) (d : TableFields) → IsPager p → position (is_table_of seg) p.tables ≡ Some i
     → has_page p seg page ≡ true → 1024 * page + 1024 ≤ length (get_or p.tables i d).words
 page_room p seg page i d pager at has =
     let is = found p.tables seg i d at in

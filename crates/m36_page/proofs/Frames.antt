@@ -10,7 +10,7 @@ use Rattle.m36_page.specs.Fields.{TableFields, PagerFields}
 use Rattle.m36_page.specs.Changes.{is_pinned, OnlyMarkCleared}
 use Rattle.m36_page.specs.Choice.{ClearsMarksAt, IsHeldSpot, AreInCore}
 use Rattle.std.specs.Bool.{then_some}
-use Rattle.m36_page.specs.Residence.{has_page, spot_of, kept_word, absent_ptw, resident_ptw, frame_in, frame_of, word_in, page_word, content_of, Holds, IsPager, NamesFrame, Reads, HasFrames, IsConsistent}
+use Rattle.m36_page.specs.Residence.{has_page, spot_of, kept_word, absent_ptw, resident_ptw, frame_in, frame_of, word_in, page_word, content_of, Holds, IsPager, NamesFrame, AgreesWithCore, HasFrames, IsConsistent}
 
 -- ---- page table words
 

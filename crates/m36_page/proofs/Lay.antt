@@ -8,9 +8,9 @@ use Rattle.m36_model.specs.Core.{unmarked}
 use Rattle.m36_page.specs.declared.table.PageTable.{PageTable}
 use Rattle.m36_page.specs.Fields.{TableFields, PagerFields}
 use Rattle.m36_page.specs.Copied.{IsFilled}
-use Rattle.m36_page.specs.Residence.{is_of, has_page, spot_of, absent_ptw, Holds, IsPager, Reads, HasFrames}
+use Rattle.m36_page.specs.Residence.{is_table_of, has_page, spot_of, absent_ptw, Holds, IsPager, AgreesWithCore, HasFrames}
 use Rattle.m36_page.specs.Changes.{IsTableWord, AreAbsent, AllEmpty}
-use Rattle.m36_page.specs.Given.{table_given, pager_given, are_placed}
+use Rattle.m36_page.specs.Given.{filled_table, initial_pager, are_placed}
 use Rattle.m36_page.proofs.Frames.{absent_unmarked}
 use Rattle.m36_page.proofs.Tables.{found, placed}
 use Rattle.m36_page.proofs.Built.{has_table, spot_by, page_inside}
@@ -84,7 +84,7 @@ room_at tables core mid i t room lt is size =
 none_table : TableFields
 none_table = record { seg = 0; at = 0; pages = 0; words = [] }
 
-laid_page : (p : PagerFields) (core now : List ℕ) (s q i : ℕ) → position (is_of s) p.tables ≡ Some i → has_page p s q ≡ true
+laid_page : (p : PagerFields) (core now : List ℕ) (s q i : ℕ) → position (is_table_of s) p.tables ≡ Some i → has_page p s q ≡ true
     → AreAbsent p.tables (length p.tables) core now → unmarked (get_or now (spot_of p s q) 0) ≡ absent_ptw
 laid_page p core now s q i at has laid =
     let is = found p.tables s i none_table at in
@@ -94,23 +94,23 @@ laid_page p core now s q i at has laid =
     ∙ ap unmarked (laid.absent i (get_or p.tables i none_table) q is.0 here inside) ∙ absent_unmarked
 
 -- after laying, the page table words are those of pages in no frame
-pub laid_reads : (p : PagerFields) (core now : List ℕ) → AllEmpty p → AreAbsent p.tables (length p.tables) core now → Reads p now
-laid_reads p core now empty laid = record {
+pub laid_reads : (p : PagerFields) (core now : List ℕ) → AllEmpty p → AreAbsent p.tables (length p.tables) core now → AgreesWithCore p now
+laid_reads p core now empty_frame laid = record {
   pages = λ s q has.
-      let at = position_some p.tables s (position (is_of s) p.tables) refl (placed p.tables s (has_table p s q has)) in
+      let at = position_some p.tables s (position (is_table_of s) p.tables) refl (placed p.tables s (has_table p s q has)) in
       inl (laid_page p core now s q at.0 at.1 has laid);
-  frames = λ k s q h. absurd (empty k s q h);
+  frames = λ k s q h. absurd (empty_frame k s q h);
 }
 
 -- ---- a pager that was given
 
-pub empty_given : (first frames : ℕ) (tables : List PageTable) → AllEmpty (pager_given first frames tables)
+pub empty_given : (first frames : ℕ) (tables : List PageTable) → AllEmpty (initial_pager first frames tables)
 empty_given first frames tables k s q h = never_held first frames tables k s q h
 
 pub below_given : (first : ℕ) (tables : List PageTable) → are_placed first tables ≡ true
-    → All (λ (t : TableFields). t.at + t.pages ≤ 1024 * first) (map table_given tables)
+    → All (λ (t : TableFields). t.at + t.pages ≤ 1024 * first) (map filled_table tables)
 below_given first [] e = All-nil (λ (t : TableFields). t.at + t.pages ≤ 1024 * first)
 below_given first (t ∷ tables) e =
     let parts = split first t tables e in
-    All-cons (λ (t : TableFields). t.at + t.pages ≤ 1024 * first) (table_given t) (map table_given tables)
+    All-cons (λ (t : TableFields). t.at + t.pages ≤ 1024 * first) (filled_table t) (map filled_table tables)
     (below_end first t parts.0).0 (below_given first tables parts.2)

@@ -3,14 +3,14 @@ use Rattle.std.proofs.Common.{ℕ, ◌≡◌, ◌≢◌, ◌+◌, ◌-◌, ◌*�
 use Rattle.std.proofs.lemmas.Bool.{cases_eq, cases_lt}
 use Rattle.m36_model.specs.Core.{unmarked}
 use Rattle.m36_page.specs.Fields.{TableFields, PagerFields}
-use Rattle.m36_page.specs.Residence.{has_page, spot_of, kept_word, absent_ptw, resident_ptw, frame_in, frame_of, word_in, page_word, content_of, Holds, IsPager, NamesFrame, Reads, HasFrames, IsConsistent}
-use Rattle.m36_page.specs.Changes.{IsSameShape, IsPtwPlace, IsPaged, KeepsContents}
-use Rattle.m36_page.specs.Moved.{IsEvicted, IsBroughtIn}
+use Rattle.m36_page.specs.Residence.{has_page, spot_of, kept_word, absent_ptw, resident_ptw, frame_in, frame_of, word_in, page_word, content_of, Holds, IsPager, NamesFrame, AgreesWithCore, HasFrames, IsConsistent}
+use Rattle.m36_page.specs.Changes.{IsSameShape, IsPtwPlace, IsChangeable, KeepsContents}
+use Rattle.m36_page.specs.Moved.{IsEvicted, IsTakenIn}
 use Rattle.m36_page.proofs.Frames.{frame_absent, frame_resident, absent_unmarked, resident_unmarked, bounded, IsIn, IsOut, whereabouts, content_same, word_stays}
 
 -- ---- `KeepsContents` twice
 
-paged_back : (a : PagerFields) (ac : List ℕ) (b : PagerFields) (bc : List ℕ) → KeepsContents a ac b bc → (x : ℕ) → IsPaged b x → IsPaged a x
+paged_back : (a : PagerFields) (ac : List ℕ) (b : PagerFields) (bc : List ℕ) → KeepsContents a ac b bc → (x : ℕ) → IsChangeable b x → IsChangeable a x
 paged_back a ac b bc one x paged =
     elim paged [
       | inl spot ↦
@@ -59,7 +59,7 @@ no_spot p a pager above spot =
     let is = spot.is in
     absurd (omega (arith, below, is, above))
 
-marks_reads : (p : PagerFields) (core now : List ℕ) → Reads p core → AreMarks p core now → Reads p now
+marks_reads : (p : PagerFields) (core now : List ℕ) → AgreesWithCore p core → AreMarks p core now → AgreesWithCore p now
 marks_reads p core now reads marks = record {
   pages = λ seg page has.
       elim (reads.pages seg page has) [
@@ -157,7 +157,7 @@ away_out p core new now k seg page away =
     frame_absent (get_or now (spot_of new seg page) 0) (ap unmarked word ∙ absent_unmarked)
 
 -- a page is held by at most one frame
-pub one_frame : (p : PagerFields) (core : List ℕ) (k j seg page : ℕ) → Reads p core → Holds p k seg page → Holds p j seg page → k ≡ j
+pub one_frame : (p : PagerFields) (core : List ℕ) (k j seg page : ℕ) → AgreesWithCore p core → Holds p k seg page → Holds p j seg page → k ≡ j
 one_frame p core k j seg page reads h i =
     let a = reads.frames k seg page h in
     let b = reads.frames j seg page i in
@@ -167,7 +167,7 @@ same_some : (a b : ℕ × ℕ) → Some a ≡ Some b → a ≡ b
 same_some a b e = cc
 
 away_reads : (p : PagerFields) (core : List ℕ) (new : PagerFields) (now : List ℕ) (k seg page : ℕ)
-    → IsConsistent p core → IsEvicted p core new now k seg page → Reads new now
+    → IsConsistent p core → IsEvicted p core new now k seg page → AgreesWithCore new now
 away_reads p core new now k seg page settled away = record {
   pages = λ s q has'.
       let has : has_page p s q ≡ true = sym (away.shape.pages s q) ∙ has' in
@@ -269,7 +269,7 @@ taken_few p core k s inside =
     omega (arith, inside, room, most)
 
 taken_word : (p : PagerFields) (core : List ℕ) (new : PagerFields) (now : List ℕ) (k seg page s q : ℕ)
-    → IsConsistent p core → IsBroughtIn p core new now k seg page → has_page p s q ≡ true → ((s ≡ seg) × (q ≡ page) → ⊥)
+    → IsConsistent p core → IsTakenIn p core new now k seg page → has_page p s q ≡ true → ((s ≡ seg) × (q ≡ page) → ⊥)
     → get_or now (spot_of new s q) 0 ≡ get_or core (spot_of p s q) 0
 taken_word p core new now k seg page s q settled taken has other =
     let below = settled.pager.below s q has in
@@ -277,19 +277,19 @@ taken_word p core new now k seg page s q settled taken has other =
     ∙ taken.others (spot_of p s q) (other_spot p s q seg page settled.pager has taken.has other) (inl (omega (arith, below)))
 
 pub taken_frame : (p : PagerFields) (core : List ℕ) (new : PagerFields) (now : List ℕ) (k seg page s q : ℕ)
-    → IsConsistent p core → IsBroughtIn p core new now k seg page → has_page p s q ≡ true → ((s ≡ seg) × (q ≡ page) → ⊥)
+    → IsConsistent p core → IsTakenIn p core new now k seg page → has_page p s q ≡ true → ((s ≡ seg) × (q ≡ page) → ⊥)
     → frame_of new now s q ≡ frame_of p core s q
 unfolding frame_of
 taken_frame p core new now k seg page s q settled taken has other =
     ap frame_in (taken_word p core new now k seg page s q settled taken has other)
 
-taken_spot : (p : PagerFields) (core : List ℕ) (new : PagerFields) (now : List ℕ) (k seg page : ℕ) → IsBroughtIn p core new now k seg page
+taken_spot : (p : PagerFields) (core : List ℕ) (new : PagerFields) (now : List ℕ) (k seg page : ℕ) → IsTakenIn p core new now k seg page
     → unmarked (get_or now (spot_of new seg page) 0) ≡ resident_ptw (p.first + k)
 taken_spot p core new now k seg page taken =
     ap (λ a. unmarked (get_or now a 0)) (taken.shape.spots seg page) ∙ ap unmarked taken.spot ∙ resident_unmarked (p.first + k)
 
 pub taken_in : (p : PagerFields) (core : List ℕ) (new : PagerFields) (now : List ℕ) (k seg page : ℕ)
-    → IsConsistent p core → IsBroughtIn p core new now k seg page → frame_of new now seg page ≡ Some (p.first + k)
+    → IsConsistent p core → IsTakenIn p core new now k seg page → frame_of new now seg page ≡ Some (p.first + k)
 unfolding frame_of
 taken_in p core new now k seg page s taken =
     frame_resident (get_or now (spot_of new seg page) 0) (p.first + k) (taken_few p core k s taken.inside)
@@ -297,7 +297,7 @@ taken_in p core new now k seg page s taken =
 
 -- a page that is in a frame is not the one that is taken in
 pub taken_other : (p : PagerFields) (core : List ℕ) (new : PagerFields) (now : List ℕ) (k seg page s q frame : ℕ)
-    → IsBroughtIn p core new now k seg page → frame_of p core s q ≡ Some frame → (s ≡ seg) × (q ≡ page) → ⊥
+    → IsTakenIn p core new now k seg page → frame_of p core s q ≡ Some frame → (s ≡ seg) × (q ≡ page) → ⊥
 taken_other p core new now k seg page s q frame taken e same =
     let out = taken.out in
     let is : frame_of p core seg page ≡ Some frame =
@@ -305,7 +305,7 @@ taken_other p core new now k seg page s q frame taken e same =
     absurd (cc)
 
 taken_reads : (p : PagerFields) (core : List ℕ) (new : PagerFields) (now : List ℕ) (k seg page : ℕ)
-    → IsConsistent p core → IsBroughtIn p core new now k seg page → Reads new now
+    → IsConsistent p core → IsTakenIn p core new now k seg page → AgreesWithCore new now
 taken_reads p core new now k seg page settled taken = record {
   pages = λ s q has'.
       let has : has_page p s q ≡ true = sym (taken.shape.pages s q) ∙ has' in
@@ -348,7 +348,7 @@ taken_reads p core new now k seg page settled taken = record {
 }
 
 pub taken_settled : (p : PagerFields) (core : List ℕ) (new : PagerFields) (now : List ℕ) (k seg page : ℕ)
-    → IsConsistent p core → IsBroughtIn p core new now k seg page → IsConsistent new now
+    → IsConsistent p core → IsTakenIn p core new now k seg page → IsConsistent new now
 taken_settled p core new now k seg page s taken =
     let size = taken.size in
     let first = taken.shape.first in
@@ -364,15 +364,15 @@ taken_settled p core new now k seg page s taken =
 
 -- another page is in another frame
 taken_apart : (p : PagerFields) (core : List ℕ) (new : PagerFields) (now : List ℕ) (k seg page j s q : ℕ)
-    → IsBroughtIn p core new now k seg page → Holds p j s q → j ≢ k
+    → IsTakenIn p core new now k seg page → Holds p j s q → j ≢ k
 taken_apart p core new now k seg page j s q taken h = λ same.
     let P : ℕ → Type 0 = λ x. get_or p.holders x None ≡ Some (s, q) in
     let at : get_or p.holders k None ≡ Some (s, q) = subst P same h in
-    let empty = taken.empty in
+    let empty_frame = taken.empty_frame in
     absurd (cc)
 
 pub taken_kept : (p : PagerFields) (core : List ℕ) (new : PagerFields) (now : List ℕ) (k seg page : ℕ)
-    → IsConsistent p core → IsBroughtIn p core new now k seg page → KeepsContents p core new now
+    → IsConsistent p core → IsTakenIn p core new now k seg page → KeepsContents p core new now
 unfolding page_word
 taken_kept p core new now k seg page s taken =
     let spot_below = s.pager.below seg page taken.has in

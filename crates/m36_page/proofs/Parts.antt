@@ -11,11 +11,11 @@ use Rattle.m36_model.specs.Core.{unmarked}
 use Rattle.m36_model.specs.declared.place.Reference.{Reference}
 use Rattle.m36_page.specs.Fields.{TableFields, PagerFields}
 use Rattle.m36_page.specs.Copied.{IsCopied}
-use Rattle.m36_page.specs.Choice.{IsFree, ArePinned, IsHeldSpot, ClearsMarksAt, AreInCore}
+use Rattle.m36_page.specs.Choice.{IsUnpinned, ArePinned, IsHeldSpot, ClearsMarksAt, AreInCore}
 use Rattle.std.specs.Bool.{then_some}
-use Rattle.m36_page.specs.Residence.{is_of, table_of, has_page_in, has_page, spot_of, kept_word, word_in, page_word, content_of, absent_ptw, resident_ptw, frame_in, frame_of, Holds, IsPager, Reads, HasFrames, IsConsistent, IsInside}
-use Rattle.m36_page.specs.Changes.{IsPtwPlace, KeepsContents, is_to, is_pinned, AllPinned, Stays, IsFreeSpot, OnlyMarkCleared, IsBrought}
-use Rattle.m36_page.specs.Moved.{HasWords, IsEvicted, IsBroughtIn, IsEmptied}
+use Rattle.m36_page.specs.Residence.{is_table_of, table_of, has_page_in, has_page, spot_of, kept_word, word_in, page_word, content_of, absent_ptw, resident_ptw, frame_in, frame_of, Holds, IsPager, AgreesWithCore, HasFrames, IsConsistent, HasPtwPlaces}
+use Rattle.m36_page.specs.Changes.{IsPtwPlace, KeepsContents, refers_to_page, is_pinned, AllPinned, Stays, IsUnpinnedPtwPlace, OnlyMarkCleared, IsBrought}
+use Rattle.m36_page.specs.Moved.{HasWords, IsEvicted, IsTakenIn, IsEmptied}
 use Rattle.m36_page.proofs.Frames.{held_inside, unused_unmarked, marked_as}
 use Rattle.m36_page.proofs.Tables.{found, words_were}
 use Rattle.m36_page.proofs.Moves.{kept_then, marks_kept, marks_settled, marks_frame, AreMarks, resident_frame, frame_range, taken_kept, taken_settled, taken_in, taken_frame, taken_other}
@@ -30,7 +30,7 @@ settled_parts p q core e s = let P : PagerFields → Type 0 = λ x. IsConsistent
 -- ---- the choice
 
 pub held_spots : (first : ℕ) (holders hs : List (Option (ℕ × ℕ))) (spots sp : List ℕ) (tables : List TableFields) (p : PagerFields) (core : List ℕ)
-    → parts first holders tables ≡ p → hs ≡ holders → sp ≡ spots → IsInside (parts first holders tables) spots → IsConsistent p core
+    → parts first holders tables ≡ p → hs ≡ holders → sp ≡ spots → HasPtwPlaces (parts first holders tables) spots → IsConsistent p core
     → AreInCore hs sp core
 held_spots first holders hs spots sp tables p core e same same' inside s k held holds =
     let q : PagerFields = parts first holders tables in
@@ -42,13 +42,13 @@ held_spots first holders hs spots sp tables p core e same same' inside s k held 
     omega (arith, is, below, room)
 
 pub marks_parts : (refs : List Reference) (first : ℕ) (holders hs : List (Option (ℕ × ℕ))) (spots sp : List ℕ) (tables : List TableFields) (p : PagerFields) (core now : List ℕ)
-    → parts first holders tables ≡ p → hs ≡ holders → sp ≡ spots → IsInside (parts first holders tables) spots
-    → ClearsMarksAt core now (IsHeldSpot refs hs sp) → ClearsMarksAt core now (IsFreeSpot p refs)
+    → parts first holders tables ≡ p → hs ≡ holders → sp ≡ spots → HasPtwPlaces (parts first holders tables) spots
+    → ClearsMarksAt core now (IsHeldSpot refs hs sp) → ClearsMarksAt core now (IsUnpinnedPtwPlace p refs)
 marks_parts refs first holders hs spots sp tables p core now e same same' inside marks =
     let q : PagerFields = parts first holders tables in
-    let P : PagerFields → Type 0 = λ x. ClearsMarksAt core now (IsFreeSpot x refs) in
+    let P : PagerFields → Type 0 = λ x. ClearsMarksAt core now (IsUnpinnedPtwPlace x refs) in
     subst P e
-    (marked_as core now (IsHeldSpot refs hs sp) (IsFreeSpot q refs)
+    (marked_as core now (IsHeldSpot refs hs sp) (IsUnpinnedPtwPlace q refs)
     (λ a h.
     let holds : Holds q h.k h.held.0 h.held.1 = sym (ap (λ x. get_or x h.k None) same) ∙ h.holds in
     record {
@@ -77,33 +77,33 @@ place_needed first holders tables ts p seg page e same has =
     subst P (sym (same ∙ ap (λ (x : PagerFields). x.tables) e)) (has_table p seg page has)
 
 pub spot_is : (first : ℕ) (holders : List (Option (ℕ × ℕ))) (tables ts : List TableFields) (p : PagerFields) (seg page i at : ℕ) (t : TableFields)
-    → parts first holders tables ≡ p → ts ≡ tables → position (is_of seg) ts ≡ Some i → t ≡ get_or tables i t → at ≡ t.at
+    → parts first holders tables ≡ p → ts ≡ tables → position (is_table_of seg) ts ≡ Some i → t ≡ get_or tables i t → at ≡ t.at
     → at + page ≡ spot_of p seg page
 spot_is first holders tables ts p seg page i at t e same place item is =
     let q : PagerFields = parts first holders tables in
-    let found = spot_by q seg page i t (sym (ap (position (is_of seg)) same) ∙ place) in
+    let found = spot_by q seg page i t (sym (ap (position (is_table_of seg)) same) ∙ place) in
     let here : at ≡ (get_or tables i t).at = is ∙ ap (λ (x : TableFields). x.at) item in
     ap (λ n. n + page) here ∙ sym found ∙ ap (λ x. spot_of x seg page) e
 
 pub pager_parts : (first : ℕ) (holders : List (Option (ℕ × ℕ))) (tables : List TableFields) (p : PagerFields) (spots : List ℕ)
-    → parts first holders tables ≡ p → IsInside (parts first holders tables) spots → IsPager p
+    → parts first holders tables ≡ p → HasPtwPlaces (parts first holders tables) spots → IsPager p
 pager_parts first holders tables p spots e inside = subst IsPager e inside.pager
 
 pub room_is : (first : ℕ) (holders : List (Option (ℕ × ℕ))) (tables ts : List TableFields) (p : PagerFields) (seg page i : ℕ) (t : TableFields)
-    → parts first holders tables ≡ p → ts ≡ tables → position (is_of seg) ts ≡ Some i → t ≡ get_or tables i t → IsPager p
+    → parts first holders tables ≡ p → ts ≡ tables → position (is_table_of seg) ts ≡ Some i → t ≡ get_or tables i t → IsPager p
     → has_page p seg page ≡ true → 1024 * page + 1024 ≤ length t.words
 room_is first holders tables ts p seg page i t e same place item pager has =
     let q : PagerFields = parts first holders tables in
     let pager' : IsPager q = subst IsPager (sym e) pager in
     let has' : has_page q seg page ≡ true = ap (λ x. has_page x seg page) e ∙ has in
-    let room = page_room q seg page i t pager' (sym (ap (position (is_of seg)) same) ∙ place) has' in
+    let room = page_room q seg page i t pager' (sym (ap (position (is_table_of seg)) same) ∙ place) has' in
     let words : length t.words ≡ length (get_or tables i t).words = ap (λ (x : TableFields). length x.words) item in
     omega (arith, room, words)
 
 -- ---- the private part
 
 pub inside_away : (p : PagerFields) (core : List ℕ) (new : PagerFields) (now : List ℕ) (k seg page : ℕ) (spots : List ℕ)
-    → IsInside p spots → IsEvicted p core new now k seg page → IsInside new spots
+    → HasPtwPlaces p spots → IsEvicted p core new now k seg page → HasPtwPlaces new spots
 inside_away p core new now k seg page spots inside away = record {
   pager = away.words;
   count = inside.count ∙ sym away.shape.frames;
@@ -111,7 +111,7 @@ inside_away p core new now k seg page spots inside away = record {
 }
 
 pub inside_taken : (p : PagerFields) (core : List ℕ) (new : PagerFields) (now : List ℕ) (k seg page : ℕ) (spots : List ℕ) (spot : ℕ)
-    → IsInside p spots → IsBroughtIn p core new now k seg page → spot ≡ spot_of p seg page → IsInside new (set spots k spot)
+    → HasPtwPlaces p spots → IsTakenIn p core new now k seg page → spot ≡ spot_of p seg page → HasPtwPlaces new (set spots k spot)
 inside_taken p core new now k seg page spots spot inside taken is = record {
   pager = taken.words;
   count = length-set spots k spot ∙ inside.count ∙ sym taken.shape.frames;
@@ -127,7 +127,7 @@ inside_taken p core new now k seg page spots spot inside taken is = record {
             let other : j ≢ k = λ equal.
             let P : ℕ → Type 0 = λ n. get_or p.holders n None ≡ Some (s, q) in
             let at : get_or p.holders k None ≡ Some (s, q) = subst P equal from in
-            let empty = taken.empty in
+            let empty_frame = taken.empty_frame in
             absurd (cc) in
             get_or-set_other spots k j spot 0 other ∙ inside.spots j s q from ∙ sym (taken.shape.spots s q)
       ];
@@ -182,13 +182,13 @@ brought_same p core seg page refs resident = record {
   others_kept = λ x w out. refl;
 }
 
-pub settled_by : (p : PagerFields) (core : List ℕ) → IsPager p → Reads p core → HasFrames p core → length core ≤ 2 ^ 24 → IsConsistent p core
+pub settled_by : (p : PagerFields) (core : List ℕ) → IsPager p → AgreesWithCore p core → HasFrames p core → length core ≤ 2 ^ 24 → IsConsistent p core
 settled_by p core pager reads frames most = record { pager = pager; reads = reads; frames = frames; most = most }
 
-free_spot : (p : PagerFields) (refs : List Reference) (a : ℕ) → IsPager p → IsFreeSpot p refs a → IsPtwPlace p a
+free_spot : (p : PagerFields) (refs : List Reference) (a : ℕ) → IsPager p → IsUnpinnedPtwPlace p refs a → IsPtwPlace p a
 free_spot p refs a pager f = record { seg = f.seg; page = f.page; has = pager.held f.k f.seg f.page f.holds; is = f.is }
 
-pub marks_of : (p : PagerFields) (refs : List Reference) (core now : List ℕ) → IsPager p → ClearsMarksAt core now (IsFreeSpot p refs) → AreMarks p core now
+pub marks_of : (p : PagerFields) (refs : List Reference) (core now : List ℕ) → IsPager p → ClearsMarksAt core now (IsUnpinnedPtwPlace p refs) → AreMarks p core now
 marks_of p refs core now pager m = record {
   size = m.size;
   unmarks = λ a. elim (m.each a) [ inl e ↦ ap unmarked e | inr e ↦ ap unmarked e.1 ∙ unused_unmarked (get_or core a 0) ];
@@ -196,12 +196,12 @@ marks_of p refs core now pager m = record {
 }
 
 -- a page of a reference is not in a frame that may be taken
-unpinned : (p : PagerFields) (refs : List Reference) (k i : ℕ) (d : Reference) → i < length refs → IsFree refs p.holders k
+unpinned : (p : PagerFields) (refs : List Reference) (k i : ℕ) (d : Reference) → i < length refs → IsUnpinned refs p.holders k
     → Holds p k (get_or refs i d).at.seg ((get_or refs i d).at.word / 1024) → ⊥
 unpinned p refs k i d below free holds =
     let e : Reference = get_or refs i d in
-    let here : is_to (e.at.seg, e.at.word / 1024) e ≡ true = and_from _ _ (eq-eqb e.at.seg e.at.seg refl) (eq-eqb (e.at.word / 1024) (e.at.word / 1024) refl) in
-    let any : list_any (is_to (e.at.seg, e.at.word / 1024)) refs ≡ true = list_any_at (is_to (e.at.seg, e.at.word / 1024)) refs i d below here in
+    let here : refers_to_page (e.at.seg, e.at.word / 1024) e ≡ true = and_from _ _ (eq-eqb e.at.seg e.at.seg refl) (eq-eqb (e.at.word / 1024) (e.at.word / 1024) refl) in
+    let any : list_any (refers_to_page (e.at.seg, e.at.word / 1024)) refs ≡ true = list_any_at (refers_to_page (e.at.seg, e.at.word / 1024)) refs i d below here in
     let pinned : is_pinned refs (get_or p.holders k None) ≡ true = ap (λ h. is_pinned refs h) holds ∙ any in
     let none = free.free in
     absurd (cc)
@@ -216,7 +216,7 @@ held_other p core k s q seg page settled holds out same =
 
 -- the page table word of the page that was evicted
 brought_away : (p : PagerFields) (core mid : List ℕ) (gone : PagerFields) (left : List ℕ) (new : PagerFields) (now : List ℕ) (k seg page s q : ℕ)
-    → IsConsistent p core → IsEmptied p mid gone left k → IsBroughtIn gone left new now k seg page
+    → IsConsistent p core → IsEmptied p mid gone left k → IsTakenIn gone left new now k seg page
     → frame_of p core seg page ≡ None → Holds p k s q → get_or now (spot_of p s q) 0 ≡ absent_ptw
 brought_away p core mid gone left new now k seg page s q settled emptied taken out holds =
     let shape = emptied.kept.shape in
@@ -230,10 +230,10 @@ brought_away p core mid gone left new now k seg page s q settled emptied taken o
 
 -- a word that is neither in the frame nor a page table word of the two pages
 brought_word : (p : PagerFields) (core mid : List ℕ) (gone : PagerFields) (left : List ℕ) (new : PagerFields) (now : List ℕ) (k seg page : ℕ) (refs : List Reference) (a : ℕ)
-    → ClearsMarksAt core mid (IsFreeSpot p refs) → IsEmptied p mid gone left k → IsBroughtIn gone left new now k seg page
+    → ClearsMarksAt core mid (IsUnpinnedPtwPlace p refs) → IsEmptied p mid gone left k → IsTakenIn gone left new now k seg page
     → a ≢ spot_of p seg page → ((s q : ℕ) → Holds p k s q → a ≢ spot_of p s q)
     → (a < 1024 * (p.first + k)) ⊎ (1024 * (p.first + k) + 1024 ≤ a)
-    → OnlyMarkCleared (IsFreeSpot p refs) core now a
+    → OnlyMarkCleared (IsUnpinnedPtwPlace p refs) core now a
 brought_word p core mid gone left new now k seg page refs a marks emptied taken other others range =
     let shape = emptied.kept.shape in
     let R : ℕ → Type 0 = λ n. (a < 1024 * (n + k)) ⊎ (1024 * (n + k) + 1024 ≤ a) in
@@ -242,8 +242,8 @@ brought_word p core mid gone left new now k seg page refs a marks emptied taken 
     elim (marks.each a) [ inl e ↦ inl (still ∙ e) | inr e ↦ inr (e.0, still ∙ e.1) ]
 
 pub brought : (p : PagerFields) (core mid : List ℕ) (gone : PagerFields) (left : List ℕ) (new : PagerFields) (now : List ℕ) (k seg page : ℕ) (refs : List Reference)
-    → IsConsistent p core → ClearsMarksAt core mid (IsFreeSpot p refs) → IsEmptied p mid gone left k → IsBroughtIn gone left new now k seg page
-    → IsFree refs p.holders k
+    → IsConsistent p core → ClearsMarksAt core mid (IsUnpinnedPtwPlace p refs) → IsEmptied p mid gone left k → IsTakenIn gone left new now k seg page
+    → IsUnpinned refs p.holders k
     → IsBrought p core new now seg page refs
 brought p core mid gone left new now k seg page refs s marks emptied taken free =
     let m = marks_of p refs core mid s.pager marks in
@@ -275,7 +275,7 @@ brought p core mid gone left new now k seg page refs s marks emptied taken free 
     }
 
 -- if a frame is free, not all are pinned
-pub not_pinned : (p : PagerFields) (refs : List Reference) (k : ℕ) → IsFree refs p.holders k → AllPinned p refs → ⊥
+pub not_pinned : (p : PagerFields) (refs : List Reference) (k : ℕ) → IsUnpinned refs p.holders k → AllPinned p refs → ⊥
 not_pinned p refs k free all =
     let pinned : is_pinned refs (get_or p.holders k None) ≡ true =
     All-get_or (λ h. is_pinned refs h ≡ true) p.holders k None free.inside all in
@@ -286,8 +286,8 @@ not_pinned p refs k free all =
 
 pub away_parts : (first : ℕ) (holders : List (Option (ℕ × ℕ))) (spots : List ℕ) (tables ts : List TableFields) (p : PagerFields) (core now : List ℕ)
     (k seg page i spot : ℕ) (t t' : TableFields)
-    → parts first holders tables ≡ p → IsInside (parts first holders tables) spots → IsConsistent p core → Holds p k seg page
-    → ts ≡ tables → position (is_of seg) ts ≡ Some i → t ≡ get_or tables i t
+    → parts first holders tables ≡ p → HasPtwPlaces (parts first holders tables) spots → IsConsistent p core → Holds p k seg page
+    → ts ≡ tables → position (is_table_of seg) ts ≡ Some i → t ≡ get_or tables i t
     → IsCopied core (1024 * (first + k)) t.words (1024 * page) t'.words → t' ≡ (record t { words = t'.words })
     → spot ≡ get_or spots k spot → now ≡ set core spot absent_ptw
     → IsEvicted p core (parts first (set holders k None) (set tables i t')) now k seg page
@@ -299,7 +299,7 @@ away_parts first holders spots tables ts p core now k seg page i spot t t' e ins
     let held' : Holds q k seg page = subst H (sym e) held in
     let C : TableFields → Type 0 = λ x. IsCopied core (1024 * (first + k)) x.words (1024 * page) t'.words in
     let has : HasWords q new seg i t t'.words = record {
-      at = sym (ap (position (is_of seg)) same) ∙ place;
+      at = sym (ap (position (is_table_of seg)) same) ∙ place;
       tables = ap (λ x. set tables i x) (others ∙ ap (λ (x : TableFields). record x { words = t'.words }) item);
     } in
     let count = inside.count in
@@ -316,29 +316,29 @@ pub taken_parts : (first : ℕ) (holders : List (Option (ℕ × ℕ))) (tables t
     (k seg page i spot : ℕ) (t : TableFields)
     → parts first holders tables ≡ p → IsConsistent p core → has_page p seg page ≡ true → frame_of p core seg page ≡ None
     → get_or p.holders k None ≡ None → k < length p.holders
-    → ts ≡ tables → position (is_of seg) ts ≡ Some i → t ≡ get_or tables i t
+    → ts ≡ tables → position (is_table_of seg) ts ≡ Some i → t ≡ get_or tables i t
     → IsCopied t.words (1024 * page) core (1024 * (first + k)) mid
     → spot ≡ spot_of p seg page → now ≡ set mid spot (resident_ptw (first + k))
-    → IsBroughtIn p core (parts first (set holders k (Some (seg, page))) tables) now k seg page
-taken_parts first holders tables ts p core mid now k seg page i spot t e s has out empty inside same place item copied at written =
+    → IsTakenIn p core (parts first (set holders k (Some (seg, page))) tables) now k seg page
+taken_parts first holders tables ts p core mid now k seg page i spot t e s has out empty_frame inside same place item copied at written =
     let q : PagerFields = parts first holders tables in
     let new : PagerFields = parts first (set holders k (Some (seg, page))) tables in
     let settled : IsConsistent q core = settled_parts p q core e s in
     let C : TableFields → Type 0 = λ x. IsCopied x.words (1024 * page) core (1024 * (first + k)) mid in
     let holders' : holders ≡ p.holders = ap (λ (x : PagerFields). x.holders) e in
     let count : length holders ≡ length p.holders = ap length holders' in
-    let A : PagerFields → Type 0 = λ x. IsBroughtIn x core new now k seg page in
+    let A : PagerFields → Type 0 = λ x. IsTakenIn x core new now k seg page in
     subst A e
     (taken_from q core new mid now k seg page i t settled (ap (λ x. has_page x seg page) e ∙ has)
-    (ap (λ x. frame_of x core seg page) e ∙ out) (ap (λ hs. get_or hs k None) holders' ∙ empty) (omega (arith, inside, count))
-    (sym (ap (position (is_of seg)) same) ∙ place) refl refl refl (subst C item copied)
+    (ap (λ x. frame_of x core seg page) e ∙ out) (ap (λ hs. get_or hs k None) holders' ∙ empty_frame) (omega (arith, inside, count))
+    (sym (ap (position (is_table_of seg)) same) ∙ place) refl refl refl (subst C item copied)
     (written ∙ ap (λ a. set mid a (resident_ptw (first + k))) (at ∙ sym (ap (λ x. spot_of x seg page) e))))
 
-pub inside_view : (q p : PagerFields) (spots : List ℕ) → q ≡ p → IsInside q spots → IsInside p spots
-inside_view q p spots e inside = let P : PagerFields → Type 0 = λ x. IsInside x spots in subst P e inside
+pub inside_view : (q p : PagerFields) (spots : List ℕ) → q ≡ p → HasPtwPlaces q spots → HasPtwPlaces p spots
+inside_view q p spots e inside = let P : PagerFields → Type 0 = λ x. HasPtwPlaces x spots in subst P e inside
 
 pub spot_below : (first : ℕ) (holders : List (Option (ℕ × ℕ))) (spots : List ℕ) (tables : List TableFields) (p : PagerFields) (core : List ℕ) (k seg page spot : ℕ)
-    → parts first holders tables ≡ p → IsInside (parts first holders tables) spots → IsConsistent p core → Holds p k seg page
+    → parts first holders tables ≡ p → HasPtwPlaces (parts first holders tables) spots → IsConsistent p core → Holds p k seg page
     → spot ≡ get_or spots k spot → spot < length core
 spot_below first holders spots tables p core k seg page spot e inside s held at =
     let q : PagerFields = parts first holders tables in
@@ -356,29 +356,29 @@ spot_below first holders spots tables p core k seg page spot e inside s held at 
 -- ---- pages and their words
 
 pub has_is : (first : ℕ) (holders : List (Option (ℕ × ℕ))) (tables ts : List TableFields) (p : PagerFields) (seg page i pages : ℕ) (t : TableFields)
-    → parts first holders tables ≡ p → ts ≡ tables → position (is_of seg) ts ≡ Some i → t ≡ get_or tables i t → pages ≡ t.pages
+    → parts first holders tables ≡ p → ts ≡ tables → position (is_table_of seg) ts ≡ Some i → t ≡ get_or tables i t → pages ≡ t.pages
     → nat_lt page pages ≡ has_page p seg page
 unfolding has_page
 has_is first holders tables ts p seg page i pages t e same place item is =
     let q : PagerFields = parts first holders tables in
     ap (λ n. nat_lt page n) (is ∙ ap (λ (x : TableFields). x.pages) item)
-    ∙ sym (ap (λ o. has_page_in o page) (found tables seg i t (sym (ap (position (is_of seg)) same) ∙ place)).2)
+    ∙ sym (ap (λ o. has_page_in o page) (found tables seg i t (sym (ap (position (is_table_of seg)) same) ∙ place)).2)
     ∙ ap (λ x. has_page x seg page) e
 
 pub has_not : (first : ℕ) (holders : List (Option (ℕ × ℕ))) (tables ts : List TableFields) (p : PagerFields) (seg page : ℕ)
-    → parts first holders tables ≡ p → ts ≡ tables → position (is_of seg) ts ≡ None → false ≡ has_page p seg page
+    → parts first holders tables ≡ p → ts ≡ tables → position (is_table_of seg) ts ≡ None → false ≡ has_page p seg page
 unfolding has_page table_of
 has_not first holders tables ts p seg page e same place =
-    sym (ap (λ o. has_page_in (option_and_then (slice_get tables) o) page) (sym (ap (position (is_of seg)) same) ∙ place))
+    sym (ap (λ o. has_page_in (option_and_then (slice_get tables) o) page) (sym (ap (position (is_table_of seg)) same) ∙ place))
     ∙ ap (λ x. has_page x seg page) e
 
 pub kept_is : (first : ℕ) (holders : List (Option (ℕ × ℕ))) (tables ts : List TableFields) (p : PagerFields) (seg w i v : ℕ) (t : TableFields)
-    → parts first holders tables ≡ p → ts ≡ tables → position (is_of seg) ts ≡ Some i → t ≡ get_or tables i t → v ≡ get_or t.words w 0
+    → parts first holders tables ≡ p → ts ≡ tables → position (is_table_of seg) ts ≡ Some i → t ≡ get_or tables i t → v ≡ get_or t.words w 0
     → v ≡ kept_word p seg w
 kept_is first holders tables ts p seg w i v t e same place item is =
     let q : PagerFields = parts first holders tables in
     is ∙ ap (λ (x : TableFields). get_or x.words w 0) item
-    ∙ sym (words_were q seg i t (sym (ap (position (is_of seg)) same) ∙ place) w) ∙ ap (λ x. kept_word x seg w) e
+    ∙ sym (words_were q seg i t (sym (ap (position (is_table_of seg)) same) ∙ place) w) ∙ ap (λ x. kept_word x seg w) e
 
 pub frame_told : (p : PagerFields) (core : List ℕ) (seg page spot : ℕ) (o : Option ℕ) → spot ≡ spot_of p seg page
     → o ≡ frame_in (get_or core spot 0) → frame_of p core seg page ≡ o
@@ -411,7 +411,7 @@ content_kept p core seg w has e =
     ap (λ b. then_some b (page_word p core seg w)) has ∙ ap (λ f. Some (word_in f core w (kept_word p seg w))) e
 
 -- the frame that a page table word names is in core
-pub frame_here : (p : PagerFields) (core : List ℕ) (seg page spot frame : ℕ) (o : Option ℕ) → IsPager p → Reads p core → HasFrames p core
+pub frame_here : (p : PagerFields) (core : List ℕ) (seg page spot frame : ℕ) (o : Option ℕ) → IsPager p → AgreesWithCore p core → HasFrames p core
     → length core ≤ 2 ^ 24 → has_page p seg page ≡ true → spot ≡ spot_of p seg page → o ≡ frame_in (get_or core spot 0) → o ≡ Some frame
     → 1024 * frame + 1024 ≤ length core
 frame_here p core seg page spot frame o pager reads frames most has is e some =

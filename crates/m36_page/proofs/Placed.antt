@@ -8,8 +8,8 @@ use Rattle.std.proofs.lemmas.List.Elements.{All-nil, All-cons}
 use Rattle.std.proofs.Math.Seq.{take-length}
 use Rattle.m36_page.specs.declared.table.PageTable.{PageTable}
 use Rattle.m36_page.specs.Fields.{TableFields, PagerFields}
-use Rattle.m36_page.specs.Residence.{is_of, table_of, has_page_in, spot_in, has_page, spot_of, Holds, IsPager, IsInside}
-use Rattle.m36_page.specs.Given.{table_given, pager_given, fits_below, is_apart, are_placed}
+use Rattle.m36_page.specs.Residence.{is_table_of, table_of, has_page_in, spot_in, has_page, spot_of, Holds, IsPager, HasPtwPlaces}
+use Rattle.m36_page.specs.Given.{filled_table, initial_pager, fits_below, is_apart, are_placed}
 use Rattle.m36_page.proofs.Tables.{found, placed}
 use Rattle.m36_page.proofs.Built.{has_table}
 
@@ -98,25 +98,25 @@ record IsPlaced (first frames : ℕ) (tables : List PageTable) (s q : ℕ) : Typ
   inside : i < length tables
   seg : (get_or tables i none).seg ≡ s
   page : q < (get_or tables i none).pages
-  spot : spot_of (pager_given first frames tables) s q ≡ (get_or tables i none).at + q
+  spot : spot_of (initial_pager first frames tables) s q ≡ (get_or tables i none).at + q
 
-pub position_some : (tables : List TableFields) (seg : ℕ) (o : Option ℕ) → position (is_of seg) tables ≡ o → (position (is_of seg) tables ≡ None → ⊥)
-    → (i : ℕ) × (position (is_of seg) tables ≡ Some i)
+pub position_some : (tables : List TableFields) (seg : ℕ) (o : Option ℕ) → position (is_table_of seg) tables ≡ o → (position (is_table_of seg) tables ≡ None → ⊥)
+    → (i : ℕ) × (position (is_table_of seg) tables ≡ Some i)
 position_some tables seg None e never = absurd (never e)
 position_some tables seg (Some i) e never = (i, e)
 
-placed_at : (first frames : ℕ) (tables : List PageTable) (s q : ℕ) → has_page (pager_given first frames tables) s q ≡ true
+placed_at : (first frames : ℕ) (tables : List PageTable) (s q : ℕ) → has_page (initial_pager first frames tables) s q ≡ true
     → IsPlaced first frames tables s q
 unfolding has_page spot_of none
 placed_at first frames tables s q has =
-    let p : PagerFields = pager_given first frames tables in
-    let at = position_some (map table_given tables) s (position (is_of s) (map table_given tables)) refl
-    (placed (map table_given tables) s (has_table p s q has)) in
-    let is = found (map table_given tables) s at.0 (table_given none) at.1 in
-    let inside : at.0 < length tables = let n = length-map tables table_given in omega (arith, n, is.0) in
-    let here : get_or (map table_given tables) at.0 (table_given none) ≡ table_given (get_or tables at.0 none) =
-    get_or-map table_given tables at.0 none (table_given none) inside in
-    let table : table_of (map table_given tables) s ≡ Some (table_given (get_or tables at.0 none)) = is.2 ∙ ap (λ x. Some x) here in
+    let p : PagerFields = initial_pager first frames tables in
+    let at = position_some (map filled_table tables) s (position (is_table_of s) (map filled_table tables)) refl
+    (placed (map filled_table tables) s (has_table p s q has)) in
+    let is = found (map filled_table tables) s at.0 (filled_table none) at.1 in
+    let inside : at.0 < length tables = let n = length-map tables filled_table in omega (arith, n, is.0) in
+    let here : get_or (map filled_table tables) at.0 (filled_table none) ≡ filled_table (get_or tables at.0 none) =
+    get_or-map filled_table tables at.0 none (filled_table none) inside in
+    let table : table_of (map filled_table tables) s ≡ Some (filled_table (get_or tables at.0 none)) = is.2 ∙ ap (λ x. Some x) here in
     record {
       i = at.0;
       inside = inside;
@@ -136,7 +136,7 @@ apart_ends a b e =
     (or_cases (nat_le (a.at + a.pages) b.at) (nat_le (b.at + b.pages) a.at) e)
 
 whole_words : (first : ℕ) (tables : List PageTable) → are_placed first tables ≡ true
-    → All (λ (t : TableFields). length t.words ≡ 1024 * t.pages) (map table_given tables)
+    → All (λ (t : TableFields). length t.words ≡ 1024 * t.pages) (map filled_table tables)
 whole_words first [] e = All-nil (λ (t : TableFields). length t.words ≡ 1024 * t.pages)
 whole_words first (t ∷ tables) e =
     let parts = split first t tables e in
@@ -144,7 +144,7 @@ whole_words first (t ∷ tables) e =
     let size = length-append t.words (replicate (1024 * t.pages - length t.words) 0) in
     let nought : ℕ = 0 in
     let zeros = length-replicate (1024 * t.pages - length t.words) nought in
-    All-cons (λ (t : TableFields). length t.words ≡ 1024 * t.pages) (table_given t) (map table_given tables)
+    All-cons (λ (t : TableFields). length t.words ≡ 1024 * t.pages) (filled_table t) (map filled_table tables)
     (omega (arith, room, size, zeros)) (whole_words first tables parts.2)
 
 pub room_given : (first : ℕ) (tables : List PageTable) → are_placed first tables ≡ true → All (λ t. length t.words ≤ 1024 * t.pages) tables
@@ -153,7 +153,7 @@ room_given first (t ∷ tables) e =
     let parts = split first t tables e in
     All-cons (λ (t : PageTable). length t.words ≤ 1024 * t.pages) t tables (below_end first t parts.0).1 (room_given first tables parts.2)
 
-pub never_held : (first frames : ℕ) (tables : List PageTable) (k s q : ℕ) → Holds (pager_given first frames tables) k s q → ⊥
+pub never_held : (first frames : ℕ) (tables : List PageTable) (k s q : ℕ) → Holds (initial_pager first frames tables) k s q → ⊥
 never_held first frames tables k s q h =
     elim (cases_lt k frames) [
       | inl inside ↦ let none = get_or-replicate frames k (let o : Option (ℕ × ℕ) = None in o) None inside in absurd (cc)
@@ -166,7 +166,7 @@ never_held first frames tables k s q h =
 -- tables with a common place are one table
 one_place : (first frames : ℕ) (tables : List PageTable) (s q s' q' : ℕ) → are_placed first tables ≡ true
     → (a : IsPlaced first frames tables s q) (b : IsPlaced first frames tables s' q')
-    → spot_of (pager_given first frames tables) s q ≡ spot_of (pager_given first frames tables) s' q'
+    → spot_of (initial_pager first frames tables) s q ≡ spot_of (initial_pager first frames tables) s' q'
     → a.i ≡ b.i
 one_place first frames tables s q s' q' e a b same =
     let is = a.spot in
@@ -187,7 +187,7 @@ one_place first frames tables s q s' q' e a b same =
           ]
     ]
 
-pub pager_placed : (first frames : ℕ) (tables : List PageTable) → are_placed first tables ≡ true → IsPager (pager_given first frames tables)
+pub pager_placed : (first frames : ℕ) (tables : List PageTable) → are_placed first tables ≡ true → IsPager (initial_pager first frames tables)
 pager_placed first frames tables e = record {
   words = whole_words first tables e;
   below = λ s q has.
@@ -209,7 +209,7 @@ pager_placed first frames tables e = record {
 }
 
 pub inside_given : (first frames : ℕ) (tables : List PageTable) → are_placed first tables ≡ true
-    → IsInside (pager_given first frames tables) (replicate frames 0)
+    → HasPtwPlaces (initial_pager first frames tables) (replicate frames 0)
 inside_given first frames tables e = record {
   pager = pager_placed first frames tables e;
   count = length-replicate frames 0 ∙ sym (length-replicate frames None);
@@ -217,10 +217,10 @@ inside_given first frames tables e = record {
 }
 
 pub inside_made : (first frames : ℕ) (given : List PageTable) (holders : List (Option (ℕ × ℕ))) (spots : List ℕ) (tables : List TableFields)
-    → are_placed first given ≡ true → holders ≡ replicate frames None → spots ≡ replicate frames 0 → tables ≡ map table_given given
-    → IsInside (record { first = first; holders = holders; tables = tables }) spots
+    → are_placed first given ≡ true → holders ≡ replicate frames None → spots ≡ replicate frames 0 → tables ≡ map filled_table given
+    → HasPtwPlaces (record { first = first; holders = holders; tables = tables }) spots
 inside_made first frames given holders spots tables e h s t =
-    let P : List (Option (ℕ × ℕ)) → Type 0 = λ x. IsInside (record { first = first; holders = x; tables = tables }) spots in
-    let Q : List ℕ → Type 0 = λ x. IsInside (record { first = first; holders = replicate frames None; tables = tables }) x in
-    let R : List TableFields → Type 0 = λ x. IsInside (record { first = first; holders = replicate frames None; tables = x }) (replicate frames 0) in
+    let P : List (Option (ℕ × ℕ)) → Type 0 = λ x. HasPtwPlaces (record { first = first; holders = x; tables = tables }) spots in
+    let Q : List ℕ → Type 0 = λ x. HasPtwPlaces (record { first = first; holders = replicate frames None; tables = tables }) x in
+    let R : List TableFields → Type 0 = λ x. HasPtwPlaces (record { first = first; holders = replicate frames None; tables = x }) (replicate frames 0) in
     subst P (sym h) (subst Q (sym s) (subst R (sym t) (inside_given first frames given e)))

@@ -7,13 +7,13 @@ use Rattle.std.proofs.lemmas.List.Sums.{sum_by-cons}
 use Rattle.std.proofs.lemmas.List.Elements.{All-get_or}
 use Rattle.m36_model.specs.declared.place.Reference.{Reference}
 use Rattle.m36_page.specs.Fields.{PagerFields}
-use Rattle.m36_page.specs.Residence.{Holds, Reads}
-use Rattle.m36_page.specs.Changes.{is_to, is_pinned, AllPinned}
+use Rattle.m36_page.specs.Residence.{Holds, AgreesWithCore}
+use Rattle.m36_page.specs.Changes.{refers_to_page, is_pinned, AllPinned}
 use Rattle.m36_page.proofs.Moves.{one_frame}
 
 abbrev on : Reference → Option (ℕ × ℕ) → Bool
 on e None = false
-on e (Some h) = is_to h e
+on e (Some h) = refers_to_page h e
 
 abbrev one_of : Bool → ℕ
 one_of b = cond b 1 0
@@ -92,7 +92,7 @@ on_page e (Some h) is =
     let page : e.at.word / 1024 ≡ h.1 = eqb-true (e.at.word / 1024) h.1 both.1 in
     λ i. Some (sym seg i, sym page i)
 
-pinned_few : (p : PagerFields) (core : List ℕ) (refs : List Reference) → Reads p core
+pinned_few : (p : PagerFields) (core : List ℕ) (refs : List Reference) → AgreesWithCore p core
     → count_by (is_pinned refs) p.holders ≤ length refs
 pinned_few p core [] reads =
     let never = count_none (is_pinned []) p.holders (λ k below. pinned_none (get_or p.holders k None)) in
@@ -104,7 +104,7 @@ pinned_few p core (e ∷ refs) reads =
     let all = count_either (on e) (is_pinned refs) (is_pinned (e ∷ refs)) (pinned_cons e refs) p.holders in
     omega (arith, more, one, all)
 
-pub few_frames : (p : PagerFields) (core : List ℕ) (refs : List Reference) → Reads p core → AllPinned p refs → length p.holders ≤ length refs
+pub few_frames : (p : PagerFields) (core : List ℕ) (refs : List Reference) → AgreesWithCore p core → AllPinned p refs → length p.holders ≤ length refs
 few_frames p core refs reads all =
     let few = pinned_few p core refs reads in
     let each = count_all (is_pinned refs) p.holders (λ k below. All-get_or (λ h. is_pinned refs h ≡ true) p.holders k None below all) in

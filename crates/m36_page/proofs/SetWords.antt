@@ -6,9 +6,9 @@ use Rattle.std.proofs.lemmas.List.{get_or-set_same, get_or-set_other, length-set
 use Rattle.m36_model.specs.Core.{unmarked}
 use Rattle.m36_page.specs.Fields.{TableFields, PagerFields}
 use Rattle.std.specs.Bool.{then_some}
-use Rattle.m36_page.specs.Residence.{is_of, has_page, spot_of, kept_word, resident_ptw, frame_in, frame_of, word_in, page_word, content_of, Holds, IsPager, NamesFrame, Reads, IsConsistent, IsInside}
-use Rattle.m36_page.specs.Changes.{IsSameShape, IsPaged, IsSet}
-use Rattle.m36_page.specs.Moved.{HasWords, IsKeptWord}
+use Rattle.m36_page.specs.Residence.{is_table_of, has_page, spot_of, kept_word, resident_ptw, frame_in, frame_of, word_in, page_word, content_of, Holds, IsPager, NamesFrame, AgreesWithCore, IsConsistent, HasPtwPlaces}
+use Rattle.m36_page.specs.Changes.{IsSameShape, IsChangeable, IsSet}
+use Rattle.m36_page.specs.Moved.{HasWords, IsKeptWordSet}
 use Rattle.m36_page.proofs.Frames.{held_inside, content_same, word_stays}
 use Rattle.m36_page.proofs.Tables.{found, words_pages, words_spots, words_kept, words_were, words_others, words_whole}
 use Rattle.m36_page.proofs.Moves.{frame_range}
@@ -67,7 +67,7 @@ elsewhere p core s w seg word f frame settled has has' e e' other = λ same.
     let both : (s, w / 1024) ≡ (seg, word / 1024) = same_some (s, w / 1024) (seg, word / 1024) pair in
     other (ap (λ (x : ℕ × ℕ). x.0) both, same_word w word (ap (λ (x : ℕ × ℕ). x.1) both) low)
 
-same_reads : (p : PagerFields) (core : List ℕ) (a v : ℕ) → IsConsistent p core → 1024 * p.first ≤ a → Reads p (set core a v)
+same_reads : (p : PagerFields) (core : List ℕ) (a v : ℕ) → IsConsistent p core → 1024 * p.first ≤ a → AgreesWithCore p (set core a v)
 same_reads p core a v settled above = record {
   pages = λ s q has.
       let P : ℕ → Type 0 = λ x. NamesFrame p s q x in
@@ -85,7 +85,7 @@ some_none o f e none = cc
 
 pub set_in_frame : (p : PagerFields) (core now : List ℕ) (seg word frame v : ℕ) → IsConsistent p core → has_page p seg (word / 1024) ≡ true
     → frame_of p core seg (word / 1024) ≡ Some frame → now ≡ set core (1024 * frame + word % 1024) v
-    → IsSet p core p now seg word v × Reads p now
+    → IsSet p core p now seg word v × AgreesWithCore p now
 set_in_frame p core now seg word frame v s has e written =
     let range = frame_range p core seg (word / 1024) frame s has e in
     let is = range.1 in
@@ -95,7 +95,7 @@ set_in_frame p core now seg word frame v s has e written =
     let frames = s.frames in
     let room : 1024 * frame + word % 1024 < length core = omega (arith, is, inside, frames) in
     let after : List ℕ = set core (1024 * frame + word % 1024) v in
-    let P : List ℕ → Type 0 = λ c. IsSet p core p c seg word v × Reads p c in
+    let P : List ℕ → Type 0 = λ c. IsSet p core p c seg word v × AgreesWithCore p c in
     subst P (sym written) (
       record {
         shape = record { first = refl; frames = refl; pages = λ x q. refl; spots = λ x q. refl };
@@ -128,8 +128,8 @@ unfolding frame_of
 kept_frame p new core s q shape = ap (λ a. frame_in (get_or core a 0)) (shape.spots s q)
 
 pub set_kept : (p new : PagerFields) (core : List ℕ) (seg word v : ℕ) → IsConsistent p core → has_page p seg (word / 1024) ≡ true
-    → frame_of p core seg (word / 1024) ≡ None → IsKeptWord p new seg word v
-    → IsSet p core new core seg word v × Reads new core
+    → frame_of p core seg (word / 1024) ≡ None → IsKeptWordSet p new seg word v
+    → IsSet p core new core seg word v × AgreesWithCore new core
 set_kept p new core seg word v s has e kept = (
   record {
     shape = kept.shape;
@@ -167,7 +167,7 @@ set_kept p new core seg word v s has e kept = (
 pub kept_from : (p new : PagerFields) (seg word v i : ℕ) (d : TableFields) → IsPager p
     → word < length (get_or p.tables i d).words
     → HasWords p new seg i d (set (get_or p.tables i d).words word v) → new.first ≡ p.first → new.holders ≡ p.holders
-    → IsKeptWord p new seg word v
+    → IsKeptWordSet p new seg word v
 kept_from p new seg word v i d pager room h first holders =
     let words : List ℕ = set (get_or p.tables i d).words word v in
     let pages = words_pages p new seg i d words h in
@@ -199,22 +199,22 @@ kept_from p new seg word v i d pager room h first holders =
 
 pub kept_parts : (first : ℕ) (holders : List (Option (ℕ × ℕ))) (spots : List ℕ) (tables ts : List TableFields) (p : PagerFields)
     (seg word v i : ℕ) (t t' : TableFields)
-    → parts first holders tables ≡ p → IsInside (parts first holders tables) spots
-    → ts ≡ tables → position (is_of seg) ts ≡ Some i → t ≡ get_or tables i t → word < length t.words
+    → parts first holders tables ≡ p → HasPtwPlaces (parts first holders tables) spots
+    → ts ≡ tables → position (is_table_of seg) ts ≡ Some i → t ≡ get_or tables i t → word < length t.words
     → t' ≡ (record t { words = set t.words word v })
-    → IsKeptWord p (parts first holders (set tables i t')) seg word v
+    → IsKeptWordSet p (parts first holders (set tables i t')) seg word v
 kept_parts first holders spots tables ts p seg word v i t t' e inside same place item room others =
     let q : PagerFields = parts first holders tables in
     let new : PagerFields = parts first holders (set tables i t') in
     let words : length t.words ≡ length (get_or tables i t).words = ap (λ (x : TableFields). length x.words) item in
     let has : HasWords q new seg i t (set (get_or tables i t).words word v) = record {
-      at = sym (ap (position (is_of seg)) same) ∙ place;
+      at = sym (ap (position (is_table_of seg)) same) ∙ place;
       tables = ap (λ x. set tables i x) (others ∙ ap (λ (x : TableFields). record x { words = set x.words word v }) item);
     } in
-    let A : PagerFields → Type 0 = λ x. IsKeptWord x new seg word v in
+    let A : PagerFields → Type 0 = λ x. IsKeptWordSet x new seg word v in
     subst A e (kept_from q new seg word v i t inside.pager (omega (arith, room, words)) has refl refl)
 
-pub inside_kept : (p new : PagerFields) (seg word v : ℕ) (spots : List ℕ) → IsInside p spots → IsKeptWord p new seg word v → IsInside new spots
+pub inside_kept : (p new : PagerFields) (seg word v : ℕ) (spots : List ℕ) → HasPtwPlaces p spots → IsKeptWordSet p new seg word v → HasPtwPlaces new spots
 inside_kept p new seg word v spots inside kept = record {
   pager = kept.pager;
   count = inside.count ∙ sym kept.shape.frames;

@@ -8,7 +8,7 @@ use Rattle.std.proofs.lemmas.List.Elements.{All-set, All-get_or}
 use Rattle.std.proofs.lemmas.List.Quantifiers.{position-Some}
 use Rattle.std.proofs.lemmas.Option.{slice_get-get_or}
 use Rattle.m36_page.specs.Fields.{TableFields, PagerFields}
-use Rattle.m36_page.specs.Residence.{is_of, table_of, has_page_in, spot_in, kept_in, has_page, spot_of, kept_word, Holds, IsPager}
+use Rattle.m36_page.specs.Residence.{is_table_of, table_of, has_page_in, spot_in, kept_in, has_page, spot_of, kept_word, Holds, IsPager}
 use Rattle.m36_page.specs.Moved.{HasWords}
 
 -- a table with its words replaced
@@ -17,30 +17,30 @@ with_words t words = record t { words = words }
 
 -- the index of a table is the same as before
 place_set : (tables : List TableFields) (i seg : ℕ) (t d : TableFields) → t.seg ≡ (get_or tables i d).seg
-    → position_or_len (is_of seg) (set tables i t) ≡ position_or_len (is_of seg) tables
+    → position_or_len (is_table_of seg) (set tables i t) ≡ position_or_len (is_table_of seg) tables
 place_set [] i seg t d e = refl
-place_set (x ∷ tables) zero seg t d e = ap (λ s. cond (not (nat_eq s seg)) (1 + position_or_len (is_of seg) tables) 0) e
+place_set (x ∷ tables) zero seg t d e = ap (λ s. cond (not (nat_eq s seg)) (1 + position_or_len (is_table_of seg) tables) 0) e
 place_set (x ∷ tables) (suc i) seg t d e = ap (λ n. cond (not (nat_eq x.seg seg)) (1 + n) 0) (place_set tables i seg t d e)
 
 position_set : (tables : List TableFields) (i seg : ℕ) (t d : TableFields) → t.seg ≡ (get_or tables i d).seg
-    → position (is_of seg) (set tables i t) ≡ position (is_of seg) tables
+    → position (is_table_of seg) (set tables i t) ≡ position (is_table_of seg) tables
 position_set tables i seg t d e =
     ap (λ n. cond (nat_lt n (length (set tables i t))) (Some n) None) (place_set tables i seg t d e)
-    ∙ ap (λ n. cond (nat_lt (position_or_len (is_of seg) tables) n) (Some (position_or_len (is_of seg) tables)) None) (length-set tables i t)
+    ∙ ap (λ n. cond (nat_lt (position_or_len (is_table_of seg) tables) n) (Some (position_or_len (is_table_of seg) tables)) None) (length-set tables i t)
 
 -- the table of a segment, by its index
-pub found : (tables : List TableFields) (seg i : ℕ) (d : TableFields) → position (is_of seg) tables ≡ Some i
+pub found : (tables : List TableFields) (seg i : ℕ) (d : TableFields) → position (is_table_of seg) tables ≡ Some i
     → (i < length tables) × ((get_or tables i d).seg ≡ seg) × (table_of tables seg ≡ Some (get_or tables i d))
 unfolding table_of
 found tables seg i d at =
-    let is = position-Some (is_of seg) tables i d at in (
+    let is = position-Some (is_table_of seg) tables i d at in (
       is.0,
       eqb-true (get_or tables i d).seg seg is.1,
       ap (λ o. option_and_then (slice_get tables) o) at ∙ slice_get-get_or tables i d is.0,
     )
 
 -- the table of a segment if one table has its words replaced
-table_at : (tables : List TableFields) (seg i : ℕ) (t d : TableFields) → position (is_of seg) tables ≡ Some i → t.seg ≡ seg
+table_at : (tables : List TableFields) (seg i : ℕ) (t d : TableFields) → position (is_table_of seg) tables ≡ Some i → t.seg ≡ seg
     → table_of (set tables i t) seg ≡ Some t
 unfolding table_of
 table_at tables seg i t d at same =
@@ -59,13 +59,13 @@ other_by tables i t d (Some j) apart =
     slice_get-get_or (set tables i t) j d inside ∙ ap (λ x. Some x) (get_or-set_other tables i j t d here.1)
     ∙ sym (slice_get-get_or tables j d here.0)
 
-table_other : (tables : List TableFields) (seg s i : ℕ) (t d : TableFields) → position (is_of seg) tables ≡ Some i → t.seg ≡ seg → s ≢ seg
+table_other : (tables : List TableFields) (seg s i : ℕ) (t d : TableFields) → position (is_table_of seg) tables ≡ Some i → t.seg ≡ seg → s ≢ seg
     → table_of (set tables i t) s ≡ table_of tables s
 unfolding table_of
 table_other tables seg s i t d at same other =
     let is = found tables seg i d at in
     ap (λ o. option_and_then (slice_get (set tables i t)) o) (position_set tables i s t d (same ∙ sym is.1))
-    ∙ other_by tables i t d (position (is_of s) tables)
+    ∙ other_by tables i t d (position (is_table_of s) tables)
     (λ j e.
     let there = found tables s j d e in (
       there.0,
@@ -116,7 +116,7 @@ pub words_kept : (p new : PagerFields) (seg i : ℕ) (d : TableFields) (words : 
 unfolding kept_word
 words_kept p new seg i d words h w = ap (λ t. kept_in t w) (table_now p new seg i d words h)
 
-pub words_were : (p : PagerFields) (seg i : ℕ) (d : TableFields) → position (is_of seg) p.tables ≡ Some i
+pub words_were : (p : PagerFields) (seg i : ℕ) (d : TableFields) → position (is_table_of seg) p.tables ≡ Some i
     → (w : ℕ) → kept_word p seg w ≡ get_or (get_or p.tables i d).words w 0
 unfolding kept_word
 words_were p seg i d at w = ap (λ t. kept_in t w) (found p.tables seg i d at).2
@@ -139,9 +139,9 @@ words_whole p new seg i d words h size all =
     (All-set (λ (t : TableFields). length t.words ≡ 1024 * t.pages) p.tables i (record (get_or p.tables i d) { words = words }) (size ∙ was) all)
 
 -- the table of a segment that has one has an index
-pub placed : (tables : List TableFields) (seg : ℕ) → IsSome (table_of tables seg) → position (is_of seg) tables ≡ None → ⊥
+pub placed : (tables : List TableFields) (seg : ℕ) → IsSome (table_of tables seg) → position (is_table_of seg) tables ≡ None → ⊥
 unfolding table_of
 placed tables seg some none =
-    let is : option_and_then (slice_get tables) (position (is_of seg) tables) ≡ None = ap (λ o. option_and_then (slice_get tables) o) none in
-    let lacks : is_some (option_and_then (slice_get tables) (position (is_of seg) tables)) ≡ false = ap is_some is in
+    let is : option_and_then (slice_get tables) (position (is_table_of seg) tables) ≡ None = ap (λ o. option_and_then (slice_get tables) o) none in
+    let lacks : is_some (option_and_then (slice_get tables) (position (is_table_of seg) tables)) ≡ false = ap is_some is in
     absurd (cc)

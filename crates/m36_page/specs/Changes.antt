@@ -26,8 +26,8 @@ pub record IsPtwPlace (p : PagerFields) (a : ℕ) : Type 0 where
   pub is : spot_of p seg page ≡ a
 
 -- a core word that a call may change: a page table word, or a word of a pageable frame
-abbrev pub IsPaged : PagerFields → ℕ → Type 0
-IsPaged p a = IsPtwPlace p a ⊎ ((1024 * p.first ≤ a) × (a < 1024 * (p.first + length p.holders)))
+abbrev pub IsChangeable : PagerFields → ℕ → Type 0
+IsChangeable p a = IsPtwPlace p a ⊎ ((1024 * p.first ≤ a) × (a < 1024 * (p.first + length p.holders)))
 
 -- Pages may have moved: no content has changed, and no core word except page table words and words
 -- of pageable frames.
@@ -36,7 +36,7 @@ pub record KeepsContents (old : PagerFields) (core : List ℕ) (new : PagerField
   pub shape : IsSameShape old new
   pub size : length now ≡ length core
   pub content : (seg w : ℕ) → content_of new now seg w ≡ content_of old core seg w
-  pub others : (a : ℕ) → (IsPaged old a → ⊥) → slice_index now a ≡ slice_index core a
+  pub others : (a : ℕ) → (IsChangeable old a → ⊥) → slice_index now a ≡ slice_index core a
 
 -- frames other than frame k hold the same pages as before
 abbrev pub OthersHold : PagerFields → PagerFields → ℕ → Type 0
@@ -81,7 +81,7 @@ pub record IsSet (old : PagerFields) (core : List ℕ) (new : PagerFields) (now 
   pub here : content_of new now seg word ≡ Some v
   pub content : (s w : ℕ) → ((s ≡ seg) × (w ≡ word) → ⊥)
       → content_of new now s w ≡ content_of old core s w
-  pub others : (a : ℕ) → (IsPaged old a → ⊥) → slice_index now a ≡ slice_index core a
+  pub others : (a : ℕ) → (IsChangeable old a → ⊥) → slice_index now a ≡ slice_index core a
   pub in_frame : (frame : ℕ) → frame_of old core seg (word / 1024) ≡ Some frame
       → (new ≡ old) × (now ≡ slice_set core (1024 * frame + word % 1024) v)
   pub in_none : frame_of old core seg (word / 1024) ≡ None → now ≡ core
@@ -90,13 +90,13 @@ pub record IsSet (old : PagerFields) (core : List ℕ) (new : PagerFields) (now 
 -- ---- pinned pages
 
 -- a reference is to this page (segment and number)
-abbrev pub is_to : ℕ × ℕ → Reference → Bool
-is_to held e = nat_eq e.at.seg held.0 && nat_eq (e.at.word / 1024) held.1
+abbrev pub refers_to_page : ℕ × ℕ → Reference → Bool
+refers_to_page held e = nat_eq e.at.seg held.0 && nat_eq (e.at.word / 1024) held.1
 
 -- a frame holds a page that one of the references is to
 abbrev pub is_pinned : List Reference → Option (ℕ × ℕ) → Bool
 is_pinned refs None = false
-is_pinned refs (Some held) = list_any (is_to held) refs
+is_pinned refs (Some held) = list_any (refers_to_page held) refs
 
 -- every frame holds a page that one of the references is to
 abbrev pub AllPinned : PagerFields → List Reference → Type 0
@@ -110,7 +110,7 @@ Stays old core new now e =
 
 -- The core word `a` is the page table word of a page that is in a frame and that the references do
 -- not pin.
-pub record IsFreeSpot (p : PagerFields) (refs : List Reference) (a : ℕ) : Type 0 where
+pub record IsUnpinnedPtwPlace (p : PagerFields) (refs : List Reference) (a : ℕ) : Type 0 where
   pub k : ℕ
   pub seg : ℕ
   pub page : ℕ
@@ -142,6 +142,6 @@ pub record IsBrought (old : PagerFields) (core : List ℕ) (new : PagerFields) (
   pub words : (a : ℕ) → a ≢ spot_of old seg page
       → ((s q : ℕ) → Holds old k s q → a ≢ spot_of old s q)
       → IsOutside (1024 * (old.first + k)) 1024 a
-      → OnlyMarkCleared (IsFreeSpot old refs) core now a
+      → OnlyMarkCleared (IsUnpinnedPtwPlace old refs) core now a
   pub others_kept : (s w : ℕ) → (Holds old k s (w / 1024) → ⊥)
       → kept_word new s w ≡ kept_word old s w

@@ -7,8 +7,8 @@ use Rattle.m36_page.specs.Fields.{TableFields, PagerFields}
 
 -- the table of a pager for this page table, with a kept word for every word of its pages: missing
 -- words are zero
-abbrev pub table_given : PageTable → TableFields
-table_given t =
+abbrev pub filled_table : PageTable → TableFields
+filled_table t =
     record {
       seg = t.seg;
       at = t.at;
@@ -17,9 +17,9 @@ table_given t =
     }
 
 -- the pager over `frames` frames from frame `first` on, with these page tables
-abbrev pub pager_given : ℕ → ℕ → List PageTable → PagerFields
-pager_given first frames tables =
-    record { first = first; holders = replicate frames None; tables = map table_given tables }
+abbrev pub initial_pager : ℕ → ℕ → List PageTable → PagerFields
+initial_pager first frames tables =
+    record { first = first; holders = replicate frames None; tables = map filled_table tables }
 
 -- A table ends below a frame, and has no more words than its pages.
 abbrev pub fits_below : ℕ → PageTable → Bool

@@ -3,14 +3,14 @@ use Rattle.std.specs.Prelude.{ℕ, ◌≡◌, ◌≢◌, ◌+◌, ◌*◌, ◌/�
 use Rattle.std.specs.Prelude.{slice_index, slice_index_or, slice_set, position, Some, None}
 use Rattle.m36_page.specs.Copied.{IsOutside}
 use Rattle.m36_page.specs.Fields.{TableFields, PagerFields}
-use Rattle.m36_page.specs.Residence.{is_of, has_page, spot_of, kept_word, absent_ptw, resident_ptw}
+use Rattle.m36_page.specs.Residence.{is_table_of, has_page, spot_of, kept_word, absent_ptw, resident_ptw}
 use Rattle.m36_page.specs.Residence.{frame_of, Holds, IsPager, IsConsistent}
 use Rattle.m36_page.specs.Changes.{IsSameShape, KeepsContents, OthersStay}
 
 -- The table of a segment, which has index i, has these words now.
 pub record HasWords (p new : PagerFields) (seg i : ℕ) (d : TableFields)
     (words : List ℕ) : Type 0 where
-  pub at : position (is_of seg) p.tables ≡ Some i
+  pub at : position (is_table_of seg) p.tables ≡ Some i
   pub tables : new.tables
       ≡ slice_set p.tables i (record (slice_index_or p.tables i d) { words = words })
 
@@ -32,11 +32,11 @@ pub record IsEvicted (p : PagerFields) (core : List ℕ) (new : PagerFields) (no
 
 -- A page that was in no frame was taken into frame k, which was empty: the frame has the kept
 -- words of the page.
-pub record IsBroughtIn (p : PagerFields) (core : List ℕ) (new : PagerFields) (now : List ℕ)
+pub record IsTakenIn (p : PagerFields) (core : List ℕ) (new : PagerFields) (now : List ℕ)
     (k seg page : ℕ) : Type 0 where
   pub has : has_page p seg page ≡ true
   pub out : frame_of p core seg page ≡ None
-  pub empty : slice_index_or p.holders k None ≡ None
+  pub empty_frame : slice_index_or p.holders k None ≡ None
   pub inside : k < length p.holders
   pub shape : IsSameShape p new
   pub words : IsPager new
@@ -56,7 +56,7 @@ pub record IsEmptied (p : PagerFields) (core : List ℕ) (new : PagerFields) (no
     (k : ℕ) : Type 0 where
   pub kept : KeepsContents p core new now
   pub settled : IsConsistent new now
-  pub empty : slice_index_or new.holders k None ≡ None
+  pub empty_frame : slice_index_or new.holders k None ≡ None
   pub spot : (s q : ℕ) → Holds p k s q → slice_index now (spot_of p s q) ≡ absent_ptw
   pub same : slice_index_or p.holders k None ≡ None → (new ≡ p) × (now ≡ core)
   pub others : OthersStay p core new now k
@@ -67,7 +67,7 @@ pub record IsEmptied (p : PagerFields) (core : List ℕ) (new : PagerFields) (no
       → frame_of new now s q ≡ None
 
 -- A kept word was replaced, and nothing else has changed.
-pub record IsKeptWord (p new : PagerFields) (seg word v : ℕ) : Type 0 where
+pub record IsKeptWordSet (p new : PagerFields) (seg word v : ℕ) : Type 0 where
   pub shape : IsSameShape p new
   pub holders : new.holders ≡ p.holders
   pub pager : IsPager new

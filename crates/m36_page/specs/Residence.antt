@@ -16,12 +16,12 @@ pub use Rattle.m36_model.specs.BootedCore.{absent_ptw, resident_ptw}
 -- ---- pages of tables
 
 -- the table belongs to this segment
-abbrev pub is_of : ℕ → TableFields → Bool
-is_of seg t = nat_eq t.seg seg
+abbrev pub is_table_of : ℕ → TableFields → Bool
+is_table_of seg t = nat_eq t.seg seg
 
 -- the table of a segment, if it has one
 unfoldable pub table_of : List TableFields → ℕ → Option TableFields
-table_of tables seg = option_and_then (slice_get tables) (position (is_of seg) tables)
+table_of tables seg = option_and_then (slice_get tables) (position (is_table_of seg) tables)
 
 -- a segment with this table has this page
 abbrev pub has_page_in : Option TableFields → ℕ → Bool
@@ -102,15 +102,15 @@ NamesFrame p seg page w =
     ⊎ ((k : ℕ) × Holds p k seg page × (unmarked w ≡ resident_ptw (p.first + k)))
 
 -- Each page table word of the tables is as the pager left it, except for its marks.
-pub record Reads (p : PagerFields) (core : List ℕ) : Type 0 where
+pub record AgreesWithCore (p : PagerFields) (core : List ℕ) : Type 0 where
   pub pages : (seg page : ℕ) → has_page p seg page ≡ true
       → NamesFrame p seg page (slice_index core (spot_of p seg page))
   pub frames : (k seg page : ℕ) → Holds p k seg page
       → unmarked (slice_index core (spot_of p seg page)) ≡ resident_ptw (p.first + k)
 
 -- each table ends below frame `first`
-abbrev pub EndBelow : ℕ → List TableFields → Type 0
-EndBelow first tables = All (λ t. t.at + t.pages ≤ 1024 * first) tables
+abbrev pub AllEndBelow : ℕ → List TableFields → Type 0
+AllEndBelow first tables = All (λ t. t.at + t.pages ≤ 1024 * first) tables
 
 -- the core has all pageable frames
 abbrev pub HasFrames : PagerFields → List ℕ → Type 0
@@ -120,13 +120,13 @@ HasFrames p core = 1024 * (p.first + length p.holders) ≤ length core
 -- table words are as the pager left them, and core has all pageable frames and 24-bit addresses.
 pub record IsConsistent (p : PagerFields) (core : List ℕ) : Type 0 where
   pub pager : IsPager p
-  pub reads : Reads p core
+  pub reads : AgreesWithCore p core
   pub frames : HasFrames p core
   pub most : length core ≤ 2 ^ 24
 
 -- The invariant of a pager with its private list: `places` has the core address of the page table
 -- word of each frame's page.
-pub record IsInside (p : PagerFields) (places : List ℕ) : Type 0 where
+pub record HasPtwPlaces (p : PagerFields) (places : List ℕ) : Type 0 where
   pub pager : IsPager p
   pub count : length places ≡ length p.holders
   pub spots : (k seg page : ℕ) → Holds p k seg page → slice_index places k ≡ spot_of p seg page

@@ -2,8 +2,8 @@
 
 ghost use Rattle.std.specs.Prelude.{ℕ, ◌≡◌, ◌+◌, ◌≤◌, ◌<◌, true, false, length, slice_index_or, slice_index, slice_get, Some, None, IsSome, IfSome, IfNone};
 ghost use Rattle.m36_desc.specs.Descriptors.{ptw_of};
-ghost use Rattle.m36_page.specs.Changes.{is_to, is_pinned};
-ghost use Rattle.m36_page.specs.Choice.{IsFree, ArePinned, IsHeldSpot, ClearsMarksAt, AreInCore};
+ghost use Rattle.m36_page.specs.Changes.{refers_to_page, is_pinned};
+ghost use Rattle.m36_page.specs.Choice.{IsUnpinned, ArePinned, IsHeldSpot, ClearsMarksAt, AreInCore};
 
 use crate::residence::ptw_in_core;
 use m36_core::Core;
@@ -14,8 +14,8 @@ use m36_word::Word;
 const PAGE: u32 = 1024;
 
 // Whether a reference is to this page, given by its segment and its page number.
-fn is_to(held: (u16, u16), reference: &Reference) -> bool
-    ensures { result ≡ is_to held reference.now }
+fn refers_to_page(held: (u16, u16), reference: &Reference) -> bool
+    ensures { result ≡ refers_to_page held reference.now }
 {
     let at = reference.at;
     at.seg == held.0 && at.word / PAGE == held.1 as u32
@@ -25,7 +25,7 @@ fn is_to(held: (u16, u16), reference: &Reference) -> bool
 fn is_page_pinned(references: &[Reference], held: (u16, u16)) -> bool
     ensures { result ≡ is_pinned references.now (Some held) }
 {
-    references.iter().any(|reference| is_to(held, reference))
+    references.iter().any(|reference| refers_to_page(held, reference))
 }
 
 /// Whether a frame holds a page that one of the references is to.
@@ -39,14 +39,14 @@ pub(crate) fn is_pinned(references: &[Reference], holder: Option<(u16, u16)>) ->
 }
 
 /// The first frame in `from .. to` that holds no page of the references.
-pub(crate) fn free_between(
+pub(crate) fn unpinned_between(
     holders: &[Option<(u16, u16)>],
     references: &[Reference],
     from: usize,
     to: usize,
 ) -> Option<usize>
     requires { to ≤ length holders.now }
-    ensures found { IfSome result (IsFree references.now holders.now) }
+    ensures found { IfSome result (IsUnpinned references.now holders.now) }
     ensures none { IfNone result (ArePinned references.now holders.now from to) }
 {
     for k in from..to {
@@ -65,12 +65,12 @@ pub(crate) fn free_from(
     from: usize,
 ) -> Option<usize>
     requires { from ≤ length holders.now }
-    ensures found { IfSome result (IsFree references.now holders.now) }
+    ensures found { IfSome result (IsUnpinned references.now holders.now) }
     ensures none { IfNone result (ArePinned references.now holders.now 0 (length holders.now)) }
 {
-    match free_between(holders, references, from, holders.len()) {
+    match unpinned_between(holders, references, from, holders.len()) {
         Some(k) => Some(k),
-        None => free_between(holders, references, 0, from),
+        None => unpinned_between(holders, references, 0, from),
     }
 }
 
@@ -140,7 +140,7 @@ fn unused_between(
     requires to { to ≤ length holders.now }
     requires count { length spots.now ≡ length holders.now }
     requires inside { AreInCore holders.now spots.now core.old }
-    ensures found { IfSome result (IsFree references.now holders.now) }
+    ensures found { IfSome result (IsUnpinned references.now holders.now) }
     ensures marks { ClearsMarksAt core.old core.new (IsHeldSpot references.now holders.now spots.now) }
 {
     for k in from..to {
@@ -162,7 +162,7 @@ fn unused_from(
     requires hand { hand ≤ length holders.now }
     requires count { length spots.now ≡ length holders.now }
     requires inside { AreInCore holders.now spots.now core.old }
-    ensures found { IfSome result (IsFree references.now holders.now) }
+    ensures found { IfSome result (IsUnpinned references.now holders.now) }
     ensures marks { ClearsMarksAt core.old core.new (IsHeldSpot references.now holders.now spots.now) }
 {
     let ahead = MOST_PASSED.min(holders.len() - hand);
@@ -187,7 +187,7 @@ pub(crate) fn choose(
     requires hand { hand ≤ length holders.now }
     requires count { length spots.now ≡ length holders.now }
     requires inside { AreInCore holders.now spots.now core.old }
-    ensures found { IfSome result (IsFree references.now holders.now) }
+    ensures found { IfSome result (IsUnpinned references.now holders.now) }
     ensures none { IfNone result (ArePinned references.now holders.now 0 (length holders.now)) }
     ensures same { IfNone result (core.new ≡ core.old) }
     ensures marks { ClearsMarksAt core.old core.new (IsHeldSpot references.now holders.now spots.now) }

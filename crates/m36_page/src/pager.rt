@@ -2,17 +2,17 @@
 
 ghost use Rattle.std.specs.Prelude.{ℕ, ◌≡◌, ◌≢◌, ◌+◌, ◌-◌, ◌^◌, ◌*◌, ◌/◌, ◌<◌, ◌≤◌, ◌⊎◌, Bool, true, false, ◌&&◌, nat_eq, if◌then◌else◌, length, slice_index_or, slice_set, replicate, IfOk, Some, None, IsSome, IfSome, IfNone, OnOk, OnErr};
 ghost use Rattle.m36_model.specs.Core.{unmarked};
-ghost use Rattle.m36_page.specs.Residence.{has_page, spot_of, kept_word, frame_of, content_of, Holds, IsPager, Reads, EndBelow, HasFrames, IsConsistent};
-ghost use Rattle.m36_page.specs.Changes.{IsBrought, IsSet, IsFreeSpot, AllPinned, AllEmpty, AreAbsent};
-ghost use Rattle.m36_page.specs.Choice.{IsFree, ClearsMarksAt, AreInCore};
-ghost use Rattle.m36_page.specs.Given.{are_placed, pager_given};
-ghost use Rattle.m36_page.specs.Moved.{IsEvicted, IsBroughtIn, IsEmptied, IsKeptWord};
+ghost use Rattle.m36_page.specs.Residence.{has_page, spot_of, kept_word, frame_of, content_of, Holds, IsPager, AgreesWithCore, AllEndBelow, HasFrames, IsConsistent};
+ghost use Rattle.m36_page.specs.Changes.{IsBrought, IsSet, IsUnpinnedPtwPlace, AllPinned, AllEmpty, AreAbsent};
+ghost use Rattle.m36_page.specs.Choice.{IsUnpinned, ClearsMarksAt, AreInCore};
+ghost use Rattle.m36_page.specs.Given.{are_placed, initial_pager};
+ghost use Rattle.m36_page.specs.Moved.{IsEvicted, IsTakenIn, IsEmptied, IsKeptWordSet};
 
 use crate::choice::choose;
 use crate::residence::{frame_at, put_absent, put_resident};
 use crate::table::{
-    PageTable, Table, copy_page_in, copy_page_out, place_of, put_absent_tables, put_word,
-    table_place, tables_given, word_of,
+    PageTable, Table, copy_page_in, copy_page_out, find_table, put_absent_tables, put_word,
+    table_index, filled_tables, word_of,
 };
 use m36_core::Core;
 use m36_model::{Reference, Refs};
@@ -49,14 +49,14 @@ pub struct Pager {
 impl Model for Pager {
     ghost use Rattle.std.specs.Prelude.{◌≤◌, length};
     ghost use Rattle.m36_page.specs.Fields.{PagerFields};
-    ghost use Rattle.m36_page.specs.Residence.{IsInside};
+    ghost use Rattle.m36_page.specs.Residence.{HasPtwPlaces};
 
     ghost Value = { PagerFields };
 
     ghost view = { λ p.
         record { first = p.first; holders = p.holders.items; tables = p.tables.items } };
 
-    ghost invariant = { λ p. (IsInside
+    ghost invariant = { λ p. (HasPtwPlaces
         (record { first = p.first; holders = p.holders.items; tables = p.tables.items })
         p.spots.items) × (p.hand ≤ length p.holders.items) };
 }
@@ -98,14 +98,14 @@ impl Pager {
         tables: &[PageTable],
     ) -> Result<Pager, NoMemory>
         requires { are_placed first tables.now ≡ true }
-        ensures given { IfOk result (λ p. p ≡ pager_given first frames tables.now) }
-        ensures empty { IfOk result AllEmpty }
-        ensures room { IfOk result (λ p. EndBelow first p.tables) }
+        ensures given { IfOk result (λ p. p ≡ initial_pager first frames tables.now) }
+        ensures empty_frame { IfOk result AllEmpty }
+        ensures room { IfOk result (λ p. AllEndBelow first p.tables) }
     {
         Ok(Pager {
             holders: empty_frames(alloc, frames as usize)?,
             spots: no_spots(alloc, frames as usize)?,
-            tables: tables_given(alloc, tables)?,
+            tables: filled_tables(alloc, tables)?,
             first,
             hand: 0,
         })
@@ -115,9 +115,9 @@ impl Pager {
     /// a page yet. No other core word changes.
     pub fn lay(&self, core: &mut Core)
         requires frames { HasFrames self.now core.old }
-        requires empty { AllEmpty self.now }
-        requires room { EndBelow self.now.first self.now.tables }
-        ensures reads { Reads self.now core.new }
+        requires empty_frame { AllEmpty self.now }
+        requires room { AllEndBelow self.now.first self.now.tables }
+        ensures reads { AgreesWithCore self.now core.new }
         ensures others { AreAbsent self.now.tables (length self.now.tables) core.old core.new }
     {
         put_absent_tables(core, &self.tables);
@@ -131,7 +131,7 @@ impl Pager {
         ensures below { result < 1024 * self.now.first }
         ensures pager { IsPager self.now }
     {
-        let table = &self.tables[table_place(&self.tables, seg)];
+        let table = &self.tables[table_index(&self.tables, seg)];
         table.at + page
     }
 
@@ -143,14 +143,14 @@ impl Pager {
     {
         let frame = self.first + k as u32;
         let spot = self.spots[k];
-        let i = table_place(&self.tables, seg);
+        let i = table_index(&self.tables, seg);
         copy_page_out(&mut self.tables[i], page, core, frame);
         put_absent(core, spot);
         self.holders[k] = None;
     }
 
     // Evicts the page of frame k, if it holds one.
-    fn empty(&mut self, core: &mut Core, k: usize)
+    fn empty_frame(&mut self, core: &mut Core, k: usize)
         requires settled { IsConsistent self.old core.old }
         requires inside { k < length self.old.holders }
         ensures { IsEmptied self.old core.old self.new core.new k }
@@ -165,13 +165,13 @@ impl Pager {
     fn take_in(&mut self, core: &mut Core, k: usize, seg: u16, page: u16)
         requires settled { IsConsistent self.old core.old }
         requires inside { k < length self.old.holders }
-        requires empty { slice_index_or self.old.holders k None ≡ None }
+        requires empty_frame { slice_index_or self.old.holders k None ≡ None }
         requires page { has_page self.old seg page ≡ true }
         requires out { frame_of self.old core.old seg page ≡ None }
-        ensures { IsBroughtIn self.old core.old self.new core.new k seg page }
+        ensures { IsTakenIn self.old core.old self.new core.new k seg page }
     {
         let frame = self.first + k as u32;
-        let i = table_place(&self.tables, seg);
+        let i = table_index(&self.tables, seg);
         let table = &self.tables[i];
         let spot = table.at + page as u32;
         copy_page_in(table, page, core, frame);
@@ -186,10 +186,10 @@ impl Pager {
     // not pin.
     fn choose(&self, core: &mut Core, references: &[Reference]) -> Option<usize>
         requires { IsConsistent self.now core.old }
-        ensures found { IfSome result (IsFree references.now self.now.holders) }
+        ensures found { IfSome result (IsUnpinned references.now self.now.holders) }
         ensures none { IfNone result (AllPinned self.now references.now) }
         ensures same { IfNone result (core.new ≡ core.old) }
-        ensures marks { ClearsMarksAt core.old core.new (IsFreeSpot self.now references.now) }
+        ensures marks { ClearsMarksAt core.old core.new (IsUnpinnedPtwPlace self.now references.now) }
     {
         choose(core, references, &self.holders, &self.spots, self.hand)
     }
@@ -206,7 +206,7 @@ impl Pager {
         pinned: &Refs,
     ) -> Result<(), Pinned>
         requires frames { HasFrames self.old core.old }
-        requires reads { Reads self.old core.old }
+        requires reads { AgreesWithCore self.old core.old }
         requires page { has_page self.old seg page ≡ true }
         ensures ok { OnOk result
             (IsBrought self.old core.old self.new core.new seg page pinned.now.items) }
@@ -218,7 +218,7 @@ impl Pager {
         ensures room { OnErr result (length self.old.holders ≤ length pinned.now.items) }
         ensures free { OnOk result (IsSome (frame_of self.old core.old seg page)
             ⊎ (AllPinned self.old pinned.now.items → ⊥)) }
-        ensures reads { Reads self.new core.new }
+        ensures reads { AgreesWithCore self.new core.new }
         ensures pager { IsPager self.new }
         ensures frames { HasFrames self.new core.new }
     {
@@ -230,7 +230,7 @@ impl Pager {
         let Some(k) = self.choose(core, pinned.as_slice()) else {
             return Err(Pinned);
         };
-        self.empty(core, k);
+        self.empty_frame(core, k);
         self.take_in(core, k, seg, page);
         Ok(())
     }
@@ -239,23 +239,23 @@ impl Pager {
     /// frames are unchanged.
     pub fn evict(&mut self, core: &mut Core, frame: u32)
         requires frames { HasFrames self.old core.old }
-        requires reads { Reads self.old core.old }
+        requires reads { AgreesWithCore self.old core.old }
         requires first { self.old.first ≤ frame }
         requires last { frame < self.old.first + length self.old.holders }
         ensures emptied { IsEmptied self.old core.old self.new core.new (frame - self.old.first) }
-        ensures reads { Reads self.new core.new }
+        ensures reads { AgreesWithCore self.new core.new }
         ensures frames { HasFrames self.new core.new }
     {
         let _ = core.len();
         let k = (frame - self.first) as usize;
-        self.empty(core, k);
+        self.empty_frame(core, k);
     }
 
     // Whether a segment has a page; the page number may be any.
     fn has(&self, seg: u16, page: u32) -> bool
         ensures { result ≡ has_page self.now seg page }
     {
-        match place_of(&self.tables, seg) {
+        match find_table(&self.tables, seg) {
             Some(i) => {
                 let table = &self.tables[i];
                 page < table.pages as u32
@@ -276,14 +276,14 @@ impl Pager {
         requires { has_page self.now seg (word / 1024) ≡ true }
         ensures { result ≡ kept_word self.now seg word }
     {
-        word_of(&self.tables[table_place(&self.tables, seg)], word)
+        word_of(&self.tables[table_index(&self.tables, seg)], word)
     }
 
     /// The word of a segment; None exactly if the segment has no table, or the word is past its
     /// pages.
     pub fn content(&self, core: &Core, seg: u16, word: u32) -> Option<Word>
         requires frames { HasFrames self.now core.now }
-        requires reads { Reads self.now core.now }
+        requires reads { AgreesWithCore self.now core.now }
         ensures { result ≡ content_of self.now core.now seg word }
     {
         let _ = core.len();
@@ -299,12 +299,12 @@ impl Pager {
     /// The place in core of a word of a segment; None if its page is in no frame.
     pub fn place(&self, core: &Core, seg: u16, word: u32) -> Option<u32>
         requires frames { HasFrames self.now core.now }
-        requires reads { Reads self.now core.now }
+        requires reads { AgreesWithCore self.now core.now }
         requires page { has_page self.now seg (word / 1024) ≡ true }
         ensures inside { IfSome result (λ a. a < length core.now) }
         ensures set { IfSome result
             (λ a. (v : ℕ) → IsSet self.now core.now self.now (slice_set core.now a v) seg word v) }
-        ensures reads { IfSome result (λ a. (v : ℕ) → Reads self.now (slice_set core.now a v)) }
+        ensures reads { IfSome result (λ a. (v : ℕ) → AgreesWithCore self.now (slice_set core.now a v)) }
         ensures away { IfNone result (frame_of self.now core.now seg (word / 1024) ≡ None) }
         ensures pager { IsPager self.now }
     {
@@ -318,9 +318,9 @@ impl Pager {
     // Replaces the kept word for a word of a segment.
     fn keep(&mut self, seg: u16, word: u32, value: Word)
         requires { has_page self.old seg (word / 1024) ≡ true }
-        ensures { IsKeptWord self.old self.new seg word value }
+        ensures { IsKeptWordSet self.old self.new seg word value }
     {
-        let i = table_place(&self.tables, seg);
+        let i = table_index(&self.tables, seg);
         put_word(&mut self.tables[i], word, value);
     }
 
@@ -328,12 +328,12 @@ impl Pager {
     /// changes.
     pub fn set_kept(&mut self, core: &Core, seg: u16, word: u32, w: Word)
         requires frames { HasFrames self.old core.now }
-        requires reads { Reads self.old core.now }
+        requires reads { AgreesWithCore self.old core.now }
         requires page { has_page self.old seg (word / 1024) ≡ true }
         requires pager { IsPager self.old }
         requires away { frame_of self.old core.now seg (word / 1024) ≡ None }
         ensures set { IsSet self.old core.now self.new core.now seg word w }
-        ensures reads { Reads self.new core.now }
+        ensures reads { AgreesWithCore self.new core.now }
         ensures pager { IsPager self.new }
     {
         let _ = core.len();
@@ -344,10 +344,10 @@ impl Pager {
     /// words. Nothing else changes.
     pub fn set(&mut self, core: &mut Core, seg: u16, word: u32, w: Word)
         requires frames { HasFrames self.old core.old }
-        requires reads { Reads self.old core.old }
+        requires reads { AgreesWithCore self.old core.old }
         requires page { has_page self.old seg (word / 1024) ≡ true }
         ensures set { IsSet self.old core.old self.new core.new seg word w }
-        ensures reads { Reads self.new core.new }
+        ensures reads { AgreesWithCore self.new core.new }
         ensures pager { IsPager self.new }
         ensures frames { HasFrames self.new core.new }
     {

@@ -3,9 +3,9 @@
 ghost use Rattle.std.specs.Prelude.{◌≡◌, ◌+◌, ◌*◌, ◌≤◌, ◌<◌, length, position, slice_index, slice_set, drop, ◌&&◌, map, Some, All, IsSome, IfSome, IfOk};
 ghost use Rattle.m36_page.specs.Changes.{AreAbsent};
 ghost use Rattle.m36_page.specs.Copied.{IsCopied};
-ghost use Rattle.m36_page.specs.Given.{table_given, fits_below, is_apart, are_placed};
+ghost use Rattle.m36_page.specs.Given.{filled_table, fits_below, is_apart, are_placed};
 ghost use Rattle.std.specs.List.{list_all};
-ghost use Rattle.m36_page.specs.Residence.{is_of, table_of};
+ghost use Rattle.m36_page.specs.Residence.{is_table_of, table_of};
 
 use crate::kept::KeptWords;
 use crate::residence::put_all_absent;
@@ -96,28 +96,28 @@ impl Model for Table {
 }
 
 // Whether the table is that of this segment.
-fn is_of(seg: u16, table: &Table) -> bool
-    ensures { result ≡ is_of seg table.now }
+fn is_table_of(seg: u16, table: &Table) -> bool
+    ensures { result ≡ is_table_of seg table.now }
 {
     table.seg == seg
 }
 
 /// The index of the table of a segment; None if it has none.
-pub(crate) fn place_of(tables: &[Table], seg: u16) -> Option<usize>
-    ensures place { result ≡ position (is_of seg) tables.now }
+pub(crate) fn find_table(tables: &[Table], seg: u16) -> Option<usize>
+    ensures place { result ≡ position (is_table_of seg) tables.now }
     ensures within { IfSome result (λ i. i < length tables.now) }
 {
-    tables.iter().position(|table| is_of(seg, table))
+    tables.iter().position(|table| is_table_of(seg, table))
 }
 
 /// The index of the table of a segment that has one.
 #[tactic(auto, using(crate::proofs::Tables::placed))]
-pub(crate) fn table_place(tables: &[Table], seg: u16) -> usize
+pub(crate) fn table_index(tables: &[Table], seg: u16) -> usize
     requires { IsSome (table_of tables.now seg) }
-    ensures place { position (is_of seg) tables.now ≡ Some result }
+    ensures place { position (is_table_of seg) tables.now ≡ Some result }
     ensures within { result < length tables.now }
 {
-    match place_of(tables, seg) {
+    match find_table(tables, seg) {
         Some(i) => i,
         None => unreachable!(),
     }
@@ -146,9 +146,9 @@ pub(crate) fn copy_page_in(table: &Table, page: u16, core: &mut Core, frame: u32
 }
 
 /// The table that is given, with a kept word for every word of its pages.
-pub(crate) fn table_given(alloc: Global, given: &PageTable) -> Result<Table, NoMemory>
+pub(crate) fn filled_table(alloc: Global, given: &PageTable) -> Result<Table, NoMemory>
     requires { length given.now.words ≤ 1024 * given.now.pages }
-    ensures { IfOk result (λ t. t ≡ table_given given.now) }
+    ensures { IfOk result (λ t. t ≡ filled_table given.now) }
 {
     let words = given.words.slice();
     Ok(Table {
@@ -160,13 +160,13 @@ pub(crate) fn table_given(alloc: Global, given: &PageTable) -> Result<Table, NoM
 }
 
 /// The tables that are given.
-pub(crate) fn tables_given(alloc: Global, given: &[PageTable]) -> Result<Vec<Table>, NoMemory>
+pub(crate) fn filled_tables(alloc: Global, given: &[PageTable]) -> Result<Vec<Table>, NoMemory>
     requires { All (λ t. length t.words ≤ 1024 * t.pages) given.now }
-    ensures { IfOk result (λ tables. tables.items ≡ map table_given given.now) }
+    ensures { IfOk result (λ tables. tables.items ≡ map filled_table given.now) }
 {
     let mut tables = Vec::with_capacity(alloc, given.len())?;
     for one in given {
-        tables.push(table_given(alloc, one)?)?;
+        tables.push(filled_table(alloc, one)?)?;
     }
     Ok(tables)
 }

@@ -1,7 +1,7 @@
 -- The pieces of a run of a schedule, event by event: what is left of them.
 use Rattle.std.proofs.Common.{◌≡◌, ℕ, ◌+◌, List, [], ◌∷◌, ◌++◌, length, Option, sym, ap, subst, ◌∙◌, arith}
 use Rattle.std.proofs.lemmas.List.{nil_from_length}
-use Rattle.m36_outside.specs.Gathered.{Gathers, Loses, Adds}
+use Rattle.m36_outside.specs.Gathered.{Gathers, FailsPartway, Adds}
 use Rattle.m36_outside.specs.Passing.{joined, TakesSome, TakesLines}
 use Rattle.m36_outside.specs.Put.{PutResult}
 use Rattle.m36_outside.specs.declared.sink.Put.{Put}
@@ -11,7 +11,7 @@ use Rattle.m36_model.specs.Core.{core_store}
 use Rattle.m36_model.specs.Schedule.{Processes, process_of, stepped}
 use Rattle.m36_model.specs.Step.{record_of}
 use Rattle.m36_model.specs.declared.record.StepRecord.{StepRecord}
-use Rattle.m36_procs.specs.EventSays.{EventSays, IsEvent}
+use Rattle.m36_procs.specs.EventResult.{EventResult, IsEvent}
 use Rattle.m36_procs.specs.ScheduleText.{event_line, end_line, pieces_from, schedule_pieces}
 use Rattle.m36_procs.proofs.EventsRun.{pieces_first, pieces_last, get_of, next_named, Runs}
 
@@ -54,7 +54,7 @@ pub pieces_more :
     → Runs all first before after gathered n left s
     → CompletesLines now start (gathered ++ pieces_from (length all) (n + 1) left s) (schedule_pieces all first)
     → left ≡ i ∷ more
-    → EventSays i s new told
+    → EventResult i s new told
     → Gathers gathered gathered' (event_line (n + 1) i told ∷ []) after later now next
     → CompletesLines next start (gathered' ++ pieces_from (length all) (n + 1 + 1) more new) (schedule_pieces all first)
 pieces_more all first before after later start now next gathered gathered' n i left more s new told so_far pieces begins says added =
@@ -70,8 +70,8 @@ pub pieces_cut :
     → Runs all first before after gathered n left s
     → CompletesLines now start (gathered ++ pieces_from (length all) (n + 1) left s) (schedule_pieces all first)
     → left ≡ i ∷ more
-    → EventSays i s s' told
-    → Loses (gathered ++ event_line (n + 1) i told ∷ []) after later now new
+    → EventResult i s s' told
+    → FailsPartway (gathered ++ event_line (n + 1) i told ∷ []) after later now new
     → TakesSome start new (schedule_pieces all first)
 pieces_cut all first before after later start now new gathered n i left more s s' told so_far pieces begins says lost =
     let own = get_of s.regs i (next_named (length s.regs) i left more so_far.named begins) in

@@ -3,7 +3,7 @@ use Rattle.std.proofs.Common.{◌≡◌, ℕ, zero, suc, ◌+◌, ◌<◌, true,
 use Rattle.std.specs.Prelude.{slice_get, nat_lt}
 use Rattle.std.proofs.lemmas.Bool.{and_parts, ltb-true}
 use Rattle.std.proofs.lemmas.List.{append-nil, nil_from_length}
-use Rattle.m36_outside.specs.Gathered.{Gathers, Loses}
+use Rattle.m36_outside.specs.Gathered.{Gathers, FailsPartway}
 use Rattle.m36_outside.specs.Passing.{joined}
 use Rattle.m36_outside.specs.Written.{Grew, GrewWithin}
 use Rattle.m36_outside.proofs.Completes.{Completes, completes_all}
@@ -13,10 +13,10 @@ use Rattle.m36_model.specs.Registers.{RegsFields}
 use Rattle.m36_model.specs.Schedule.{Processes, Event, process_of, stepped, event, events, events_by}
 use Rattle.m36_model.specs.Step.{record_of}
 use Rattle.m36_model.specs.declared.record.StepRecord.{StepRecord}
-use Rattle.m36_procs.specs.EventSays.{EventSays, IsEvent}
-use Rattle.m36_procs.specs.ProcsFile.{are_named}
-use Rattle.m36_procs.specs.RunSays.{IsRun, IsPartRun}
-use Rattle.m36_procs.specs.ScheduleText.{event_line, event_pieces, end_line, pieces_from, schedule_pieces, schedule_text, behind_events, last_state}
+use Rattle.m36_procs.specs.EventResult.{EventResult, IsEvent}
+use Rattle.m36_procs.specs.ProcsFile.{are_process_numbers}
+use Rattle.m36_procs.specs.RunResult.{IsRun, IsPartRun}
+use Rattle.m36_procs.specs.ScheduleText.{event_line, event_pieces, end_line, pieces_from, schedule_pieces, schedule_text, state_after_events, last_state}
 
 -- the events of a schedule that begins with a process
 pub events_first :
@@ -30,7 +30,7 @@ last_first :
     (i : ℕ) (schedule : List ℕ) (s : Processes (List ℕ)) (g : RegsFields)
     → slice_get s.regs i ≡ Some g → last_state (i ∷ schedule) s ≡ last_state schedule (stepped core_store s i g)
 unfolding last_state
-last_first i schedule s g there = ap (behind_events s) (events_first i schedule s g there)
+last_first i schedule s g there = ap (state_after_events s) (events_first i schedule s g there)
 
 -- the pieces of a schedule that begins with a process
 piece_first :
@@ -79,12 +79,12 @@ pub record Runs (all : List ℕ) (first : Processes (List ℕ)) (start now : Opt
   pub all_is : all ≡ made ++ left
   pub further : (rest : List ℕ) → last_state (made ++ rest) first ≡ last_state rest s
   pub count : n + length left ≡ length all
-  pub named : are_named (length s.regs) left ≡ true
+  pub named : are_process_numbers (length s.regs) left ≡ true
   pub regs : length s.regs ≡ length first.regs
 
 pub runs_start :
     (all : List ℕ) (first : Processes (List ℕ)) (start : Option (List ℕ)) (gathered : List (List ℕ))
-    → are_named (length first.regs) all ≡ true → gathered ≡ [] → Runs all first start start gathered 0 all first
+    → are_process_numbers (length first.regs) all ≡ true → gathered ≡ [] → Runs all first start start gathered 0 all first
 unfolding schedule_text schedule_pieces
 runs_start all first start gathered named none = subst (λ l. Runs all first start start l 0 all first) (sym none) (record {
   text = completes_all start (text_from (length all) 1 all first);
@@ -97,9 +97,9 @@ runs_start all first start gathered named none = subst (λ l. Runs all first sta
 })
 
 -- the next number is that of a process
-pub next_named : (count i : ℕ) (left more : List ℕ) → are_named count left ≡ true → left ≡ i ∷ more → i < count
+pub next_named : (count i : ℕ) (left more : List ℕ) → are_process_numbers count left ≡ true → left ≡ i ∷ more → i < count
 next_named count i left more named begins =
-    ltb-true i count (and_parts (nat_lt i count) (are_named count more) (ap (are_named count) (sym begins) ∙ named)).0
+    ltb-true i count (and_parts (nat_lt i count) (are_process_numbers count more) (ap (are_process_numbers count) (sym begins) ∙ named)).0
 
 pub get_of : {A : Type 0} (xs : List A) (i : ℕ) → i < length xs → (x : A) × (slice_get xs i ≡ Some x)
 get_of [] i within = absurd (omega arith)
@@ -131,7 +131,7 @@ pub runs_more :
     (all : List ℕ) (first : Processes (List ℕ)) (start now next : Option (List ℕ)) (pieces pieces' gathered gathered' : List (List ℕ)) (n i : ℕ) (left more : List ℕ) (s new : Processes (List ℕ)) (told : StepRecord)
     → Runs all first start now gathered n left s
     → left ≡ i ∷ more
-    → EventSays i s new told
+    → EventResult i s new told
     → length new.regs ≡ length s.regs
     → Gathers gathered gathered' (event_line (n + 1) i told ∷ []) now next pieces pieces'
     → Runs all first start next gathered' (n + 1) more new
@@ -146,7 +146,7 @@ runs_more all first start now next pieces pieces' gathered gathered' n i left mo
       all_is = all_more all so_far.made i left more so_far.all_is begins;
       further = made_more so_far.made i first s new told own.0 so_far.further own.1 is;
       count = omega (arith, so_far.count, ap length begins);
-      named = ap (λ k. are_named k more) count ∙ (and_parts (nat_lt i (length s.regs)) (are_named (length s.regs) more) (ap (are_named (length s.regs)) (sym begins) ∙ so_far.named)).1;
+      named = ap (λ k. are_process_numbers k more) count ∙ (and_parts (nat_lt i (length s.regs)) (are_process_numbers (length s.regs) more) (ap (are_process_numbers (length s.regs)) (sym begins) ∙ so_far.named)).1;
       regs = count ∙ so_far.regs;
     }
 
@@ -155,8 +155,8 @@ pub runs_cut :
     (all : List ℕ) (first : Processes (List ℕ)) (start now next : Option (List ℕ)) (pieces pieces' gathered : List (List ℕ)) (n i : ℕ) (left more : List ℕ) (s new : Processes (List ℕ)) (told : StepRecord)
     → Runs all first start now gathered n left s
     → left ≡ i ∷ more
-    → EventSays i s new told
-    → Loses (gathered ++ event_line (n + 1) i told ∷ []) now next pieces pieces'
+    → EventResult i s new told
+    → FailsPartway (gathered ++ event_line (n + 1) i told ∷ []) now next pieces pieces'
     → IsPartRun all first new start next
 runs_cut all first start now next pieces pieces' gathered n i left more s new told so_far begins says lost =
     let own = get_of s.regs i (next_named (length s.regs) i left more so_far.named begins) in

@@ -9,7 +9,7 @@ use Rattle.m36_model.specs.Schedule.{Processes}
 use Rattle.m36_model.specs.Step.{record_of, state_after}
 use Rattle.m36_model.specs.Store.{State}
 use Rattle.m36_model.specs.declared.record.StepRecord.{StepRecord}
-use Rattle.m36_procs.specs.EventSays.{IsEvent}
+use Rattle.m36_procs.specs.EventResult.{IsEvent}
 
 -- Storing an element at its own place changes nothing.
 pub set_kept : {A : Type 0} (xs : List A) (i : ℕ) (g : A) → g ≡ get_or xs i g → set xs i g ≡ xs

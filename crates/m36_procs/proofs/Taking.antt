@@ -3,9 +3,9 @@ use Rattle.std.proofs.Common.{◌≡◌, ℕ, zero, suc, ◌*◌, ◌<◌, ◌�
 use Rattle.std.specs.Prelude.{nat_le, nat_lt}
 use Rattle.std.proofs.lemmas.Bool.{le-leb, lt-ltb}
 use Rattle.m36_image.specs.PlacedWords.{PlacedWords}
-use Rattle.m36_image.specs.LineByLine.{code_of_at_line}
+use Rattle.m36_image.specs.LineByLine.{end_of_at_line}
 use Rattle.m36_procs.specs.ProcsFields.{TurnsFields}
-use Rattle.m36_procs.specs.ProcsFile.{ParseState, state_after_line, placed_from, events_with, are_named}
+use Rattle.m36_procs.specs.ProcsFile.{ParseState, state_after_line, state_after_at_line, events_with, are_process_numbers}
 use Rattle.std.specs.List.{repeat}
 use Rattle.m36_procs.specs.ProcsFile.Line.{TurnsLine}
 use Rattle.m36_procs.specs.declared.fault.Code.{Code}
@@ -30,17 +30,17 @@ chosen a b c x y z i j k = rw (i, j, k)
 -- a `turns` line is taken
 pub turns_taken :
     (s : ParseState) (t : TurnsFields) (events : ℕ)
-    → 0 < s.processes → events_with s.events t ≤ 10000000 → are_named s.processes t.order ≡ true → events ≡ events_with s.events t
+    → 0 < s.processes → events_with s.events t ≤ 10000000 → are_process_numbers s.processes t.order ≡ true → events ≡ events_with s.events t
     → state_after_line s (TurnsLine t) ≡ Ok (record s { stage = Turning; events = events })
 unfolding state_after_line
 turns_taken s t events some most named count =
-    chosen (nat_lt 0 s.processes) (nat_le (events_with s.events t) 10000000) (are_named s.processes t.order) (Ok (record s { stage = Turning; events = events_with s.events t })) (Err P2) (Err P1) (lt-ltb 0 s.processes some) (le-leb (events_with s.events t) 10000000 most) named ∙ ap (λ n. in_order s n) (sym count)
+    chosen (nat_lt 0 s.processes) (nat_le (events_with s.events t) 10000000) (are_process_numbers s.processes t.order) (Ok (record s { stage = Turning; events = events_with s.events t })) (Err P2) (Err P1) (lt-ltb 0 s.processes some) (le-leb (events_with s.events t) 10000000 most) named ∙ ap (λ n. in_order s n) (sym count)
 
 -- a line that is neither a `process` nor a `turns` line, if an `at` line may follow
 pub words_judged :
     (s : ParseState) (o : Option PlacedWords) (b : Bool)
     → b ≡ true
-    → cond b (placed_from s (code_of_at_line s.size s.next o)) (Err P1) ≡ placed_from s (code_of_at_line s.size s.next o)
+    → cond b (state_after_at_line s (end_of_at_line s.size s.next o)) (Err P1) ≡ state_after_at_line s (end_of_at_line s.size s.next o)
 words_judged s o true e = refl
 words_judged s o false e = cc
 

@@ -2,10 +2,10 @@
 -- modules say what the results of the calls imply.
 pub mod ProcsFields
 pub mod ProcsFile
-pub mod ProcsSays
+pub mod ProcsResult
 pub mod IsProcs
 pub mod ReaderSays
 pub mod ReadingSays
-pub mod EventSays
+pub mod EventResult
 pub mod ScheduleText
-pub mod RunSays
+pub mod RunResult

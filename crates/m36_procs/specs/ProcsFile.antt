@@ -24,19 +24,19 @@ use Rattle.std.specs.Prelude.{Result, Ok, Err, if◌then◌else◌}
 use Rattle.std.specs.List.{list_all, flat_map, repeat}
 use Rattle.std.specs.Result.{result_err}
 use Rattle.m36_text.specs.Texts.{is_text}
-use Rattle.m36_text.specs.Lines.{lines_of, line_at, first_reported, by_words}
+use Rattle.m36_text.specs.Lines.{lines_of, line_at, first_present, line_meaning}
 use Rattle.m36_text.specs.Numbers.{decimal_in, short_decimal_in}
-use Rattle.m36_text.specs.Results.{unless}
+use Rattle.m36_text.specs.Results.{value_unless}
 use Rattle.m36_word.specs.declared.pair.Pair.{Pair}
 use Rattle.m36_model.specs.Fields.{PprFields}
 use Rattle.m36_model.specs.JointAudit.{most_processes}
 use Rattle.m36_model.specs.Registers.{RegsFields}
 use Rattle.m36_image.specs.PlacedWords.{PlacedWords}
-use Rattle.m36_image.specs.Several.{one_to}
+use Rattle.m36_image.specs.Several.{numbers_up_to}
 use Rattle.m36_image.specs.declared.refusal.ImageCode.{ImageCode}
 use Rattle.m36_image.specs.BareImage.{dbr_in, start_in, at_words, core_line, frames_of}
 use Rattle.m36_image.specs.ImageState.{regs_of, core_with}
-use Rattle.m36_image.specs.LineByLine.{code_of_at_line}
+use Rattle.m36_image.specs.LineByLine.{end_of_at_line}
 use Rattle.m36_procs.specs.ProcsFields.{ProcsFields, TurnsFields}
 use Rattle.m36_procs.specs.declared.fault.Code.{Code}
 use Rattle.m36_procs.specs.declared.fault.Code.TheVariants.{P1, P2}
@@ -61,7 +61,7 @@ most_times = 1000000
 
 -- one to sixteen numbers of processes
 abbrev pub process_numbers : List (List ℕ) → Option (List ℕ)
-process_numbers texts = one_to 16 (short_decimal_in 1 0 9) texts
+process_numbers texts = numbers_up_to 16 (short_decimal_in 1 0 9) texts
 
 -- turns, if their numbers and how many times they are made could be read
 abbrev pub turns_read : Option ℕ → Option (List ℕ) → Option TurnsFields
@@ -95,7 +95,7 @@ line_in words = line_by (process_words words) (turns_words words) (at_words word
 
 -- a line parsed by itself; it has no form if it lacks its line feed
 abbrev pub line_of : Option (List ℕ) → Line
-line_of line = by_words line_in OtherLine line
+line_of line = line_meaning line_in OtherLine line
 
 -- The state of parsing before a line: which lines may follow, the number of words of core, the
 -- number of processes, the least address that an `at` line may have, and the number of events.
@@ -107,16 +107,16 @@ pub record ParseState : Type 0 where
   pub events : ℕ
 
 -- whether a `process` line may follow: after `core` or a `process` line
-abbrev pub may_name : Stage → Bool
-may_name Naming = true
-may_name Placing = false
-may_name Turning = false
+abbrev pub may_have_process_line : Stage → Bool
+may_have_process_line Naming = true
+may_have_process_line Placing = false
+may_have_process_line Turning = false
 
 -- whether an `at` line may follow: before the first `turns` line
-abbrev pub may_place : Stage → Bool
-may_place Naming = true
-may_place Placing = true
-may_place Turning = false
+abbrev pub may_have_at_line : Stage → Bool
+may_have_at_line Naming = true
+may_have_at_line Placing = true
+may_have_at_line Turning = false
 
 -- whether the text may end: after a `turns` line
 abbrev pub may_end : Stage → Bool
@@ -125,9 +125,9 @@ may_end Placing = false
 may_end Turning = true
 
 -- the state after an `at` line, given the address after its last word; P1 if it has a code
-abbrev pub placed_from : ParseState → Result ℕ ImageCode → Result ParseState Code
-placed_from s (Ok end) = Ok (record s { stage = Placing; next = end })
-placed_from s (Err code) = Err P1
+abbrev pub state_after_at_line : ParseState → Result ℕ ImageCode → Result ParseState Code
+state_after_at_line s (Ok end) = Ok (record s { stage = Placing; next = end })
+state_after_at_line s (Err code) = Err P1
 
 -- the maximum number of events of a schedule
 abbrev pub most_events : ℕ
@@ -138,28 +138,28 @@ abbrev pub events_with : ℕ → TurnsFields → ℕ
 events_with events t = events + t.times * length t.order
 
 -- each number is that of one of `count` processes
-abbrev pub are_named : ℕ → List ℕ → Bool
-are_named count numbers = list_all (λ number. nat_lt number count) numbers
+abbrev pub are_process_numbers : ℕ → List ℕ → Bool
+are_process_numbers count numbers = list_all (λ number. nat_lt number count) numbers
 
 -- the state after a line, or the least code of the line
 unfoldable pub state_after_line : ParseState → Line → Result ParseState Code
 state_after_line s (ProcessLine regs) =
-    if may_name s.stage && nat_lt s.processes most_processes
+    if may_have_process_line s.stage && nat_lt s.processes most_processes
     then Ok (record s { processes = s.processes + 1 }) else Err P1
 state_after_line s (AtLine placed) =
-    if may_place s.stage && nat_lt 0 s.processes
-    then placed_from s (code_of_at_line s.size s.next (Some placed)) else Err P1
+    if may_have_at_line s.stage && nat_lt 0 s.processes
+    then state_after_at_line s (end_of_at_line s.size s.next (Some placed)) else Err P1
 state_after_line s (TurnsLine t) =
     if nat_lt 0 s.processes && nat_le (events_with s.events t) most_events
-    then if are_named s.processes t.order
+    then if are_process_numbers s.processes t.order
     then Ok (record s { stage = Turning; events = events_with s.events t }) else Err P2
     else Err P1
 state_after_line s OtherLine = Err P1
 
 -- the state after a line with this result; a line with a code does not change it
-abbrev pub behind : ParseState → Result ParseState Code → ParseState
-behind s (Ok later) = later
-behind s (Err code) = s
+abbrev pub state_or_previous : ParseState → Result ParseState Code → ParseState
+state_or_previous s (Ok later) = later
+state_or_previous s (Err code) = s
 
 -- P1 if the text may not end here
 abbrev pub end_code : Stage → Option Code
@@ -169,7 +169,7 @@ end_code stage = if may_end stage then None else Some P1
 unfoldable pub codes_from : ParseState → List (Option (List ℕ)) → List (Option Code)
 codes_from s [] = end_code s.stage ∷ []
 codes_from s (line ∷ lines) =
-    result_err (state_after_line s (line_of line)) ∷ codes_from (behind s (state_after_line s (line_of line))) lines
+    result_err (state_after_line s (line_of line)) ∷ codes_from (state_or_previous s (state_after_line s (line_of line))) lines
 
 -- the code of the first line, if it has one
 abbrev pub core_code : Result ℕ ImageCode → Option Code
@@ -177,14 +177,14 @@ core_code (Ok frames) = None
 core_code (Err code) = Some P1
 
 -- the state after the first line, with a core of `size` words
-abbrev pub at_start : ℕ → ParseState
-at_start size = record { stage = Naming; size = size; processes = 0; next = 0; events = 0 }
+abbrev pub initial_parse_state : ℕ → ParseState
+initial_parse_state size = record { stage = Naming; size = size; processes = 0; next = 0; events = 0 }
 
 -- the code of each line, if it has one, and of a missing line at the end
 abbrev pub line_codes : List (Option (List ℕ)) → List (Option Code)
 line_codes lines =
     core_code (core_line (line_at lines 1))
-    ∷ codes_from (at_start (1024 * frames_of lines)) (drop 1 lines)
+    ∷ codes_from (initial_parse_state (1024 * frames_of lines)) (drop 1 lines)
 
 -- the process of a line, if it is a `process` line
 abbrev pub process_of : Line → List RegsFields
@@ -227,8 +227,8 @@ procs_in size lines =
 
 -- the processes and the schedule that a text describes, or its first line that has a code, with the
 -- least code of that line
-unfoldable pub procs_given : List ℕ → Result ProcsFields (ℕ × Code)
-procs_given text =
-    unless
-    (first_reported 1 (line_codes (lines_of text)))
+unfoldable pub procs_of_text : List ℕ → Result ProcsFields (ℕ × Code)
+procs_of_text text =
+    value_unless
+    (first_present 1 (line_codes (lines_of text)))
     (procs_in (1024 * frames_of (lines_of text)) (drop 1 (lines_of text)))

@@ -5,15 +5,15 @@ use Rattle.m36_image.specs.ImageState.{written_all}
 use Rattle.m36_procs.specs.ProcsFields.{ProcsFields}
 use Rattle.m36_procs.specs.ProcsFile.{Line, line_by, ParseState, state_after_line, may_end, process_of, placed_of}
 use Rattle.m36_procs.specs.ProcsFile.{turns_of}
-use Rattle.m36_procs.specs.IsProcs.{IsFew}
+use Rattle.m36_procs.specs.IsProcs.{IsWithinLimits}
 use Rattle.m36_procs.specs.declared.fault.LineFault.{LineFault}
 use Rattle.m36_procs.specs.declared.fault.LineFault.TheVariants.{Refused, NoMemory}
 use Rattle.m36_procs.specs.declared.reader.Reader.{Reader}
 
 -- a parsed line that is known to be neither a `process` nor a `turns` line: an `at` line, or one
 -- without a form
-abbrev pub rest_in : List (List ℕ) → Line
-rest_in words = line_by None None (at_words words)
+abbrev pub at_or_other_line : List (List ℕ) → Line
+at_or_other_line words = line_by None None (at_words words)
 
 -- the state of parsing after the lines that were read
 abbrev pub parse_state_of : Reader → ParseState
@@ -36,7 +36,7 @@ procs_read r =
 
 -- the invariant of a reader: the limits are kept, and if the text may end there is a process
 pub record IsReaderInvariant (r : Reader) : Type 0 where
-  pub are : IsFew (length r.regs.items) r.schedule.items
+  pub are : IsWithinLimits (length r.regs.items) r.schedule.items
   pub some : may_end r.stage ≡ true → 0 < length r.regs.items
 
 -- A line was accepted: it has no code, and adds what it describes.
@@ -47,7 +47,7 @@ pub record TookLine (old new : Reader) (line : Line) : Type 0 where
   pub schedule : new.schedule.items ≡ old.schedule.items ++ turns_of line
 
 -- the result of taking a line: it was accepted, or has this least code
-abbrev pub TakeSays : Result (Unit {0}) LineFault → Reader → Reader → Line → Type 0
-TakeSays (Ok done) old new line = TookLine old new line
-TakeSays (Err (Refused code)) old new line = state_after_line (parse_state_of old) line ≡ Err code
-TakeSays (Err NoMemory) old new line = ⊤
+abbrev pub TakeResult : Result (Unit {0}) LineFault → Reader → Reader → Line → Type 0
+TakeResult (Ok done) old new line = TookLine old new line
+TakeResult (Err (Refused code)) old new line = state_after_line (parse_state_of old) line ≡ Err code
+TakeResult (Err NoMemory) old new line = ⊤

@@ -38,9 +38,9 @@ unfoldable pub schedule_text : List ℕ → Processes (List ℕ) → List ℕ
 schedule_text schedule s = joined (schedule_pieces schedule s)
 
 -- the state after these events, which begin in state `s`
-abbrev pub behind_events : Processes (List ℕ) → List (Event (List ℕ)) → Processes (List ℕ)
-behind_events s made = state_after_all (λ (e : Event (List ℕ)). e.after) s made
+abbrev pub state_after_events : Processes (List ℕ) → List (Event (List ℕ)) → Processes (List ℕ)
+state_after_events s made = state_after_all (λ (e : Event (List ℕ)). e.after) s made
 
 -- the state after a schedule
 unfoldable pub last_state : List ℕ → Processes (List ℕ) → Processes (List ℕ)
-last_state schedule s = behind_events s (events core_store schedule s)
+last_state schedule s = state_after_events s (events core_store schedule s)

@@ -3,7 +3,7 @@
 ghost use Rattle.std.specs.Prelude.{◌≡◌};
 ghost use Rattle.m36_procs.specs.declared.fault.LineFault.TheVariants as line;
 ghost use Rattle.m36_procs.specs.declared.fault.ProcsFault.TheVariants as fault;
-ghost use Rattle.m36_procs.specs.ProcsSays.{fault_at, line_fault_at};
+ghost use Rattle.m36_procs.specs.ProcsResult.{fault_at, line_fault_at};
 
 use m36_word::NoMemory;
 

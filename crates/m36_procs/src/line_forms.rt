@@ -84,7 +84,7 @@ fn sixteen_numbers(line: &[u8]) -> Option<ArrayVec<u8, 16>>
 }
 
 /// The turns of the line `turns C P ..`. None if it does not have this form.
-#[tactic(auto, unfolding(m36_image::specs::Several::one_to))]
+#[tactic(auto, unfolding(m36_image::specs::Several::numbers_up_to))]
 pub(crate) fn turns_line(line: &[u8]) -> Option<Turns>
     ensures { result ≡ turns_words (words_of line.now) }
 {

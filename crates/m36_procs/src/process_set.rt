@@ -1,7 +1,7 @@
 //! The processes on one core.
 
 ghost use Rattle.std.specs.Prelude.{ℕ, ◌≡◌, ◌<◌, length, slice_get, slice_set, IfOk, Some};
-ghost use Rattle.m36_procs.specs.EventSays.{EventSays};
+ghost use Rattle.m36_procs.specs.EventResult.{EventResult};
 
 use m36_core::Core;
 use m36_model::{Regs, StepRecord};
@@ -36,7 +36,7 @@ impl Model for ProcessSet {
 /// Loads the registers of process i into the machine. The registers that the machine had are stored
 /// as those of their process, `inside`.
 #[tactic(auto, using(crate::proofs::Exchanging::exchanging))]
-fn bring(machine: &mut Machine, regs: &mut Vec<Regs>, inside: &mut usize, i: usize)
+fn load_registers(machine: &mut Machine, regs: &mut Vec<Regs>, inside: &mut usize, i: usize)
     requires inside { inside.old < length regs.old.items }
     requires there { i < length regs.old.items }
     ensures here { inside.new ≡ i }
@@ -105,7 +105,7 @@ impl ProcessSet {
     #[tactic(auto, using(crate::proofs::Exchanging::exchanging))]
     pub(crate) fn step_into(&mut self, i: usize, told: &mut StepRecord)
         requires { i < length self.old.regs }
-        ensures says { EventSays i self.old self.new told.new }
+        ensures says { EventResult i self.old self.new told.new }
         ensures count { length self.new.regs ≡ length self.old.regs }
     {
         let ProcessSet {
@@ -113,7 +113,7 @@ impl ProcessSet {
             regs,
             inside,
         } = self;
-        bring(machine, regs, inside, i);
+        load_registers(machine, regs, inside, i);
         machine.step_into(told);
     }
 }

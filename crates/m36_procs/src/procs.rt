@@ -2,16 +2,16 @@
 
 ghost use Rattle.std.specs.Prelude.{◌≡◌, ◌<◌, ◌≤◌, ◌^◌, length, slice_get, IfOk, Some};
 ghost use Rattle.m36_model.specs.JointAudit.{most_processes};
-ghost use Rattle.m36_procs.specs.EventSays.{EventSays};
-ghost use Rattle.m36_procs.specs.ProcsFile.{procs_given};
-ghost use Rattle.m36_procs.specs.ProcsSays.{ProcsSays};
+ghost use Rattle.m36_procs.specs.EventResult.{EventResult};
+ghost use Rattle.m36_procs.specs.ProcsFile.{procs_of_text};
+ghost use Rattle.m36_procs.specs.ProcsResult.{ProcsResult};
 ghost use Rattle.m36_procs.specs.ReaderSays.{IsReaderInvariant, procs_read};
-ghost use Rattle.m36_procs.specs.RunSays.{RunSays, RunTakes, RunHasCause};
+ghost use Rattle.m36_procs.specs.RunResult.{RunResult, RunTakes, RunHasCause};
 
 use crate::fault::{ProcsFault, WriteFault};
 use crate::process_set::ProcessSet;
 use crate::reader::Reader;
-use crate::reading::{begin, read_lines};
+use crate::reading::{read_first_line, read_lines};
 use crate::running::run_schedule;
 use m36_core::Core;
 use m36_model::{Regs, StepRecord};
@@ -40,7 +40,7 @@ impl Model for Procs {
 }
 
 // The processes and the schedule that were read.
-fn finished(alloc: Global, reader: Reader) -> Result<Procs, NoMemory>
+fn make_procs(alloc: Global, reader: Reader) -> Result<Procs, NoMemory>
     requires fits { IsReaderInvariant reader }
     requires some { 0 < length reader.regs.items }
     ensures { IfOk result (λ p. p ≡ procs_read reader) }
@@ -64,11 +64,11 @@ impl Procs {
     #[tactic(auto, using(crate::proofs::Accepting::accepting))]
     pub fn read(alloc: Global, text: &[u8]) -> Result<Procs, ProcsFault>
         requires { length text.now ≤ 2 ^ 31 }
-        ensures { ProcsSays result (procs_given text.now) }
+        ensures { ProcsResult result (procs_of_text text.now) }
     {
-        let (mut reader, rest) = begin(alloc, text)?;
+        let (mut reader, rest) = read_first_line(alloc, text)?;
         read_lines(&mut reader, rest)?;
-        Ok(finished(alloc, reader)?)
+        Ok(make_procs(alloc, reader)?)
     }
 
     /// The number of processes: 1 to 8.
@@ -99,7 +99,7 @@ impl Procs {
     /// registers of the other processes do not change.
     pub fn event(&mut self, i: usize) -> StepRecord
         requires { i < length self.old.state.regs }
-        ensures says { EventSays i self.old.state self.new.state result }
+        ensures says { EventResult i self.old.state self.new.state result }
         ensures count { length self.new.state.regs ≡ length self.old.state.regs }
         ensures schedule { self.new.schedule ≡ self.old.schedule }
     {
@@ -134,7 +134,7 @@ impl Procs {
     /// As `event`, but overwrites `step` with the record.
     pub fn event_into(&mut self, i: usize, step: &mut StepRecord)
         requires { i < length self.old.state.regs }
-        ensures says { EventSays i self.old.state self.new.state step.new }
+        ensures says { EventResult i self.old.state self.new.state step.new }
         ensures count { length self.new.state.regs ≡ length self.old.state.regs }
         ensures schedule { self.new.schedule ≡ self.old.schedule }
     {
@@ -147,7 +147,7 @@ impl Procs {
     /// written, and the events of a prefix of the schedule were made. How long the two prefixes are
     /// is not said.
     pub fn run<S: Sink>(&mut self, out: &mut S) -> Result<(), WriteFault>
-        ensures says { RunSays result self.old.schedule
+        ensures says { RunResult result self.old.schedule
             self.old.state self.new.state (S.written out.old) (S.written out.new) }
         ensures through { RunTakes result self.old.schedule
             self.old.state (S.taken out.old) (S.taken out.new) }

@@ -3,9 +3,9 @@
 ghost use Rattle.std.specs.Prelude.{◌≡◌, ◌<◌, ◌≤◌, [], ◌∷◌, ◌++◌, OnOk};
 ghost use Rattle.std.specs.List.{repeat};
 ghost use Rattle.m36_text.specs.Lines.{words_of};
-ghost use Rattle.m36_procs.specs.ProcsFile.{are_named, most_events, events_with, line_in, may_name, may_place, may_end};
+ghost use Rattle.m36_procs.specs.ProcsFile.{are_process_numbers, most_events, events_with, line_in, may_have_process_line, may_have_at_line, may_end};
 ghost use Rattle.m36_procs.specs.ProcsFile.Line.{ProcessLine, TurnsLine};
-ghost use Rattle.m36_procs.specs.ReaderSays.{IsReaderInvariant, TakeSays, rest_in};
+ghost use Rattle.m36_procs.specs.ReaderSays.{IsReaderInvariant, TakeResult, at_or_other_line};
 
 use crate::fault::{Code, LineFault};
 use crate::line_forms::{Turns, process_line, turns_line};
@@ -45,8 +45,8 @@ pub(crate) struct Reader {
 }
 
 // Whether a `process` line may follow.
-fn may_name(stage: Stage) -> bool
-    ensures { result ≡ may_name stage }
+fn may_have_process_line(stage: Stage) -> bool
+    ensures { result ≡ may_have_process_line stage }
 {
     match stage {
         Stage::Naming => true,
@@ -55,8 +55,8 @@ fn may_name(stage: Stage) -> bool
 }
 
 // Whether an `at` line may follow.
-fn may_place(stage: Stage) -> bool
-    ensures { result ≡ may_place stage }
+fn may_have_at_line(stage: Stage) -> bool
+    ensures { result ≡ may_have_at_line stage }
 {
     match stage {
         Stage::Naming | Stage::Placing => true,
@@ -75,17 +75,17 @@ pub(crate) fn may_end(stage: Stage) -> bool
 }
 
 // Whether each number is that of one of `count` processes.
-fn are_named(count: usize, numbers: &[u8]) -> bool
-    ensures { result ≡ are_named count numbers.now }
+fn are_process_numbers(count: usize, numbers: &[u8]) -> bool
+    ensures { result ≡ are_process_numbers count numbers.now }
 {
     numbers.iter().all(|number| (*number as usize) < count)
 }
 
 // Whether each turn is that of one of `count` processes.
-fn have_processes(count: usize, turns: &Turns) -> bool
-    ensures { result ≡ are_named count turns.now.order }
+fn are_turns_of_processes(count: usize, turns: &Turns) -> bool
+    ensures { result ≡ are_process_numbers count turns.now.order }
 {
-    are_named(count, turns.order.as_slice())
+    are_process_numbers(count, turns.order.as_slice())
 }
 
 // The number of events with these turns after `events` events.
@@ -129,9 +129,9 @@ fn push_turns(schedule: &mut Vec<u8>, turns: &Turns) -> Result<(), NoMemory>
 // Takes a `process` line: adds the process. Refuses it with P1 if it is out of order or the ninth.
 #[tactic(auto, unfolding(crate::specs::ProcsFile::state_after_line), using(crate::proofs::Taking::taking))]
 fn take_process(reader: &mut Reader, regs: Regs) -> Result<(), LineFault>
-    ensures { TakeSays result reader.old reader.new (ProcessLine regs) }
+    ensures { TakeResult result reader.old reader.new (ProcessLine regs) }
 {
-    if !may_name(reader.stage) || reader.regs.len() >= MOST_PROCESSES {
+    if !may_have_process_line(reader.stage) || reader.regs.len() >= MOST_PROCESSES {
         return Err(LineFault::Refused(Code::P1));
     }
     push_process(&mut reader.regs, regs)?;
@@ -143,12 +143,12 @@ fn take_process(reader: &mut Reader, regs: Regs) -> Result<(), LineFault>
 #[tactic(auto, unfolding(crate::specs::ProcsFile::state_after_line), using(crate::proofs::Taking::taking))]
 fn take_turns(reader: &mut Reader, turns: &Turns) -> Result<(), LineFault>
     requires { IsReaderInvariant reader.old }
-    ensures { TakeSays result reader.old reader.new (TurnsLine turns.now) }
+    ensures { TakeResult result reader.old reader.new (TurnsLine turns.now) }
 {
     if reader.regs.is_empty() || events_with(reader.schedule.len(), turns) > MOST_EVENTS {
         return Err(LineFault::Refused(Code::P1));
     }
-    if have_processes(reader.regs.len(), turns) {
+    if are_turns_of_processes(reader.regs.len(), turns) {
         push_turns(&mut reader.schedule, turns)?;
         reader.stage = Stage::Turning;
         Ok(())
@@ -160,10 +160,10 @@ fn take_turns(reader: &mut Reader, turns: &Turns) -> Result<(), LineFault>
 // Takes a line that is neither a `process` nor a `turns` line: writes the words of an `at` line
 // into core, and refuses any other line with P1.
 #[tactic(auto, unfolding(crate::specs::ProcsFile::state_after_line), using(crate::proofs::Taking::taking))]
-fn take_words(reader: &mut Reader, line: &[u8]) -> Result<(), LineFault>
-    ensures { TakeSays result reader.old reader.new (rest_in (words_of line.now)) }
+fn take_other_line(reader: &mut Reader, line: &[u8]) -> Result<(), LineFault>
+    ensures { TakeResult result reader.old reader.new (at_or_other_line (words_of line.now)) }
 {
-    if !may_place(reader.stage) || reader.regs.is_empty() {
+    if !may_have_at_line(reader.stage) || reader.regs.is_empty() {
         return Err(LineFault::Refused(Code::P1));
     }
     match put_line_into_core(&mut reader.core, reader.next, line) {
@@ -180,7 +180,7 @@ impl Reader {
     /// Takes a line, or fails with the least code that it has.
     pub(crate) fn take(&mut self, line: &[u8]) -> Result<(), LineFault>
         requires { IsReaderInvariant self.old }
-        ensures { TakeSays result self.old self.new (line_in (words_of line.now)) }
+        ensures { TakeResult result self.old self.new (line_in (words_of line.now)) }
     {
         if let Some(regs) = process_line(line) {
             return take_process(self, regs);
@@ -188,6 +188,6 @@ impl Reader {
         if let Some(turns) = turns_line(line) {
             return take_turns(self, &turns);
         }
-        take_words(self, line)
+        take_other_line(self, line)
     }
 }

@@ -3,7 +3,7 @@
 ghost use Rattle.std.specs.Prelude.{◌+◌, ◌≤◌, ◌^◌, length, IfOk};
 ghost use Rattle.m36_text.specs.Lines.{lines_of};
 ghost use Rattle.m36_procs.specs.ReaderSays.{IsReaderInvariant};
-ghost use Rattle.m36_procs.specs.ReadingSays.{BeginSays, LinesSay};
+ghost use Rattle.m36_procs.specs.ReadingSays.{FirstLineResult, LinesResult};
 
 use crate::fault::{Code, ProcsFault};
 use crate::reader::{Reader, Stage, may_end};
@@ -14,8 +14,8 @@ use std::alloc::Global;
 
 /// Parses the first line. Returns a reader with the core that it describes, and the text after it.
 #[tactic(auto, using(crate::proofs::Beginning::beginning))]
-pub(crate) fn begin(alloc: Global, text: &[u8]) -> Result<(Reader, &[u8]), ProcsFault>
-    ensures says { BeginSays result (lines_of text.now) }
+pub(crate) fn read_first_line(alloc: Global, text: &[u8]) -> Result<(Reader, &[u8]), ProcsFault>
+    ensures says { FirstLineResult result (lines_of text.now) }
     ensures shorter { IfOk result (λ begun. length begun.1.now ≤ length text.now) }
 {
     let Some((line, rest)) = first_line(text) else {
@@ -40,7 +40,7 @@ pub(crate) fn begin(alloc: Global, text: &[u8]) -> Result<(Reader, &[u8]), Procs
 pub(crate) fn read_lines(reader: &mut Reader, text: &[u8]) -> Result<(), ProcsFault>
     requires fits { IsReaderInvariant reader.old }
     requires short { length text.now ≤ 2 ^ 31 }
-    ensures says { LinesSay result reader.old reader.new (lines_of text.now) }
+    ensures says { LinesResult result reader.old reader.new (lines_of text.now) }
 {
     let mut rest = text;
     let mut number: u32 = 2;

@@ -5,9 +5,9 @@ ghost use Rattle.std.specs.Prelude.{◌≡◌, ◌<◌, true, [], ◌∷◌, ◌
 ghost use Rattle.m36_outside.specs.Gathered.{Adds};
 ghost use Rattle.m36_outside.specs.Passing.{TakesLines, joined};
 ghost use Rattle.m36_outside.specs.Put.{PutResult, PutHasCause};
-ghost use Rattle.m36_procs.specs.ProcsFile.{are_named};
+ghost use Rattle.m36_procs.specs.ProcsFile.{are_process_numbers};
 ghost use Rattle.m36_procs.specs.ScheduleText.{event_line, end_line};
-ghost use Rattle.m36_procs.specs.RunSays.{RunSays, RunTakes, RunHasCause};
+ghost use Rattle.m36_procs.specs.RunResult.{RunResult, RunTakes, RunHasCause};
 
 use crate::fault::WriteFault;
 use crate::process_set::ProcessSet;
@@ -72,8 +72,8 @@ pub(crate) fn run_schedule<S: Sink>(
     schedule: &[u8],
     out: &mut S,
 ) -> Result<(), WriteFault>
-    requires named { are_named (length processes.old.regs) schedule.now ≡ true }
-    ensures says { RunSays result schedule.now
+    requires named { are_process_numbers (length processes.old.regs) schedule.now ≡ true }
+    ensures says { RunResult result schedule.now
         processes.old processes.new (S.written out.old) (S.written out.new) }
     ensures through { RunTakes result schedule.now processes.old
         (S.taken out.old) (S.taken out.new) }

@@ -17,7 +17,7 @@ use Rattle.m36_status.specs.declared.status.Status.{Status}
 use Rattle.m36_program.specs.Program.{Found, Content, Absent, TooLarge, May, Program, then_with, puts_all}
 use Rattle.m36_program.specs.Program.{done, stops, reads, writes, puts, takes, some, wants}
 use Rattle.m36_program.specs.Performs.{Performs}
-use Rattle.m36_program.specs.Trail.{Trail, pieces_of, put_of, output_of}
+use Rattle.m36_program.specs.MayHappen.{MayHappen, pieces_of, put_answer_of, output_of}
 use Rattle.m36_program.specs.Alike.{EndsAlike, ReadsAlike, WritesAlike, PutsAlike, TakesAlike, Alike, IsEnd, OneText}
 use Rattle.m36_program.specs.Alike.{SameInput, inputs_of}
 use Rattle.m36_program.specs.OneText.{HasOneText}
@@ -163,13 +163,13 @@ alike_one Is go one each =
 -- a program that takes no input
 no_inputs :
     {A : Type 0} (may : May) (events : List Event) (result : Result A Status) → may.takes ≡ false
-    → Trail may events result → inputs_of events ≡ []
+    → MayHappen may events result → inputs_of events ≡ []
 no_inputs may [] result never trail = refl
 no_inputs may (FileRead name answer ∷ more) result never trail =
-    after_read answer (Trail may more result) more result (ap inputs_of)
+    after_read answer (MayHappen may more result) more result (ap inputs_of)
     (λ on. no_inputs may more result never on) trail
 no_inputs may (FileWrite name content answer ∷ more) result never trail =
-    after_write answer (Trail may more result) more result (ap inputs_of)
+    after_write answer (MayHappen may more result) more result (ap inputs_of)
     (λ on. no_inputs may more result never on) trail.1
 no_inputs may (Output piece ∷ more) result never trail = no_inputs may more result never trail
 no_inputs may (OutputFailed pieces ∷ more) result never trail = ap inputs_of trail.none
@@ -221,7 +221,7 @@ pub performs_written :
     → GrewWithin old.written new.written (joined (pieces_of other.events))
 performs_written p files result end old new old' new' never alike ended told told' one other =
     let text = performs_quiet_text p files result end old new old' new' never alike ended told told' one other in
-    written_within (put_of one.events) (pieces_of one.events) (pieces_of other.events) text.left
+    written_within (put_answer_of one.events) (pieces_of one.events) (pieces_of other.events) text.left
     (output_of old) (output_of new) text.is (performs_text p result old new one)
 
 pub has_one_text : {may : May} (p : Program may (Unit {0})) → may.takes ≡ false → Alike p p → HasOneText p

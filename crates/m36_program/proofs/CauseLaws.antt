@@ -15,8 +15,8 @@ use Rattle.m36_status.specs.declared.status.Status.{Status}
 use Rattle.m36_status.specs.declared.status.Status.TheVariants as status
 use Rattle.m36_program.specs.Program.{May}
 use Rattle.m36_program.specs.Goes.{Ends, AfterRead, AfterWrite}
-use Rattle.m36_program.specs.Trail.{IsUnfailed, Trail, NoneFailed, ReadFailed, WriteFailed, PutFailed, TakeFailed}
-use Rattle.m36_program.specs.Trail.{HasCause}
+use Rattle.m36_program.specs.MayHappen.{IsWithoutFailure, MayHappen, NoneFailed, ReadFailed, WriteFailed, PutFailed, TakeFailed}
+use Rattle.m36_program.specs.MayHappen.{HasCause}
 
 -- ---- counts of faults
 
@@ -30,7 +30,7 @@ none_failed old new same = record {
 
 -- if no call failed
 unfailed_cause :
-    {A : Type 0} (result : Result A Status) (old new : Seen) → IsUnfailed result → NoneFailed old new
+    {A : Type 0} (result : Result A Status) (old new : Seen) → IsWithoutFailure result → NoneFailed old new
     → HasCause result old new
 unfailed_cause (Err status.ReadFault) old new is none = absurd is
 unfailed_cause (Err status.WriteFault) old new is none = absurd is
@@ -120,8 +120,8 @@ read_cause :
     {A : Type 0} (may : May) (name : List ℕ) (answer : ReadAnswer) (more : List Event) (result : Result A Status)
     (old between new : Seen)
     → IsFileRead name answer old between → Follow more between new
-    → (Trail may more result → HasCause result between new)
-    → AfterRead answer (λ found events. Trail may more result) more result → HasCause result old new
+    → (MayHappen may more result → HasCause result between new)
+    → AfterRead answer (λ found events. MayHappen may more result) more result → HasCause result old new
 read_cause may name (read.Read bytes) more result old between new did follow rest after =
     cause_after result old between new (file_read name (read.Read bytes) old between did did.cause) (rest after)
 read_cause may name read.Absent more result old between new did follow rest after =
@@ -143,8 +143,8 @@ write_cause :
     {A : Type 0} (may : May) (name content : List ℕ) (answer : WriteAnswer) (more : List Event)
     (result : Result A Status) (old between new : Seen)
     → IsFileWrite name content answer old between → Follow more between new
-    → (Trail may more result → HasCause result between new)
-    → AfterWrite answer (λ events. Trail may more result) more result → HasCause result old new
+    → (MayHappen may more result → HasCause result between new)
+    → AfterWrite answer (λ events. MayHappen may more result) more result → HasCause result old new
 write_cause may name content write.Written more result old between new did follow rest after =
     cause_after result old between new (file_written name content write.Written old between did did.cause) (rest after)
 write_cause {A = A} may name content write.Failed more result old between new did follow rest after =
@@ -161,7 +161,7 @@ write_cause {A = A} may name content write.NoMemory more result old between new 
 -- each result has its cause
 pub trail_cause :
     {A : Type 0} (may : May) (events : List Event) (result : Result A Status) (old new : Seen)
-    → Trail may events result → Follow events old new → HasCause result old new
+    → MayHappen may events result → Follow events old new → HasCause result old new
 unfolding Follow
 trail_cause may [] result old new trail same = unfailed_cause result old new trail (none_failed old new same)
 trail_cause may (FileRead name answer ∷ more) result old new trail follow =

@@ -13,7 +13,7 @@ use Rattle.m36_world.specs.Follow.{Follow}
 use Rattle.m36_status.specs.declared.status.Status.{Status}
 use Rattle.m36_program.specs.Program.{May}
 use Rattle.m36_program.specs.Goes.{AfterRead, AfterWrite}
-use Rattle.m36_program.specs.Trail.{Trail, FilesKept, InputKept}
+use Rattle.m36_program.specs.MayHappen.{MayHappen, FilesKept, InputKept}
 
 -- P holds for every answer if it holds when the program ends and when it continues
 pub after_read :
@@ -67,12 +67,12 @@ read_keeps_files name answer old new did = record {
 
 pub trail_files :
     {A : Type 0} (may : May) (events : List Event) (result : Result A Status) (old new : Seen)
-    → may.writes ≡ false → Trail may events result → Follow events old new → FilesKept old new
+    → may.writes ≡ false → MayHappen may events result → Follow events old new → FilesKept old new
 unfolding Follow
 trail_files may [] result old new never trail same = files_kept old new same
 trail_files may (FileRead name answer ∷ more) result old new never trail follow =
     files_after old follow.between new (read_keeps_files name answer old follow.between follow.begins)
-    (after_read answer (Trail may more result) more result
+    (after_read answer (MayHappen may more result) more result
     (λ none. files_kept follow.between new (passed_none more follow.between new none follow.goes_on))
     (λ on. trail_files may more result follow.between new never on follow.goes_on) trail)
 trail_files may (FileWrite name content answer ∷ more) result old new never trail follow =
@@ -124,7 +124,7 @@ input_after old between new first rest = record {
 
 pub trail_input :
     {A : Type 0} (may : May) (events : List Event) (result : Result A Status) (old new : Seen)
-    → may.takes ≡ false → Trail may events result → Follow events old new → InputKept old new
+    → may.takes ≡ false → MayHappen may events result → Follow events old new → InputKept old new
 unfolding Follow
 trail_input may [] result old new never trail same = input_kept old new same
 trail_input may (FileRead name answer ∷ more) result old new never trail follow =
@@ -134,7 +134,7 @@ trail_input may (FileRead name answer ∷ more) result old new never trail follo
       inputs = ap (λ s. s.inputs) did.rest;
       faults = ap (λ s. s.input_faults) did.rest;
     })
-    (after_read answer (Trail may more result) more result
+    (after_read answer (MayHappen may more result) more result
     (λ none. input_kept follow.between new (passed_none more follow.between new none follow.goes_on))
     (λ on. trail_input may more result follow.between new never on follow.goes_on) trail)
 trail_input may (FileWrite name content answer ∷ more) result old new never trail follow =
@@ -144,7 +144,7 @@ trail_input may (FileWrite name content answer ∷ more) result old new never tr
       inputs = ap (λ s. s.inputs) did.rest;
       faults = ap (λ s. s.input_faults) did.rest;
     })
-    (after_write answer (Trail may more result) more result
+    (after_write answer (MayHappen may more result) more result
     (λ none. input_kept follow.between new (passed_none more follow.between new none follow.goes_on))
     (λ on. trail_input may more result follow.between new never on follow.goes_on) trail.1)
 trail_input may (Output piece ∷ more) result old new never trail follow =

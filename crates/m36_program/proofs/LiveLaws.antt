@@ -9,13 +9,13 @@ use Rattle.m36_program.specs.Program.{Absent, May, Program, puts_all}
 use Rattle.m36_program.specs.Program.{done, stops, reads, writes, puts, takes, some, wants}
 use Rattle.m36_program.specs.Ended.{HasEnd}
 use Rattle.m36_program.specs.Goes.{Goes}
-use Rattle.m36_program.specs.Lives.{Lives}
+use Rattle.m36_program.specs.HasNoDeadEnd.{HasNoDeadEnd}
 
 -- ---- parts
 
 pub lives_puts :
-    {may : May} {A : Type 0} (pieces : List (List ℕ)) (p : Program may A) → Lives p → Lives (puts_all pieces p)
-unfolding Lives puts_all
+    {may : May} {A : Type 0} (pieces : List (List ℕ)) (p : Program may A) → HasNoDeadEnd p → HasNoDeadEnd (puts_all pieces p)
+unfolding HasNoDeadEnd puts_all
 lives_puts [] p live = live
 lives_puts (piece ∷ pieces) p live = lives_puts pieces p live
 
@@ -28,8 +28,8 @@ has_end_after :
     → HasEnd q → HasEnd p
 has_end_after p q before on has none = has (λ events result goes. none (before events) result (on events result goes))
 
-pub live_end : {may : May} {A : Type 0} (p : Program may A) → Lives p → HasEnd p
-unfolding Goes Lives
+pub live_end : {may : May} {A : Type 0} (p : Program may A) → HasNoDeadEnd p → HasEnd p
+unfolding Goes HasNoDeadEnd
 live_end (done a) live = λ none. none [] (Ok a) (record { none = refl; result_is = refl }) tt
 live_end (stops s own) live = λ none. none [] (Err s) (record { none = refl; result_is = refl }) own
 live_end (reads name go) live =

@@ -9,13 +9,13 @@ use Rattle.m36_world.specs.Seen.{Seen}
 use Rattle.m36_world.proofs.Following.{follow_logs}
 use Rattle.m36_status.specs.declared.status.Status.{Status}
 use Rattle.m36_status.specs.declared.status.Status.TheVariants as status
-use Rattle.m36_program.specs.Early.{early, status_by}
+use Rattle.m36_program.specs.Early.{result_of_status, status_of_result}
 use Rattle.m36_program.specs.Goes.{Goes}
 use Rattle.m36_program.specs.Performs.{Performs}
 use Rattle.m36_program.specs.Program.{May, Program}
-use Rattle.m36_program.specs.Trail.{NoneFailed, HasCause, FilesKept, InputKept}
+use Rattle.m36_program.specs.MayHappen.{NoneFailed, HasCause, FilesKept, InputKept}
 use Rattle.m36_program.proofs.ProgramLaws.{early_given, performs_given, performs_cause, performs_files, performs_input}
-use Rattle.m36_program.specs.Objects.{objects, PerformsOver}
+use Rattle.m36_program.specs.Objects.{objects_as_world, PerformsOver}
 
 -- The two states have the same records of the objects.
 pub record SameObjects (seen other : Seen) : Type 0 where
@@ -50,8 +50,8 @@ pub same_now :
     (folder folder' : F) (lines lines' : L) (out out' : S) (events : List Event) (references : List ℕ)
     → folder ≡ folder' → lines ≡ lines' → out ≡ out'
     → SameObjects
-    (record (objects asked wrote files read_faults write_faults given left input_faults taken written faults folder lines out) { events = events; references = references })
-    (objects asked wrote files read_faults write_faults given left input_faults taken written faults folder' lines' out')
+    (record (objects_as_world asked wrote files read_faults write_faults given left input_faults taken written faults folder lines out) { events = events; references = references })
+    (objects_as_world asked wrote files read_faults write_faults given left input_faults taken written faults folder' lines' out')
 same_now asked wrote files read_faults write_faults given left input_faults taken written faults folder folder' lines lines' out out' events references f l s = record {
   reads = ap asked f;
   writes = ap wrote f;
@@ -69,8 +69,8 @@ same_now asked wrote files read_faults write_faults given left input_faults take
 pub performs_over :
     {may : May} (program : Program may (Unit {0})) (result : Result (Unit {0}) Status) (status : Status)
     (old new old' new' : Seen)
-    → status ≡ status_by result → old.events ≡ old'.events → SameObjects old old' → SameObjects new new'
-    → Performs program result old new → PerformsOver program (early status) old' new'
+    → status ≡ status_of_result result → old.events ≡ old'.events → SameObjects old old' → SameObjects new new'
+    → Performs program result old new → PerformsOver program (result_of_status status) old' new'
 performs_over program result status old new old' new' status_is none same_old same_new performs =
     let logs = follow_logs performs.events old new performs.follow in
     let old_is : old ≡ record old' { references = old.references } =
@@ -87,7 +87,7 @@ performs_over program result status old new old' new' status_is none same_old sa
           (subst (λ s. Follow performs.events old s) new_is performs.follow);
       goes =
           subst (λ r. Goes program performs.events r)
-          (sym (ap early status_is ∙ early_given result (performs_given program result old new performs))) performs.goes;
+          (sym (ap result_of_status status_is ∙ early_given result (performs_given program result old new performs))) performs.goes;
     }
 
 -- ---- what a call over the three objects does, as a call over a world

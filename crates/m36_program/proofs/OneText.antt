@@ -22,7 +22,7 @@ use Rattle.m36_status.specs.declared.status.Status.TheVariants.{ReadFault, Write
 use Rattle.m36_program.specs.Program.{Found, Content, TooLarge, May, Program}
 use Rattle.m36_program.specs.Program.{done, stops, reads, writes, puts, takes, some, wants}
 use Rattle.m36_program.specs.Goes.{AfterRead, AfterWrite, FailsWith, Goes}
-use Rattle.m36_program.specs.Trail.{pieces_of}
+use Rattle.m36_program.specs.MayHappen.{pieces_of}
 use Rattle.m36_program.specs.Found.{found_in}
 use Rattle.m36_program.specs.Alike.{EndsAlike, ReadsAlike, WritesAlike, PutsAlike, TakesAlike, Alike, IsEnd, OneText}
 use Rattle.m36_program.specs.Alike.{SameInput, inputs_of}

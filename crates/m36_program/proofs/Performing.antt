@@ -5,7 +5,7 @@ use Rattle.m36_world.specs.declared.event.Event.{Event}
 use Rattle.m36_world.proofs.Following.{follow_none, follow_on}
 use Rattle.m36_status.specs.declared.status.Status.{Status}
 use Rattle.m36_status.specs.declared.status.Status.TheVariants.{NoMemory}
-use Rattle.m36_program.specs.Program.{May, IsOwn, Program, done, stops, puts, some, wants, then_with}
+use Rattle.m36_program.specs.Program.{May, IsOwnStatus, Program, done, stops, puts, some, wants, then_with}
 use Rattle.m36_program.specs.Goes.{Goes}
 use Rattle.m36_program.specs.Performs.{Performs}
 use Rattle.m36_program.specs.Readers.{put_one}
@@ -18,7 +18,7 @@ unfolding Goes
 goes_done may a = record { none = refl; result_is = refl }
 
 pub goes_stops :
-    (may : May) (A : Type 0) (s : Status) (own : IsOwn s) → Goes {may = may} {A = A} (stops s own) [] (Err s)
+    (may : May) (A : Type 0) (s : Status) (own : IsOwnStatus s) → Goes {may = may} {A = A} (stops s own) [] (Err s)
 unfolding Goes
 goes_stops may A s own = record { none = refl; result_is = refl }
 

@@ -16,8 +16,8 @@ use Rattle.m36_status.specs.declared.status.Status.TheVariants as status
 use Rattle.m36_status.specs.declared.status.Status.TheVariants.{WriteFault}
 use Rattle.m36_program.specs.Program.{May, Program, puts_all}
 use Rattle.m36_program.specs.Goes.{FailsWith, Goes}
-use Rattle.m36_program.specs.Early.{early, MayEnd, ends}
-use Rattle.m36_program.specs.Trail.{pieces_of, put_of}
+use Rattle.m36_program.specs.Early.{result_of_status, MayEnd, ends}
+use Rattle.m36_program.specs.MayHappen.{pieces_of, put_answer_of}
 
 -- ---- pieces, reads and events
 
@@ -26,7 +26,7 @@ pub pieces_put :
 pieces_put [] more = refl
 pieces_put (piece ∷ pieces) more = ap (λ l. piece ∷ l) (pieces_put pieces more)
 
-pub put_after : (pieces : List (List ℕ)) (more : List Event) → put_of (outputs pieces ++ more) ≡ put_of more
+pub put_after : (pieces : List (List ℕ)) (more : List Event) → put_answer_of (outputs pieces ++ more) ≡ put_answer_of more
 put_after [] more = refl
 put_after (piece ∷ pieces) more = put_after pieces more
 
@@ -53,14 +53,14 @@ then_more piece pieces rest more events result is on = record {
 pub puts_gone :
     {may : May} {A : Type 0} (pieces : List (List ℕ)) (rest : Program may A) (events : List Event)
     (result : Result A Status)
-    → put_of events ≡ Done → Goes (puts_all pieces rest) events result → ThenGoes pieces rest events result
+    → put_answer_of events ≡ Done → Goes (puts_all pieces rest) events result → ThenGoes pieces rest events result
 unfolding Goes puts_all
 puts_gone [] rest events result whole goes = record { more = events; is = refl; goes = goes }
 puts_gone (piece ∷ pieces) rest events result whole (inl goes) =
     then_more piece pieces rest goes.more events result goes.first
-    (puts_gone pieces rest goes.more result (sym (ap put_of goes.first) ∙ whole) goes.rest)
+    (puts_gone pieces rest goes.more result (sym (ap put_answer_of goes.first) ∙ whole) goes.rest)
 puts_gone (piece ∷ pieces) rest events result whole (inr failed) =
-    absurd (let fails : put_of events ≡ Failed = ap put_of failed.only in cc)
+    absurd (let fails : put_answer_of events ≡ Failed = ap put_answer_of failed.only in cc)
 
 -- ---- a program that puts pieces, and ends with a status
 
@@ -68,13 +68,13 @@ puts_gone (piece ∷ pieces) rest events result whole (inr failed) =
 pub record PutsWhole (pieces : List (List ℕ)) (s : Status) (events : List Event)
     (result : Result (Unit {0}) Status) : Type 0 where
   pub events_are : events ≡ outputs pieces
-  pub result_is : result ≡ early s
+  pub result_is : result ≡ result_of_status s
 
 -- The output failed.
 pub record PutsPart (pieces : List (List ℕ)) (events : List Event) (result : Result (Unit {0}) Status) : Type 0 where
   pub left : List (List ℕ)
   pub is : pieces ≡ pieces_of events ++ left
-  pub failed : put_of events ≡ Failed
+  pub failed : put_answer_of events ≡ Failed
   pub result_is : result ≡ Err WriteFault
 
 ends_whole :
@@ -87,7 +87,7 @@ ends_whole may status.WriteFault own events result goes = absurd own
 ends_whole may status.NoMemory own events result goes = absurd own
 ends_whole may _ own events result goes = record { events_are = goes.none; result_is = goes.result_is }
 
-outputs_done : (pieces : List (List ℕ)) → put_of (outputs pieces) ≡ Done
+outputs_done : (pieces : List (List ℕ)) → put_answer_of (outputs pieces) ≡ Done
 outputs_done [] = refl
 outputs_done (piece ∷ pieces) = outputs_done pieces
 
@@ -118,8 +118,8 @@ ended_failed may piece [] pieces s rest result on fails =
     record { left = pieces; is = refl; failed = refl; result_is = fails }
 ended_failed may piece (next ∷ failed) pieces s rest result on fails =
     elim (on fails) [
-      | inl whole ↦ absurd (let done : put_of (OutputFailed (next ∷ failed) ∷ []) ≡ Done =
-          ap put_of whole.events_are ∙ outputs_done pieces in cc)
+      | inl whole ↦ absurd (let done : put_answer_of (OutputFailed (next ∷ failed) ∷ []) ≡ Done =
+          ap put_answer_of whole.events_are ∙ outputs_done pieces in cc)
       | inr part ↦ record {
         left = part.left;
         is = ap (λ l. piece ∷ l) part.is;

@@ -15,7 +15,7 @@ use Rattle.m36_status.specs.declared.status.Status.TheVariants.{NoMemory}
 use Rattle.m36_program.specs.Program.{Found, May, Program, reads}
 use Rattle.m36_program.specs.Goes.{AfterRead, Goes}
 use Rattle.m36_program.specs.Performs.{Performs}
-use Rattle.m36_program.specs.Readers.{refused, refuses, IsRefusal, file_bytes, put_one, write_one}
+use Rattle.m36_program.specs.Readers.{bad_file, refuses, IsRefusal, file_bytes, put_one, write_one}
 use Rattle.m36_world.proofs.Following.{follow_one}
 
 -- ---- a refusal
@@ -52,21 +52,21 @@ bytes_read may name bytes old new did =
 
 pub bytes_absent :
     (may : May) (name : List ℕ) (status : Status) (old new : Seen)
-    → IsFileRead name read.Absent old new → IsRefusal status (refused name code.F1 0)
+    → IsFileRead name read.Absent old new → IsRefusal status (bad_file name code.F1 0)
     → Performs {may = may} (file_bytes name) (Err status) old new
 unfolding file_bytes
 bytes_absent may name status old new did is =
     performs_read name _ read.Absent (Err status) old new did
-    (goes_refused may (List ℕ) status (refused name code.F1 0) is)
+    (goes_refused may (List ℕ) status (bad_file name code.F1 0) is)
 
 pub bytes_large :
     (may : May) (name : List ℕ) (status : Status) (old new : Seen)
-    → IsFileRead name read.TooLarge old new → IsRefusal status (refused name code.F2 0)
+    → IsFileRead name read.TooLarge old new → IsRefusal status (bad_file name code.F2 0)
     → Performs {may = may} (file_bytes name) (Err status) old new
 unfolding file_bytes
 bytes_large may name status old new did is =
     performs_read name _ read.TooLarge (Err status) old new did
-    (goes_refused may (List ℕ) status (refused name code.F2 0) is)
+    (goes_refused may (List ℕ) status (bad_file name code.F2 0) is)
 
 pub bytes_failed :
     (may : May) (name : List ℕ) (old new : Seen) → IsFileRead name read.Failed old new

@@ -25,15 +25,15 @@ use Rattle.m36_status.specs.declared.status.Status.TheVariants as status
 use Rattle.m36_program.specs.Program.{Found, Content, Absent, TooLarge, May, quiet, Program, then_with}
 use Rattle.m36_program.specs.Program.{done, stops, reads, writes, puts, takes, some, wants}
 use Rattle.m36_program.specs.Alike.{IsEnd}
-use Rattle.m36_program.specs.Early.{IsGiven}
-use Rattle.m36_program.specs.Ended.{NoneRose, IsDoneOrNoMemory, StartsWith, SaysYes, Audited}
+use Rattle.m36_program.specs.Early.{IsProgramResult}
+use Rattle.m36_program.specs.Ended.{NoneRose, IsDoneOrNoMemory, StartsWith, OutputStartsWith, HasAuditedValue}
 use Rattle.m36_program.specs.Found.{found_in}
 use Rattle.m36_program.specs.Goes.{Goes}
 use Rattle.m36_program.specs.Performs.{Performs}
-use Rattle.m36_program.specs.Reader.{IsReader, outcome_in, ReadBy}
+use Rattle.m36_program.specs.Reader.{IsReader, reader_result, ReadBy}
 use Rattle.m36_program.specs.Readers.{refuses, bytes_found, file_bytes}
 use Rattle.m36_program.specs.Split.{BothGo, FirstEnds}
-use Rattle.m36_program.specs.Trail.{Trail, HasCause, FilesKept, InputKept, pieces_of, put_of, output_of}
+use Rattle.m36_program.specs.MayHappen.{MayHappen, HasCause, FilesKept, InputKept, pieces_of, put_answer_of, output_of}
 use Rattle.m36_program.proofs.KeptLaws.{after_read, trail_files, trail_input}
 use Rattle.m36_program.proofs.PieceLaws.{pieces_put}
 use Rattle.m36_program.proofs.ProgramLaws.{performs_cause, performs_given, performs_text}
@@ -82,13 +82,13 @@ reader_bytes may name = λ found. found_is may name found
 -- A reader leaves the trail of a program that neither writes files nor takes input.
 reader_trail :
     {may : May} {A : Type 0} (p : Program may A) (events : List Event) (result : Result A Status) → IsReader p
-    → Goes p events result → Trail quiet events result
+    → Goes p events result → MayHappen quiet events result
 unfolding IsReader Goes
 reader_trail (done a) events result is goes = trail_ends quiet (Ok a) events result tt goes
 reader_trail {A = A} (stops s own) events result is goes = trail_ends quiet (Err s) events result (own_unfailed A s own) goes
 reader_trail (reads name go) events result is goes =
-    subst (λ e. Trail quiet e result) (sym goes.first)
-    (read_map goes.answer _ (λ found more. Trail quiet goes.more result) goes.more result
+    subst (λ e. MayHappen quiet e result) (sym goes.first)
+    (read_map goes.answer _ (λ found more. MayHappen quiet goes.more result) goes.more result
     (λ found on. reader_trail (go found) goes.more result (is found) on) goes.rest)
 reader_trail (writes allowed name content p) events result is goes = absurd is
 reader_trail (puts piece p) events result is goes = absurd is
@@ -133,8 +133,8 @@ reader_input p result old new is performs =
 
 pub reader_outcome :
     {may : May} {A : Type 0} (p : Program may A) (files : Files) (result : Result A Status) (old new : Seen) → IsReader p
-    → old.files ≡ Some files → IsEnd result → Performs p result old new → outcome_in files p ≡ Some result
-unfolding IsReader Goes outcome_in
+    → old.files ≡ Some files → IsEnd result → Performs p result old new → reader_result files p ≡ Some result
+unfolding IsReader Goes reader_result
 reader_outcome (done a) files result old new is told ended performs = ap (λ r. Some r) (sym performs.goes.result_is)
 reader_outcome (stops s own) files result old new is told ended performs = ap (λ r. Some r) (sym performs.goes.result_is)
 reader_outcome (reads name go) files result old new is told ended performs =
@@ -195,7 +195,7 @@ reader_split p next events result is goes =
 -- The result is an end of the program, or memory ran out.
 pub ends_unless :
     {A : Type 0} (result : Result A Status) (old new : Seen)
-    → IsGiven result → NoneRose old new → HasCause result old new → IsEnd result ⊎ (result ≡ Err status.NoMemory)
+    → IsProgramResult result → NoneRose old new → HasCause result old new → IsEnd result ⊎ (result ≡ Err status.NoMemory)
 ends_unless (Ok a) old new given none cause = inl tt
 ends_unless (Err status.Done) old new given none cause = absurd given
 ends_unless (Err status.Usage) old new given none cause = absurd given
@@ -230,7 +230,7 @@ err_end A B result s is ended = let end : IsEnd {A = B} (Err s) = subst (IsEnd {
 pub reader_then_ends :
     {may : May} {A B : Type 0} (p : Program may A) (next : A → Program may B) (files : Files) (value : A)
     (result : Result B Status) (P : Type 0) (old new : Seen)
-    → IsReader p → old.files ≡ Some files → outcome_in files p ≡ Some (Ok value) → IsEnd result
+    → IsReader p → old.files ≡ Some files → reader_result files p ≡ Some (Ok value) → IsEnd result
     → ((between : Seen) → between.files ≡ Some files → between.left ≡ old.left → Performs (next value) result between new → P)
     → Performs (then_with p next) result old new → P
 reader_then_ends {A = A} {B = B} p next files value result P old new is told gives ended on performs =
@@ -260,7 +260,7 @@ reader_then_ends {A = A} {B = B} p next files value result P old new is told giv
 pub reader_comes_done :
     {may : May} {A : Type 0} (p : Program may A) (next : A → Program may (Unit {0})) (files : Files) (value : A)
     (result : Result (Unit {0}) Status) (old new : Seen)
-    → IsReader p → old.files ≡ Some files → outcome_in files p ≡ Some (Ok value) → NoneRose old new
+    → IsReader p → old.files ≡ Some files → reader_result files p ≡ Some (Ok value) → NoneRose old new
     → ((between : Seen) → between.files ≡ Some files → between.left ≡ old.left → Performs (next value) result between new
     → IsEnd result → result ≡ Ok tt)
     → Performs (then_with p next) result old new → IsDoneOrNoMemory result
@@ -277,7 +277,7 @@ same_bytes : (before text others : List ℕ) → Some (before ++ text) ≡ Some 
 same_bytes before text others is = append_cancel_left before text others (let e = is in cc)
 
 grew_starts :
-    (opening bytes : List ℕ) (old new : Option (List ℕ)) → Grew old new bytes → SaysYes opening old new
+    (opening bytes : List ℕ) (old new : Option (List ℕ)) → Grew old new bytes → OutputStartsWith opening old new
     → (rest : List ℕ) × (bytes ≡ opening ++ rest)
 grew_starts opening bytes old new grew says = (
   says.rest,
@@ -286,7 +286,7 @@ grew_starts opening bytes old new grew says = (
 )
 
 within_starts :
-    (opening bytes : List ℕ) (old new : Option (List ℕ)) → GrewWithin old new bytes → SaysYes opening old new
+    (opening bytes : List ℕ) (old new : Option (List ℕ)) → GrewWithin old new bytes → OutputStartsWith opening old new
     → (rest : List ℕ) × (bytes ≡ opening ++ rest)
 within_starts opening bytes old new cut says =
     let part = grew_starts opening cut.part old new cut.grew says in
@@ -294,7 +294,7 @@ within_starts opening bytes old new cut says =
 
 put_starts :
     (answer : Put) (opening : List ℕ) (pieces : List (List ℕ)) (old new : Seen)
-    → PutsPieces answer pieces (output_of old) (output_of new) → SaysYes opening old.written new.written → StartsWith opening pieces
+    → PutsPieces answer pieces (output_of old) (output_of new) → OutputStartsWith opening old.written new.written → StartsWith opening pieces
 put_starts Done opening pieces old new put says =
     let found = grew_starts opening (joined pieces) old.written new.written put.text says in
     record { rest = found.0; is = found.1 }
@@ -306,9 +306,9 @@ put_starts Failed opening pieces old new put says =
 pub performs_starts :
     {may : May} {A : Type 0} (p : Program may A) (result : Result A Status) (opening : List ℕ) (old new : Seen)
     (performs : Performs p result old new)
-    → SaysYes opening old.written new.written → StartsWith opening (pieces_of performs.events)
+    → OutputStartsWith opening old.written new.written → StartsWith opening (pieces_of performs.events)
 performs_starts p result opening old new performs says =
-    put_starts (put_of performs.events) opening (pieces_of performs.events) old new (performs_text p result old new performs) says
+    put_starts (put_answer_of performs.events) opening (pieces_of performs.events) old new (performs_text p result old new performs) says
 
 nothing_starts : {P : Type 0} (opening : List ℕ) → (opening ≡ [] → ⊥) → StartsWith opening [] → P
 nothing_starts [] filled starts = absurd (filled refl)
@@ -328,7 +328,7 @@ pieces_later (InputFailed ∷ first) more none = pieces_later first more none
 by_files :
     {may : May} {A : Type 0} (p : Program may A) (value : A) (old new : Seen) (files : Option Files)
     → IsReader p → old.files ≡ files → Performs p (Ok value) old new
-    → IfSome files (λ f. outcome_in f p ≡ Some (Ok value))
+    → IfSome files (λ f. reader_result f p ≡ Some (Ok value))
 by_files p value old new None is told performs = tt
 by_files p value old new (Some files) is told performs = reader_outcome p files (Ok value) old new is told tt performs
 
@@ -354,9 +354,9 @@ read_by p value first more old new is follow goes =
 pub reader_says_yes :
     {may : May} {A B : Type 0} (p : Program may A) (next : A → Program may B) (Passes : A → Type 0) (opening : List ℕ)
     (result : Result B Status) (old new : Seen)
-    → IsReader p → (opening ≡ [] → ⊥) → SaysYes opening old.written new.written
+    → IsReader p → (opening ≡ [] → ⊥) → OutputStartsWith opening old.written new.written
     → ((value : A) (events : List Event) → Goes (next value) events result → StartsWith opening (pieces_of events) → Passes value)
-    → Performs (then_with p next) result old new → Audited p Passes old new
+    → Performs (then_with p next) result old new → HasAuditedValue p Passes old new
 reader_says_yes p next Passes opening result old new is filled says on performs =
     let starts = performs_starts (then_with p next) result opening old new performs says in
     elim (reader_split p next performs.events result is performs.goes) [

@@ -19,7 +19,7 @@ use Rattle.m36_world.specs.Follow.{Follow}
 use Rattle.m36_status.specs.declared.status.Status.{Status}
 use Rattle.m36_status.specs.declared.status.Status.TheVariants as status
 use Rattle.m36_program.specs.Program.{May}
-use Rattle.m36_program.specs.Trail.{Trail, pieces_of, put_of, output_of}
+use Rattle.m36_program.specs.MayHappen.{MayHappen, pieces_of, put_answer_of, output_of}
 use Rattle.m36_program.proofs.KeptLaws.{after_read, after_write, passed_none}
 
 -- nothing is put
@@ -56,18 +56,18 @@ puts_piece Failed piece pieces old between new first rest = record {
 text_ends :
     (more : List Event) (old between new : Seen)
     → more ≡ [] → Follow more between new → output_of between ≡ output_of old
-    → PutsPieces (put_of more) (pieces_of more) (output_of old) (output_of new)
+    → PutsPieces (put_answer_of more) (pieces_of more) (output_of old) (output_of new)
 text_ends more old between new none follow same =
-    subst (λ events. PutsPieces (put_of events) (pieces_of events) (output_of old) (output_of new)) (sym none)
+    subst (λ events. PutsPieces (put_answer_of events) (pieces_of events) (output_of old) (output_of new)) (sym none)
     (puts_nothing (output_of old) (output_of new) (ap output_of (passed_none more between new none follow) ∙ same))
 
 -- an event that puts nothing, and then others
 text_after :
     (more : List Event) (old between new : Seen)
-    → output_of between ≡ output_of old → PutsPieces (put_of more) (pieces_of more) (output_of between) (output_of new)
-    → PutsPieces (put_of more) (pieces_of more) (output_of old) (output_of new)
+    → output_of between ≡ output_of old → PutsPieces (put_answer_of more) (pieces_of more) (output_of between) (output_of new)
+    → PutsPieces (put_answer_of more) (pieces_of more) (output_of old) (output_of new)
 text_after more old between new same rest =
-    subst (λ s. PutsPieces (put_of more) (pieces_of more) s (output_of new)) same rest
+    subst (λ s. PutsPieces (put_answer_of more) (pieces_of more) s (output_of new)) same rest
 
 text_failed :
     (pieces : List (List ℕ)) (more : List Event) (old between new : Seen)
@@ -82,25 +82,25 @@ text_failed pieces more old between new did none follow =
 
 pub follow_text :
     {A : Type 0} (may : May) (events : List Event) (result : Result A Status) (old new : Seen)
-    → Trail may events result → Follow events old new
-    → PutsPieces (put_of events) (pieces_of events) (output_of old) (output_of new)
+    → MayHappen may events result → Follow events old new
+    → PutsPieces (put_answer_of events) (pieces_of events) (output_of old) (output_of new)
 unfolding Follow
 follow_text may [] result old new trail same = puts_nothing (output_of old) (output_of new) (ap output_of same)
 follow_text may (FileRead name answer ∷ more) result old new trail follow =
     let did : IsFileRead name answer old follow.between = follow.begins in
-    after_read answer (Trail may more result) more result
+    after_read answer (MayHappen may more result) more result
     (λ none. text_ends more old follow.between new none follow.goes_on (ap output_of did.rest))
     (λ on. text_after more old follow.between new (ap output_of did.rest)
     (follow_text may more result follow.between new on follow.goes_on)) trail
 follow_text may (FileWrite name content answer ∷ more) result old new trail follow =
     let did : IsFileWrite name content answer old follow.between = follow.begins in
-    after_write answer (Trail may more result) more result
+    after_write answer (MayHappen may more result) more result
     (λ none. text_ends more old follow.between new none follow.goes_on (ap output_of did.rest))
     (λ on. text_after more old follow.between new (ap output_of did.rest)
     (follow_text may more result follow.between new on follow.goes_on)) trail.1
 follow_text may (Output piece ∷ more) result old new trail follow =
     let did : IsOutput piece old follow.between = follow.begins in
-    puts_piece (put_of more) piece (pieces_of more) (output_of old) (output_of follow.between) (output_of new)
+    puts_piece (put_answer_of more) piece (pieces_of more) (output_of old) (output_of follow.between) (output_of new)
     (record {
       text = ap (λ s. s.written) did.rest ∙ ap (λ l. appended l old.written) (sym (append-nil piece));
       pieces = ap (λ s. s.outputs) did.rest;
@@ -121,14 +121,14 @@ follow_text may (InputFailed ∷ more) result old new trail follow =
 -- Unless the result is WriteFault, all pieces are put as a whole.
 pub trail_put :
     {A : Type 0} (may : May) (events : List Event) (result : Result A Status)
-    → (result ≡ Err status.WriteFault → ⊥) → Trail may events result → put_of events ≡ Done
+    → (result ≡ Err status.WriteFault → ⊥) → MayHappen may events result → put_answer_of events ≡ Done
 trail_put may [] result whole trail = refl
 trail_put may (FileRead name answer ∷ more) result whole trail =
-    after_read answer (Trail may more result) more result (ap put_of) (λ on. trail_put may more result whole on) trail
+    after_read answer (MayHappen may more result) more result (ap put_answer_of) (λ on. trail_put may more result whole on) trail
 trail_put may (FileWrite name content answer ∷ more) result whole trail =
-    after_write answer (Trail may more result) more result (ap put_of)
+    after_write answer (MayHappen may more result) more result (ap put_answer_of)
     (λ on. trail_put may more result whole on) trail.1
 trail_put may (Output piece ∷ more) result whole trail = trail_put may more result whole trail
 trail_put may (OutputFailed pieces ∷ more) result whole trail = absurd (whole trail.result_is)
 trail_put may (Input piece ∷ more) result whole trail = trail_put may more result whole trail.1
-trail_put may (InputFailed ∷ more) result whole trail = ap put_of trail.1.none
+trail_put may (InputFailed ∷ more) result whole trail = ap put_answer_of trail.1.none

@@ -6,7 +6,7 @@ use Rattle.std.specs.List.{flat_map}
 use Rattle.m36_world.specs.Logs.{input_of}
 use Rattle.m36_world.specs.declared.event.Event.{Event}
 use Rattle.m36_status.specs.declared.status.Status.{Status}
-use Rattle.m36_program.specs.Program.{Found, May, IsOwn, Program}
+use Rattle.m36_program.specs.Program.{Found, May, IsOwnStatus, Program}
 use Rattle.m36_program.specs.Program.{done, stops, reads, writes, puts, takes, some, wants}
 
 -- The second program ends without another step, with this value or status, whatever it chooses.
@@ -89,7 +89,7 @@ Alike (wants rest) other = Alike rest other
 -- The result is a value, or a status that a program itself stops with.
 abbrev pub IsEnd : {A : Type 0} → Result A Status → Type 0
 IsEnd (Ok a) = ⊤
-IsEnd (Err status) = IsOwn status
+IsEnd (Err status) = IsOwnStatus status
 
 -- The pieces `first` are a prefix of the list `all`. If the call that put them ended, they are all
 -- of them, and the results are equal.

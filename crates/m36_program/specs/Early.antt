@@ -6,34 +6,34 @@ use Rattle.m36_program.specs.Program.{May, Program, done, stops}
 
 -- the result of a call for the status of a command: Done becomes the value, any other status an
 -- error
-abbrev pub early : Status → Result (Unit {0}) Status
-early status.Done = Ok tt
-early status.Usage = Err status.Usage
-early status.ReadFault = Err status.ReadFault
-early status.WriteFault = Err status.WriteFault
-early (status.BadFile bad) = Err (status.BadFile bad)
-early status.AuditNo = Err status.AuditNo
-early (status.MachineStop end) = Err (status.MachineStop end)
-early status.Steps = Err status.Steps
-early status.NoMemory = Err status.NoMemory
+abbrev pub result_of_status : Status → Result (Unit {0}) Status
+result_of_status status.Done = Ok tt
+result_of_status status.Usage = Err status.Usage
+result_of_status status.ReadFault = Err status.ReadFault
+result_of_status status.WriteFault = Err status.WriteFault
+result_of_status (status.BadFile bad) = Err (status.BadFile bad)
+result_of_status status.AuditNo = Err status.AuditNo
+result_of_status (status.MachineStop end) = Err (status.MachineStop end)
+result_of_status status.Steps = Err status.Steps
+result_of_status status.NoMemory = Err status.NoMemory
 
 -- the status of a command for the result of a call: Done if it has the value
-abbrev pub status_by : Result (Unit {0}) Status → Status
-status_by (Ok u) = status.Done
-status_by (Err s) = s
+abbrev pub status_of_result : Result (Unit {0}) Status → Status
+status_of_result (Ok u) = status.Done
+status_of_result (Err s) = s
 
 -- A result that a program may have. It has a value instead of Done, and never Usage.
-abbrev pub IsGiven : {A : Type 0} → Result A Status → Type 0
-IsGiven (Ok a) = ⊤
-IsGiven (Err status.Done) = ⊥
-IsGiven (Err status.Usage) = ⊥
-IsGiven (Err status.ReadFault) = ⊤
-IsGiven (Err status.WriteFault) = ⊤
-IsGiven (Err (status.BadFile bad)) = ⊤
-IsGiven (Err status.AuditNo) = ⊤
-IsGiven (Err (status.MachineStop end)) = ⊤
-IsGiven (Err status.Steps) = ⊤
-IsGiven (Err status.NoMemory) = ⊤
+abbrev pub IsProgramResult : {A : Type 0} → Result A Status → Type 0
+IsProgramResult (Ok a) = ⊤
+IsProgramResult (Err status.Done) = ⊥
+IsProgramResult (Err status.Usage) = ⊥
+IsProgramResult (Err status.ReadFault) = ⊤
+IsProgramResult (Err status.WriteFault) = ⊤
+IsProgramResult (Err (status.BadFile bad)) = ⊤
+IsProgramResult (Err status.AuditNo) = ⊤
+IsProgramResult (Err (status.MachineStop end)) = ⊤
+IsProgramResult (Err status.Steps) = ⊤
+IsProgramResult (Err status.NoMemory) = ⊤
 
 -- a status that a command itself may end with
 abbrev pub MayEnd : Status → Type 0

@@ -39,14 +39,14 @@ pub record StartsWith (text : List ℕ) (pieces : List (List ℕ)) : Type 0 wher
   pub is : joined pieces ≡ text ++ rest
 
 -- What is written grew, and what was added begins with this text.
-pub record SaysYes (yes : List ℕ) (old new : Option (List ℕ)) : Type 0 where
+pub record OutputStartsWith (yes : List ℕ) (old new : Option (List ℕ)) : Type 0 where
   pub before : List ℕ
   pub rest : List ℕ
   pub was : old ≡ Some before
   pub is : new ≡ Some (before ++ (yes ++ rest))
 
 -- The call read a value by this reader, and the value passes the audit.
-pub record Audited {may : May} {A : Type 0} (reader : Program may A) (Passes : A → Type 0)
+pub record HasAuditedValue {may : May} {A : Type 0} (reader : Program may A) (Passes : A → Type 0)
     (old new : Seen) : Type 0 where
   pub value : A
   pub read : ReadBy reader value old new

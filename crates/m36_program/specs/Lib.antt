@@ -4,7 +4,7 @@ pub mod Ended
 pub mod Found
 pub mod Gathered
 pub mod Goes
-pub mod Lives
+pub mod HasNoDeadEnd
 pub mod Objects
 pub mod OneText
 pub mod Performs
@@ -12,4 +12,4 @@ pub mod Program
 pub mod Reader
 pub mod Readers
 pub mod Split
-pub mod Trail
+pub mod MayHappen

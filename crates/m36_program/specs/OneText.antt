@@ -8,7 +8,7 @@ use Rattle.m36_status.specs.declared.status.Status.{Status}
 use Rattle.m36_program.specs.Alike.{Alike, IsEnd, OneText}
 use Rattle.m36_program.specs.Performs.{Performs}
 use Rattle.m36_program.specs.Program.{May, Program}
-use Rattle.m36_program.specs.Trail.{pieces_of}
+use Rattle.m36_program.specs.MayHappen.{pieces_of}
 
 -- Over the same files all calls of a program put prefixes of one text: that of a call that ends.
 pub record HasOneText {may : May} (program : Program may (Unit {0})) : Type 0 where

@@ -23,23 +23,23 @@ pub data Found : Type 0 where
 -- A status that a program itself stops with. Not so: Done, for which a program has its value; the
 -- statuses of failed calls and of failed allocations; and Usage, since words that are no command
 -- have no program.
-abbrev pub IsOwn : Status → Type 0
-IsOwn status.Done = ⊥
-IsOwn status.Usage = ⊥
-IsOwn status.ReadFault = ⊥
-IsOwn status.WriteFault = ⊥
-IsOwn (status.BadFile bad) = ⊤
-IsOwn status.AuditNo = ⊤
-IsOwn (status.MachineStop end) = ⊤
-IsOwn status.Steps = ⊤
-IsOwn status.NoMemory = ⊥
+abbrev pub IsOwnStatus : Status → Type 0
+IsOwnStatus status.Done = ⊥
+IsOwnStatus status.Usage = ⊥
+IsOwnStatus status.ReadFault = ⊥
+IsOwnStatus status.WriteFault = ⊥
+IsOwnStatus (status.BadFile bad) = ⊤
+IsOwnStatus status.AuditNo = ⊤
+IsOwnStatus (status.MachineStop end) = ⊤
+IsOwnStatus status.Steps = ⊤
+IsOwnStatus status.NoMemory = ⊥
 
 -- What is done, step by step, until there is a value or a status.
 pub data Program (may : May) (A : Type 0) : Type 1 where
   -- ends with a value
   done : A → Program may A
   -- ends with a status
-  stops : (status : Status) → IsOwn status → Program may A
+  stops : (status : Status) → IsOwnStatus status → Program may A
   -- reads the file with a name, and continues by what is found
   reads : List ℕ → (Found → Program may A) → Program may A
   -- writes the file with a name: its content

@@ -27,16 +27,16 @@ IsReader (wants rest) = IsReader rest
 
 -- What a reader ends with over these files, if nothing fails: its value, or the status that refuses
 -- a file. None if it comes to a choice, or is no reader.
-unfoldable pub outcome_in :
+unfoldable pub reader_result :
     {may : May} {A : Type 0} → Files → Program may A → Option (Result A Status)
-outcome_in files (done a) = Some (Ok a)
-outcome_in files (stops status own) = Some (Err status)
-outcome_in files (reads name go) = outcome_in files (go (found_in (files name)))
-outcome_in files (writes allowed name content rest) = None
-outcome_in files (puts piece rest) = None
-outcome_in files (takes allowed go) = None
-outcome_in files (some Is go) = None
-outcome_in files (wants rest) = outcome_in files rest
+reader_result files (done a) = Some (Ok a)
+reader_result files (stops status own) = Some (Err status)
+reader_result files (reads name go) = reader_result files (go (found_in (files name)))
+reader_result files (writes allowed name content rest) = None
+reader_result files (puts piece rest) = None
+reader_result files (takes allowed go) = None
+reader_result files (some Is go) = None
+reader_result files (wants rest) = reader_result files rest
 
 -- A call begins with the reads of a reader, and the folder's answers to them lead the reader to
 -- this value. If the folder shows its files, it is the value by these files.
@@ -47,4 +47,4 @@ pub record ReadBy {may : May} {A : Type 0} (reader : Program may A) (value : A) 
   pub goes : Goes reader first (Ok value)
   pub later : List Asked
   pub logged : new.reads ≡ (old.reads ++ flat_map read_of first) ++ later
-  pub by_files : IfSome old.files (λ files. outcome_in files reader ≡ Some (Ok value))
+  pub by_files : IfSome old.files (λ files. reader_result files reader ≡ Some (Ok value))

@@ -12,12 +12,12 @@ use Rattle.m36_program.specs.Program.{Found, Content, Absent, TooLarge, May, Pro
 use Rattle.m36_program.specs.Program.{done, stops, reads, writes, puts, wants}
 
 -- a refused file: its name, a code, a place and a column
-abbrev pub refused_at : List ℕ → Code → ℕ → ℕ → Bad
-refused_at name code at column = record { name = name; code = code; at = at; column = column }
+abbrev pub bad_file_at : List ℕ → Code → ℕ → ℕ → Bad
+bad_file_at name code at column = record { name = name; code = code; at = at; column = column }
 
 -- a refused file without columns, whose column is 0
-abbrev pub refused : List ℕ → Code → ℕ → Bad
-refused name code at = refused_at name code at 0
+abbrev pub bad_file : List ℕ → Code → ℕ → Bad
+bad_file name code at = bad_file_at name code at 0
 
 -- The file is refused. Memory may run out for its name.
 unfoldable pub refuses : {may : May} {A : Type 0} → Bad → Program may A
@@ -38,8 +38,8 @@ IsRefusal NoMemory bad = ⊤
 -- refuses with F1 if the file is absent, and with F2 if it has more than 16,777,216 bytes
 abbrev pub bytes_found : {may : May} → List ℕ → Found → Program may (List ℕ)
 bytes_found name (Content bytes) = done bytes
-bytes_found name Absent = refuses (refused name code.F1 0)
-bytes_found name TooLarge = refuses (refused name code.F2 0)
+bytes_found name Absent = refuses (bad_file name code.F1 0)
+bytes_found name TooLarge = refuses (bad_file name code.F2 0)
 
 -- reads the bytes of a file
 unfoldable pub file_bytes : {may : May} → List ℕ → Program may (List ℕ)

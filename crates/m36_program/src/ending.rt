@@ -1,13 +1,13 @@
 //! Converts between the status of a whole command and the result of the call that performs it.
 
 ghost use Rattle.std.specs.Prelude.{◌≡◌};
-ghost use Rattle.m36_program.specs.Early.{early, status_by};
+ghost use Rattle.m36_program.specs.Early.{result_of_status, status_of_result};
 
 use m36_status::Status;
 
 /// The result for a status: Ok for Done; every other status is an error.
-pub fn early(status: Status) -> Result<(), Status>
-    ensures { result ≡ early status }
+pub fn result_of_status(status: Status) -> Result<(), Status>
+    ensures { result ≡ result_of_status status }
 {
     match status {
         Status::Done => Ok(()),
@@ -16,8 +16,8 @@ pub fn early(status: Status) -> Result<(), Status>
 }
 
 /// The status for a result.
-pub fn status_by(outcome: Result<(), Status>) -> Status
-    ensures { result ≡ status_by outcome }
+pub fn status_of_result(outcome: Result<(), Status>) -> Status
+    ensures { result ≡ status_of_result outcome }
 {
     match outcome {
         Ok(()) => Status::Done,

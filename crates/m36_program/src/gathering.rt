@@ -9,7 +9,7 @@ use m36_outside::{Block, Put};
 use m36_world::World;
 
 /// Puts all pieces of a block, and removes them from it, even if the output fails.
-pub fn hand_over<W: World>(block: &mut Block, world: &mut W) -> Put
+pub fn flush_block<W: World>(block: &mut Block, world: &mut W) -> Put
     ensures puts { PutBlockDid result block.old (W.seen world.old) (W.seen world.new) }
     ensures empty { block.new ≡ [] }
 {
@@ -29,15 +29,15 @@ pub fn add_piece<W: World>(block: &mut Block, piece: &[u8], world: &mut W) -> Pu
     if block.push(piece) {
         return Put::Done;
     }
-    match hand_over(block, world) {
-        Put::Done => add_first(block, piece, world),
+    match flush_block(block, world) {
+        Put::Done => add_to_empty(block, piece, world),
         Put::Failed => Put::Failed,
     }
 }
 
 // Adds a piece to an empty block. A piece that is too long for a block is put directly.
 #[tactic(auto, using(crate::proofs::Gathered::gathering))]
-fn add_first<W: World>(block: &mut Block, piece: &[u8], world: &mut W) -> Put
+fn add_to_empty<W: World>(block: &mut Block, piece: &[u8], world: &mut W) -> Put
     requires { block.old ≡ [] }
     ensures adds { Adds result block.old block.new (piece.now ∷ [])
         (W.seen world.old) (W.seen world.new) }
@@ -58,7 +58,7 @@ pub fn finish<W: World>(block: &mut Block, piece: &[u8], world: &mut W) -> Put
     ensures empty { block.new ≡ [] }
 {
     match add_piece(block, piece, world) {
-        Put::Done => hand_over(block, world),
+        Put::Done => flush_block(block, world),
         Put::Failed => Put::Failed,
     }
 }

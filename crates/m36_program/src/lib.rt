@@ -75,7 +75,7 @@
 //! `Alike` to itself.
 //!
 //! [`read_bytes`], [`write_file`] and [`put_piece`] perform programs of one step over any world, as
-//! part of any program that may take the step. [`add_piece`], [`finish`] and [`hand_over`] gather
+//! part of any program that may take the step. [`add_piece`], [`finish`] and [`flush_block`] gather
 //! pieces in a block.
 #![tactic(auto)]
 
@@ -84,7 +84,7 @@ pub mod gathering;
 pub mod putting;
 pub mod reading;
 
-pub use ending::{early, status_by};
-pub use gathering::{add_piece, finish, hand_over};
+pub use ending::{result_of_status, status_of_result};
+pub use gathering::{add_piece, finish, flush_block};
 pub use putting::{put_piece, write_file};
 pub use reading::{read_bytes, refuse, refuse_at};

@@ -4,7 +4,7 @@ ghost use Rattle.std.specs.Prelude.{◌≡◌, ◌≤◌, length, IfOk};
 ghost use Rattle.m36_outside.specs.ReadAnswer.{file_limit};
 ghost use Rattle.m36_program.specs.Program.{May};
 ghost use Rattle.m36_program.specs.Performs.{Performs};
-ghost use Rattle.m36_program.specs.Readers.{refused, refused_at, IsRefusal, file_bytes};
+ghost use Rattle.m36_program.specs.Readers.{bad_file, bad_file_at, IsRefusal, file_bytes};
 
 use m36_outside::{ReadAnswer, Text};
 use m36_status::{Bad, Code, Status};
@@ -14,7 +14,7 @@ use std::alloc::Global;
 /// The status that refuses a file at a place and a column of it. If memory runs out for its name,
 /// the status is NoMemory.
 pub fn refuse_at(alloc: Global, name: &[u8], code: Code, at: u32, column: u32) -> Status
-    ensures { IsRefusal result (refused_at name.now code at column) }
+    ensures { IsRefusal result (bad_file_at name.now code at column) }
 {
     match Text::from_bytes(alloc, name) {
         Ok(name) => Status::BadFile(Bad {
@@ -29,7 +29,7 @@ pub fn refuse_at(alloc: Global, name: &[u8], code: Code, at: u32, column: u32) -
 
 /// As `refuse_at`, with column 0, for a file without columns.
 pub fn refuse(alloc: Global, name: &[u8], code: Code, at: u32) -> Status
-    ensures { IsRefusal result (refused name.now code at) }
+    ensures { IsRefusal result (bad_file name.now code at) }
 {
     refuse_at(alloc, name, code, at, 0)
 }

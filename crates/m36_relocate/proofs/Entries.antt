@@ -9,7 +9,7 @@ use Rattle.obj36_parts.specs.Names.{same}
 use Rattle.obj36_parts.specs.ObjectSegment.{definition_named}
 use Rattle.obj36_parts.specs.declared.definition.Named.{Named}
 use Rattle.obj36_parts.proofs.SizeLaws.{same_is, same_self}
-use Rattle.m36_relocate.specs.Exports.{export_named, export_behind, with_export, is_symbol, with_own, own_from, EntriesAreFirst}
+use Rattle.m36_relocate.specs.Exports.{export_named, export_after, with_export, is_symbol, with_own_definition, with_own_definitions, EntriesAreFirst}
 use Rattle.m36_relocate.specs.declared.exports.Export.{Export}
 
 pub found_then : (name other : List ℕ) (table : List (List ℕ × Export)) (x : Export)
@@ -65,11 +65,11 @@ or_none None = refl
 or_none (Some f) = refl
 
 noted : (a b : Bool) (o p : Option Export) (f : DefFields) (later : Option DefFields) → a ≡ b → (a ≡ true → p ≡ o)
-    → first_of (def_in (cond a (Some (export_behind f p)) o)) later ≡ first_of (def_in o) (cond b (Some f) later)
+    → first_of (def_in (cond a (Some (export_after f p)) o)) later ≡ first_of (def_in o) (cond b (Some f) later)
 noted true true o p f later e same_entry =
-    ap (λ (q : Option Export). Some (export_behind f q).def) (same_entry refl) ∙ by o
+    ap (λ (q : Option Export). Some (export_after f q).def) (same_entry refl) ∙ by o
   where
-    by : (q : Option Export) → Some (export_behind f q).def ≡ first_of (def_in q) (Some f)
+    by : (q : Option Export) → Some (export_after f q).def ≡ first_of (def_in q) (Some f)
     by None = refl
     by (Some g) = refl
 noted true false o p f later e same_entry = absurd (true≢false e)
@@ -85,17 +85,17 @@ more : (name : List ℕ) (table : List (List ℕ × Export)) (d : Named) (ds : L
 unfolding with_export export_named definition_named
 more name table d ds true = refl
 more name table d ds false =
-    let x = export_behind d.def (lookup (same d.name) table) in
+    let x = export_after d.def (lookup (same d.name) table) in
     ap (λ (o : Option Export). first_of (def_in o) (definition_named name ds)) (found_then name d.name table x)
     ∙ noted (same name d.name) (same d.name name) (lookup (same name) table) (lookup (same d.name) table) d.def
     (definition_named name ds) (same_turned name d.name) (λ is. ap (λ (n : List ℕ). lookup (same n) table) (sym (same_is name d.name is)))
 
 entries_from : (name : List ℕ) (table : List (List ℕ × Export)) (ds : List Named)
-    → def_in (lookup (same name) (own_from table ds)) ≡ first_of (def_in (lookup (same name) table)) (definition_named name (counted ds))
-unfolding own_from definition_named
+    → def_in (lookup (same name) (with_own_definitions table ds)) ≡ first_of (def_in (lookup (same name) table)) (definition_named name (counted ds))
+unfolding with_own_definitions definition_named
 entries_from name table [] = or_none (def_in (lookup (same name) table))
 entries_from name table (d ∷ ds) =
-    entries_from name (with_own table d) ds ∙ more name table d (counted ds) (is_symbol d.def.section)
+    entries_from name (with_own_definition table d) ds ∙ more name table d (counted ds) (is_symbol d.def.section)
 
 pub entries_stand : EntriesAreFirst
 unfolding export_named

@@ -4,7 +4,7 @@ use Rattle.std.proofs.Common.{ℕ, ◌≡◌, ◌+◌, ◌-◌, ◌*◌, ◌<◌
 use Rattle.std.proofs.lemmas.Bool.{lt-ltb, le-ltb, cond-true, cond-false}
 use Rattle.obj36_parts.specs.ObjectSegment.{is_newer}
 use Rattle.obj36_parts.specs.declared.section.Section.TheVariants.{Linkage}
-use Rattle.m36_relocate.specs.Layout.{denoted, meant_older, meant_newer, first_link, image_number, relocated_number, FirstLinkAgrees, LinksMove}
+use Rattle.m36_relocate.specs.Layout.{denoted, denoted_in_version_1, denoted_in_version_2, first_link, bound_number_of, relocated_number, FirstLinkAgrees, LinksAreRelocated}
 use Rattle.m36_relocate.specs.declared.layout.Denoted.{Denoted}
 use Rattle.m36_relocate.specs.declared.layout.Denoted.TheVariants.{StaticWord, LinkWord, HeadWord}
 
@@ -18,11 +18,11 @@ first_link_stands p = stands_by (is_newer p) p.statics
 -- ---- the linkage section
 
 unfoldable pub in_linkage : Bool → ℕ → ℕ → ℕ → Denoted
-in_linkage newer statics links v = cond (ltb v 8) (HeadWord v) (cond newer (meant_newer links v) (meant_older statics v))
+in_linkage newer statics links v = cond (ltb v 8) (HeadWord v) (cond newer (denoted_in_version_2 links v) (denoted_in_version_1 statics v))
 
-pub past_head : (newer : Bool) (statics links v : ℕ) → 8 ≤ v → in_linkage newer statics links v ≡ cond newer (meant_newer links v) (meant_older statics v)
+pub past_head : (newer : Bool) (statics links v : ℕ) → 8 ≤ v → in_linkage newer statics links v ≡ cond newer (denoted_in_version_2 links v) (denoted_in_version_1 statics v)
 unfolding in_linkage
-past_head newer statics links v le = cond-false (ltb v 8) (HeadWord v) (cond newer (meant_newer links v) (meant_older statics v)) (le-ltb v 8 le)
+past_head newer statics links v le = cond-false (ltb v 8) (HeadWord v) (cond newer (denoted_in_version_2 links v) (denoted_in_version_1 statics v)) (le-ltb v 8 le)
 
 pub link_named : (newer : Bool) (statics links y : ℕ) → y < 2 * links → in_linkage newer statics links (cond newer 8 (8 + statics) + y) ≡ LinkWord y
 link_named true statics links y lt =
@@ -36,9 +36,9 @@ link_named false statics links y lt =
     ∙ cond-false (ltb v (8 + statics)) (StaticWord (v - 8)) (LinkWord (v - (8 + statics))) (le-ltb v (8 + statics) (omega arith))
     ∙ ap (λ n. LinkWord n) (let k : v - (8 + statics) ≡ y = omega arith in k)
 
-pub links_move : LinksMove
+pub links_move : LinksAreRelocated
 unfolding relocated_number denoted in_linkage
 links_move m i lt =
     let named = link_named m.shape.newer m.shape.statics m.shape.links (2 * i) (omega (arith, lt)) in
-    ap (image_number m.frame m.bases Linkage) named
+    ap (bound_number_of m.frame m.bases Linkage) named
     ∙ (let k : first_link m.frame + 2 * m.bases.links + 2 * i ≡ first_link m.frame + 2 * (m.bases.links + i) = omega arith in k)

@@ -6,13 +6,13 @@ use Rattle.std.specs.Prelude.{slice_set}
 use Rattle.obj36_parts.specs.Fields.{RelocFields}
 use Rattle.obj36_parts.specs.PartsFields.{PartsFields}
 use Rattle.m36_word.specs.Field.{offset_limit}
-use Rattle.obj36_parts.specs.Halves.{left, right, offset_in, joined}
+use Rattle.obj36_parts.specs.Halves.{left, right, bits_3_to_17, word_with_halves}
 use Rattle.obj36_parts.specs.Sections.{is_text_section}
 use Rattle.obj36_parts.specs.ObjectSegment.{head_words, left_part, right_part}
 use Rattle.obj36_parts.specs.declared.section.Section.{Section}
 use Rattle.obj36_parts.specs.declared.section.Section.TheVariants.{Text, Linkage, Symbol, Static}
 use Rattle.m36_relocate.specs.Fields.{ShapeFields, BasesFields}
-use Rattle.m36_relocate.specs.Layout.{relocated_number, denoted, static_spot}
+use Rattle.m36_relocate.specs.Layout.{relocated_number, denoted, static_word_place}
 use Rattle.m36_relocate.specs.declared.layout.Denoted.TheVariants.{StaticWord}
 use Rattle.m36_relocate.specs.declared.layout.Relocation.{Relocation}
 
@@ -20,42 +20,42 @@ use Rattle.m36_relocate.specs.declared.layout.Relocation.{Relocation}
 
 -- a word with other bits 3 to 17
 unfoldable pub with_offset : ℕ → ℕ → ℕ
-with_offset w v = joined (left w / 2 ^ 15 * 2 ^ 15 + v % 2 ^ 15) (right w)
+with_offset w v = word_with_halves (left w / 2 ^ 15 * 2 ^ 15 + v % 2 ^ 15) (right w)
 
 -- The relocated value of a negative number in bits 3 to 17, whose 15 bits are v. Numbers of bits 3
 -- to 17 are raised by 2^15 here, so that none is negative. A negative number counts back from where
 -- the words of the component begin. In the linkage section it counts back from the head, which is
 -- not relocated, so it does not change.
-abbrev pub below_zero : BasesFields → Section → ℕ → ℕ
-below_zero b Text v = b.text + v
-below_zero b Static v = b.statics + v
-below_zero b Linkage v = v
-below_zero b Symbol v = v
+abbrev pub relocated_negative : BasesFields → Section → ℕ → ℕ
+relocated_negative b Text v = b.text + v
+relocated_negative b Static v = b.statics + v
+relocated_negative b Linkage v = v
+relocated_negative b Symbol v = v
 
 -- the relocated number of bits 3 to 17, plus 2^15
-unfoldable pub offset_raised : Relocation → Section → ℕ → ℕ
-offset_raised m target v =
-    if nat_lt v offset_limit then 2 ^ 15 + relocated_number m target v else below_zero m.bases target v
+unfoldable pub biased_offset : Relocation → Section → ℕ → ℕ
+biased_offset m target v =
+    if nat_lt v offset_limit then 2 ^ 15 + relocated_number m target v else relocated_negative m.bases target v
 
 -- the word with the part of a relocation relocated
 unfoldable pub relocated_word : Relocation → RelocFields → ℕ → ℕ
 relocated_word m r w =
-    if nat_eq r.part left_part then joined (relocated_number m r.target (left w)) (right w)
-    else if nat_eq r.part right_part then joined (left w) (relocated_number m r.target (right w))
-    else with_offset w (offset_raised m r.target (offset_in w))
+    if nat_eq r.part left_part then word_with_halves (relocated_number m r.target (left w)) (right w)
+    else if nat_eq r.part right_part then word_with_halves (left w) (relocated_number m r.target (right w))
+    else with_offset w (biased_offset m r.target (bits_3_to_17 w))
 
 -- whether the relocated part fits: bits 3 to 17 must be from -2^14 to 2^14 - 1
 unfoldable pub part_fits : Relocation → RelocFields → ℕ → Bool
 part_fits m r w =
     if nat_eq r.part left_part then true
     else if nat_eq r.part right_part then true
-    else nat_lt (offset_raised m r.target (offset_in w)) (2 ^ 15 + offset_limit)
+    else nat_lt (biased_offset m r.target (bits_3_to_17 w)) (2 ^ 15 + offset_limit)
 
 -- ---- the words of a component: its text or its static words
 
 -- whether a relocation is of a static word, or of the text, as `statics` says
-abbrev pub is_in : Bool → RelocFields → Bool
-is_in statics r = if statics then not (is_text_section r.section) else is_text_section r.section
+abbrev pub is_relocation_in : Bool → RelocFields → Bool
+is_relocation_in statics r = if statics then not (is_text_section r.section) else is_text_section r.section
 
 -- the offset from which relocations count the static words, or the words of the text, as `statics`
 -- says
@@ -64,10 +64,10 @@ start_of statics s = if statics then (if s.newer then 0 else head_words) else 0
 
 -- Static word w of an object is w words after the offset from which relocations count its static
 -- words.
-abbrev pub StaticsBegin : Type 0
-StaticsBegin =
+abbrev pub StaticStartAgrees : Type 0
+StaticStartAgrees =
     (s : ShapeFields) (w : ℕ) → w < s.statics
-    → denoted s (static_spot s w).section (start_of true s + w) ≡ StaticWord w
+    → denoted s (static_word_place s w).section (start_of true s + w) ≡ StaticWord w
 
 -- the static words or the text of parts
 abbrev pub words_in : Bool → PartsFields → List ℕ
@@ -75,29 +75,29 @@ words_in statics p = if statics then p.statics else p.text
 
 -- the index of the word of a relocation, among the static words or the words of the text, as
 -- `statics` says
-abbrev pub place_in : ShapeFields → Bool → RelocFields → ℕ
-place_in s statics r = r.offset - start_of statics s
+abbrev pub word_index_of : ShapeFields → Bool → RelocFields → ℕ
+word_index_of s statics r = r.offset - start_of statics s
 
 -- words with word i relocated, if there is one
-abbrev pub moved_at : Relocation → RelocFields → ℕ → List ℕ → List ℕ
-moved_at m r i words = if nat_lt i (length words)
+abbrev pub with_word_relocated : Relocation → RelocFields → ℕ → List ℕ → List ℕ
+with_word_relocated m r i words = if nat_lt i (length words)
     then slice_set words i (relocated_word m r (slice_index words i)) else words
 
 -- words relocated by a relocation, if it is one of these words
-unfoldable pub one_moved : Relocation → Bool → RelocFields → List ℕ → List ℕ
-one_moved m statics r words =
-    if is_in statics r then moved_at m r (place_in m.shape statics r) words else words
+unfoldable pub with_relocation_applied : Relocation → Bool → RelocFields → List ℕ → List ℕ
+with_relocation_applied m statics r words =
+    if is_relocation_in statics r then with_word_relocated m r (word_index_of m.shape statics r) words else words
 
 -- words relocated by these relocations, one after another; relocations of other words change
 -- nothing
 unfoldable pub relocated_words : Relocation → Bool → List RelocFields → List ℕ → List ℕ
 relocated_words m statics [] words = words
-relocated_words m statics (r ∷ rs) words = relocated_words m statics rs (one_moved m statics r words)
+relocated_words m statics (r ∷ rs) words = relocated_words m statics rs (with_relocation_applied m statics r words)
 
 -- whether the part of a relocation fits, if it is one of these words
 unfoldable pub one_fits : Relocation → Bool → List ℕ → RelocFields → Bool
 one_fits m statics words r =
-    if is_in statics r then part_fits m r (slice_index words (place_in m.shape statics r))
+    if is_relocation_in statics r then part_fits m r (slice_index words (word_index_of m.shape statics r))
     else true
 
 -- whether the parts of all relocations of these words fit

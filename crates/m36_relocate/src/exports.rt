@@ -1,7 +1,7 @@
 //! Tables of definitions by their names.
 
 ghost use Rattle.std.specs.Prelude.{ℕ, ◌≡◌, ◌^◌, ◌<◌, [], IfOk, OnOk, option_map};
-ghost use Rattle.m36_relocate.specs.Exports.{export_named, export_behind, with_export, is_symbol, with_counted, with_own, own_from, relocated_def, with_moved, moved_from};
+ghost use Rattle.m36_relocate.specs.Exports.{export_named, export_after, with_export, is_symbol, with_definition, with_own_definition, with_own_definitions, relocated_def, with_relocated_definition, with_relocated_definitions};
 
 use crate::layout::{Relocation, relocated_place};
 use indexmap::IndexMap;
@@ -36,8 +36,8 @@ impl Model for Exports {
 }
 
 // The entry of a name after one more definition of it. The first definition stays.
-fn export_behind(def: Def, first: Option<Export>) -> Export
-    ensures { result ≡ export_behind def first }
+fn export_after(def: Def, first: Option<Export>) -> Export
+    ensures { result ≡ export_after def first }
 {
     match first {
         None => Export { def, twice: false },
@@ -50,7 +50,7 @@ fn export_behind(def: Def, first: Option<Export>) -> Export
 
 // Looks up a name in the hash table.
 #[tactic(auto, unfolding(crate::specs::Exports::export_named))]
-fn found(entries: &IndexMap<Name, Export, HashSeed>, name: &Name) -> Option<Export>
+fn find_export(entries: &IndexMap<Name, Export, HashSeed>, name: &Name) -> Option<Export>
     ensures { result ≡ export_named name.now entries.now.entries }
 {
     entries.get(name).copied()
@@ -75,7 +75,7 @@ impl Exports {
     pub fn find(&self, name: &Name) -> Option<Export>
         ensures { result ≡ export_named name.now self.now }
     {
-        found(&self.entries, name)
+        find_export(&self.entries, name)
     }
 
     // Adds a definition of a name.
@@ -83,15 +83,15 @@ impl Exports {
     fn add(&mut self, name: &Name, def: Def) -> Result<(), NoMemory>
         ensures { OnOk result (self.new ≡ with_export self.old name.now def) }
     {
-        let first = found(&self.entries, name);
+        let first = find_export(&self.entries, name);
         self.entries
-            .insert(name.copied(), export_behind(def, first))?;
+            .insert(name.copied(), export_after(def, first))?;
         Ok(())
     }
 
     // Adds the definition `d` of an object with the place `def`, unless its class is symbol.
-    fn add_counted(&mut self, d: &Named, def: Def) -> Result<(), NoMemory>
-        ensures { OnOk result (self.new ≡ with_counted self.old d.now def) }
+    fn add_definition(&mut self, d: &Named, def: Def) -> Result<(), NoMemory>
+        ensures { OnOk result (self.new ≡ with_definition self.old d.now def) }
     {
         if is_symbol(d.def.section) {
             return Ok(());
@@ -108,26 +108,26 @@ fn is_symbol(section: Section) -> bool
 }
 
 // Adds a definition of an object at the place that it has there.
-fn add_own(table: &mut Exports, d: &Named) -> Result<(), NoMemory>
-    ensures { OnOk result (table.new ≡ with_own table.old d.now) }
+fn add_own_definition(table: &mut Exports, d: &Named) -> Result<(), NoMemory>
+    ensures { OnOk result (table.new ≡ with_own_definition table.old d.now) }
 {
-    table.add_counted(d, d.def)
+    table.add_definition(d, d.def)
 }
 
 /// The table of the definitions of one object, at the places that they have there. Definitions of
 /// class symbol are left out. The names are hashed with this seed. Fails only with `NoMemory`.
-#[tactic(auto, unfolding(crate::specs::Exports::own_from))]
+#[tactic(auto, unfolding(crate::specs::Exports::with_own_definitions))]
 pub fn own_entries(
     alloc: Global,
     seed: HashSeed,
     definitions: &[Named],
 ) -> Result<Exports, NoMemory>
-    ensures { IfOk result (λ table. table ≡ own_from [] definitions.now) }
+    ensures { IfOk result (λ table. table ≡ with_own_definitions [] definitions.now) }
 {
     let mut table = Exports::new(alloc, seed);
     let mut rest = definitions;
     while let [d, others @ ..] = rest {
-        add_own(&mut table, d)?;
+        add_own_definition(&mut table, d)?;
         rest = others;
     }
     Ok(table)
@@ -146,25 +146,25 @@ fn relocated_def(m: &Relocation, def: Def) -> Def
 }
 
 // Adds a definition of a component, at its place in the bound object.
-fn add_one_moved(table: &mut Exports, m: &Relocation, d: &Named) -> Result<(), NoMemory>
-    ensures { OnOk result (table.new ≡ with_moved m.now table.old d.now) }
+fn add_relocated_definition(table: &mut Exports, m: &Relocation, d: &Named) -> Result<(), NoMemory>
+    ensures { OnOk result (table.new ≡ with_relocated_definition m.now table.old d.now) }
 {
-    table.add_counted(d, relocated_def(m, d.def))
+    table.add_definition(d, relocated_def(m, d.def))
 }
 
 /// Adds the definitions of a component, at their places in the bound object. Fails only with
 /// `NoMemory`.
-#[tactic(auto, unfolding(crate::specs::Exports::moved_from))]
-pub fn add_relocated(
+#[tactic(auto, unfolding(crate::specs::Exports::with_relocated_definitions))]
+pub fn add_relocated_definitions(
     table: &mut Exports,
     m: &Relocation,
     definitions: &[Named],
 ) -> Result<(), NoMemory>
-    ensures { OnOk result (table.new ≡ moved_from m.now table.old definitions.now) }
+    ensures { OnOk result (table.new ≡ with_relocated_definitions m.now table.old definitions.now) }
 {
     let mut rest = definitions;
     while let [d, others @ ..] = rest {
-        add_one_moved(table, m, d)?;
+        add_relocated_definition(table, m, d)?;
         rest = others;
     }
     Ok(())

@@ -1,7 +1,7 @@
 //! Laws about the layout, and about tables of definitions.
 
-ghost use Rattle.m36_relocate.specs.Layout.{FirstLinkAgrees, LinksMove};
-ghost use Rattle.m36_relocate.specs.Words.{StaticsBegin};
+ghost use Rattle.m36_relocate.specs.Layout.{FirstLinkAgrees, LinksAreRelocated};
+ghost use Rattle.m36_relocate.specs.Words.{StaticStartAgrees};
 ghost use Rattle.m36_relocate.specs.Exports.{EntriesAreFirst};
 
 /// The first link of an object has the same offset by its shape as by its parts. The offset from
@@ -10,8 +10,8 @@ ghost use Rattle.m36_relocate.specs.Exports.{EntriesAreFirst};
 #[tactic(auto, using(crate::proofs::LinkPlaces::first_link_stands, crate::proofs::LinkPlaces::links_move, crate::proofs::StaticPlaces::statics_begin))]
 pub fn layout_law()
     ensures links { FirstLinkAgrees }
-    ensures moved { LinksMove }
-    ensures statics { StaticsBegin }
+    ensures moved { LinksAreRelocated }
+    ensures statics { StaticStartAgrees }
 {}
 
 /// For each name, the table of an object's definitions has the first definition of that name whose

@@ -1,7 +1,7 @@
 //! The places of the words of components in the bound object.
 
 ghost use Rattle.std.specs.Prelude.{ℕ, ◌≡◌, ◌+◌, ◌*◌, ◌^◌, ◌<◌, ◌≤◌, length};
-ghost use Rattle.m36_relocate.specs.Layout.{denoted, meant_older, meant_newer, meant_past_head, meant_in_linkage, IsBelow, next_bases, first_link, first_static, spot, static_spot, image_spot, relocated_place, static_number, image_number, relocated_number};
+ghost use Rattle.m36_relocate.specs.Layout.{denoted, denoted_in_version_1, denoted_in_version_2, denoted_past_head, denoted_in_linkage, IsBelow, next_bases, first_link, first_static, section_place, static_word_place, bound_place_of, relocated_place, static_number, bound_number_of, relocated_number};
 ghost use Rattle.obj36_parts.specs.ObjectSegment.{evened, head_words};
 
 use obj36_parts::Section;
@@ -91,11 +91,11 @@ pub struct BoundPlace {
 
 // What offset `v` of the linkage section, past its head, denotes in an object of version 1: there
 // the static words come first, and then the links.
-fn meant_older(statics: u64, v: u64) -> Denoted
+fn denoted_in_version_1(statics: u64, v: u64) -> Denoted
     requires head { head_words ≤ v }
     requires statics { statics < 2 ^ 61 }
     requires small { v < 2 ^ 18 }
-    ensures value { result ≡ meant_older statics v }
+    ensures value { result ≡ denoted_in_version_1 statics v }
     ensures small { IsBelow (2 ^ 18) result }
 {
     let first = HEAD_WORDS + statics;
@@ -108,11 +108,11 @@ fn meant_older(statics: u64, v: u64) -> Denoted
 
 // What offset `v` past the head denotes in an object of version 2: there the links come first. The
 // static words have a section of their own, whose offsets count on after the links.
-fn meant_newer(links: u64, v: u64) -> Denoted
+fn denoted_in_version_2(links: u64, v: u64) -> Denoted
     requires head { head_words ≤ v }
     requires links { links < 2 ^ 61 }
     requires small { v < 2 ^ 18 }
-    ensures value { result ≡ meant_newer links v }
+    ensures value { result ≡ denoted_in_version_2 links v }
     ensures small { IsBelow (2 ^ 18) result }
 {
     let end = HEAD_WORDS + 2 * links;
@@ -124,42 +124,42 @@ fn meant_newer(links: u64, v: u64) -> Denoted
 }
 
 // What an offset of the linkage section past its head denotes, for either version.
-fn meant_past_head(s: &Shape, v: u64) -> Denoted
+fn denoted_past_head(s: &Shape, v: u64) -> Denoted
     requires head { head_words ≤ v }
     requires small { v < 2 ^ 18 }
-    ensures value { result ≡ meant_past_head s.now v }
+    ensures value { result ≡ denoted_past_head s.now v }
     ensures small { IsBelow (2 ^ 18) result }
 {
     if s.newer {
-        meant_newer(s.links, v)
+        denoted_in_version_2(s.links, v)
     } else {
-        meant_older(s.statics, v)
+        denoted_in_version_1(s.statics, v)
     }
 }
 
 // What an offset of the linkage section denotes.
-fn meant_in_linkage(s: &Shape, v: u64) -> Denoted
+fn denoted_in_linkage(s: &Shape, v: u64) -> Denoted
     requires small { v < 2 ^ 18 }
-    ensures value { result ≡ meant_in_linkage s.now v }
+    ensures value { result ≡ denoted_in_linkage s.now v }
     ensures small { IsBelow (2 ^ 18) result }
 {
     if v < HEAD_WORDS {
         Denoted::HeadWord(v)
     } else {
-        meant_past_head(s, v)
+        denoted_past_head(s, v)
     }
 }
 
 // The word that an offset in a section denotes.
 #[tactic(auto, unfolding(crate::specs::Layout::denoted))]
-fn meaning(s: &Shape, section: Section, v: u64) -> Denoted
+fn denoted_word(s: &Shape, section: Section, v: u64) -> Denoted
     requires small { v < 2 ^ 18 }
     ensures value { result ≡ denoted s.now section v }
     ensures small { IsBelow (2 ^ 18) result }
 {
     match section {
         Section::Text => Denoted::TextWord(v),
-        Section::Linkage => meant_in_linkage(s, v),
+        Section::Linkage => denoted_in_linkage(s, v),
         Section::Symbol => Denoted::HeadWord(v),
         Section::Static => Denoted::StaticWord(v),
     }
@@ -200,8 +200,8 @@ fn first_static(f: &Shape) -> u64
 }
 
 /// A place of a section, with the offset modulo 2^18.
-pub fn spot_at(section: Section, offset: u64) -> BoundPlace
-    ensures value { result ≡ spot section offset }
+pub fn section_place_at(section: Section, offset: u64) -> BoundPlace
+    ensures value { result ≡ section_place section offset }
     ensures bound { result.offset < 2 ^ 18 }
 {
     BoundPlace {
@@ -211,29 +211,29 @@ pub fn spot_at(section: Section, offset: u64) -> BoundPlace
 }
 
 // The place of static word `w` of an object of this shape, with `w` counted from 0.
-fn static_spot(f: &Shape, w: u64) -> BoundPlace
+fn static_word_place(f: &Shape, w: u64) -> BoundPlace
     requires { w < 2 ^ 62 }
-    ensures value { result ≡ static_spot f.now w }
+    ensures value { result ≡ static_word_place f.now w }
     ensures bound { result.offset < 2 ^ 18 }
 {
     if f.newer {
-        spot_at(Section::Static, w)
+        section_place_at(Section::Static, w)
     } else {
-        spot_at(Section::Linkage, HEAD_WORDS + w)
+        section_place_at(Section::Linkage, HEAD_WORDS + w)
     }
 }
 
 // The place in the bound object of a word of a component that begins at `b`.
-fn image_spot(f: &Shape, b: &Bases, m: Denoted) -> BoundPlace
+fn bound_place_of(f: &Shape, b: &Bases, m: Denoted) -> BoundPlace
     requires { IsBelow (2 ^ 18) m }
-    ensures value { result ≡ image_spot f.now b.now m }
+    ensures value { result ≡ bound_place_of f.now b.now m }
     ensures bound { result.offset < 2 ^ 18 }
 {
     match m {
-        Denoted::TextWord(v) => spot_at(Section::Text, b.text + v),
-        Denoted::StaticWord(w) => static_spot(f, b.statics + w),
-        Denoted::LinkWord(k) => spot_at(Section::Linkage, first_link(f) + 2 * b.links + k),
-        Denoted::HeadWord(v) => spot_at(Section::Linkage, v),
+        Denoted::TextWord(v) => section_place_at(Section::Text, b.text + v),
+        Denoted::StaticWord(w) => static_word_place(f, b.statics + w),
+        Denoted::LinkWord(k) => section_place_at(Section::Linkage, first_link(f) + 2 * b.links + k),
+        Denoted::HeadWord(v) => section_place_at(Section::Linkage, v),
     }
 }
 
@@ -244,7 +244,7 @@ pub fn relocated_place(m: &Relocation, section: Section, v: u64) -> BoundPlace
     ensures value { result ≡ relocated_place m.now section v }
     ensures bound { result.offset < 2 ^ 18 }
 {
-    image_spot(&m.frame, &m.bases, meaning(&m.shape, section, v))
+    bound_place_of(&m.frame, &m.bases, denoted_word(&m.shape, section, v))
 }
 
 // The number by which a relocated part refers to static word `w`. It is counted from the head of
@@ -262,9 +262,9 @@ fn static_number(f: &Shape, target: Section, w: u64) -> u64
 
 // The number by which a relocated part with this target refers to a word of a component in the
 // bound object.
-fn image_number(f: &Shape, b: &Bases, target: Section, m: Denoted) -> u64
+fn bound_number_of(f: &Shape, b: &Bases, target: Section, m: Denoted) -> u64
     requires { IsBelow (2 ^ 18) m }
-    ensures value { result ≡ image_number f.now b.now target m }
+    ensures value { result ≡ bound_number_of f.now b.now target m }
     ensures bound { result < 2 ^ 63 }
 {
     match m {
@@ -283,5 +283,5 @@ pub fn relocated_number(m: &Relocation, target: Section, v: u64) -> u64
     ensures value { result ≡ relocated_number m.now target v }
     ensures bound { result < 2 ^ 63 }
 {
-    image_number(&m.frame, &m.bases, target, meaning(&m.shape, target, v))
+    bound_number_of(&m.frame, &m.bases, target, denoted_word(&m.shape, target, v))
 }

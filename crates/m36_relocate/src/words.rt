@@ -1,19 +1,19 @@
 //! Relocates parts of words: halves, and bits 3 to 17.
 
 ghost use Rattle.std.specs.Prelude.{ℕ, ◌≡◌, ◌+◌, ◌-◌, ◌*◌, ◌/◌, ◌%◌, ◌^◌, ◌<◌, slice_index};
-ghost use Rattle.obj36_parts.specs.Halves.{offset_in};
-ghost use Rattle.m36_relocate.specs.Words.{with_offset, below_zero, offset_raised, relocated_word, part_fits, is_in, start_of, place_in, moved_at, one_moved, relocated_words, one_fits, all_fit};
+ghost use Rattle.obj36_parts.specs.Halves.{bits_3_to_17};
+ghost use Rattle.m36_relocate.specs.Words.{with_offset, relocated_negative, biased_offset, relocated_word, part_fits, is_relocation_in, start_of, word_index_of, with_word_relocated, with_relocation_applied, relocated_words, one_fits, all_fit};
 
 use crate::layout::{Bases, Relocation, Shape, relocated_number};
 use m36_word::Word;
-use obj36_parts::halves::{OFFSET_LIMIT, left_of, right_of, word_of};
+use obj36_parts::halves::{OFFSET_LIMIT, left_of, right_of, word_of_halves};
 use obj36_parts::sections::{HEAD_WORDS, is_text_section};
 use obj36_parts::{Reloc, Section};
 
 // Bits 3 to 17 of a word.
-#[tactic(auto, unfolding(obj36_parts::specs::Halves::offset_in))]
-fn offset_in(w: Word) -> u64
-    ensures value { result ≡ offset_in w }
+#[tactic(auto, unfolding(obj36_parts::specs::Halves::bits_3_to_17))]
+fn bits_3_to_17(w: Word) -> u64
+    ensures value { result ≡ bits_3_to_17 w }
     ensures bound { result < 2 ^ 15 }
 {
     left_of(w) % (1 << 15)
@@ -24,7 +24,7 @@ fn offset_in(w: Word) -> u64
 fn with_offset(w: Word, v: u64) -> Word
     ensures { result ≡ with_offset w v }
 {
-    word_of(
+    word_of_halves(
         left_of(w) / (1 << 15) * (1 << 15) + v % (1 << 15),
         right_of(w),
     )
@@ -33,9 +33,9 @@ fn with_offset(w: Word, v: u64) -> Word
 // The relocated value of a negative number in bits 3 to 17, plus 2^15; `v` is its 15 bits. It
 // counts back from where the component begins. In the linkage and symbol sections it does not
 // change.
-fn below_zero(b: &Bases, target: Section, v: u64) -> u64
+fn relocated_negative(b: &Bases, target: Section, v: u64) -> u64
     requires { v < 2 ^ 15 }
-    ensures value { result ≡ below_zero b.now target v }
+    ensures value { result ≡ relocated_negative b.now target v }
     ensures bound { result < 2 ^ 61 }
 {
     match target {
@@ -46,15 +46,15 @@ fn below_zero(b: &Bases, target: Section, v: u64) -> u64
 }
 
 // The relocated number of bits 3 to 17, plus 2^15 so that it is not negative.
-#[tactic(auto, unfolding(crate::specs::Words::offset_raised))]
-fn offset_raised(m: &Relocation, target: Section, v: u64) -> u64
+#[tactic(auto, unfolding(crate::specs::Words::biased_offset))]
+fn biased_offset(m: &Relocation, target: Section, v: u64) -> u64
     requires { v < 2 ^ 15 }
-    ensures { result ≡ offset_raised m.now target v }
+    ensures { result ≡ biased_offset m.now target v }
 {
     if v < OFFSET_LIMIT {
         (1 << 15) + relocated_number(m, target, v)
     } else {
-        below_zero(&m.bases, target, v)
+        relocated_negative(&m.bases, target, v)
     }
 }
 
@@ -64,12 +64,12 @@ fn relocated_word(m: &Relocation, r: &Reloc, w: Word) -> Word
     ensures { result ≡ relocated_word m.now r.now w }
 {
     if r.part == 0 {
-        return word_of(relocated_number(m, r.target, left_of(w)), right_of(w));
+        return word_of_halves(relocated_number(m, r.target, left_of(w)), right_of(w));
     }
     if r.part == 1 {
-        return word_of(left_of(w), relocated_number(m, r.target, right_of(w)));
+        return word_of_halves(left_of(w), relocated_number(m, r.target, right_of(w)));
     }
-    with_offset(w, offset_raised(m, r.target, offset_in(w)))
+    with_offset(w, biased_offset(m, r.target, bits_3_to_17(w)))
 }
 
 // Whether the relocated part fits: bits 3 to 17 must be from -2^14 to 2^14 - 1.
@@ -83,12 +83,12 @@ fn part_fits(m: &Relocation, r: &Reloc, w: Word) -> bool
     if r.part == 1 {
         return true;
     }
-    offset_raised(m, r.target, offset_in(w)) < (1 << 15) + OFFSET_LIMIT
+    biased_offset(m, r.target, bits_3_to_17(w)) < (1 << 15) + OFFSET_LIMIT
 }
 
 /// Whether a relocation is of a static word, or of the text, as `statics` says.
-pub fn is_in(statics: bool, r: &Reloc) -> bool
-    ensures { result ≡ is_in statics r.now }
+pub fn is_relocation_in(statics: bool, r: &Reloc) -> bool
+    ensures { result ≡ is_relocation_in statics r.now }
 {
     if statics {
         !is_text_section(r.section)
@@ -111,15 +111,15 @@ fn start_of(statics: bool, s: &Shape) -> usize
 
 // The index of the word that a relocation is about, among the static words or the words of the
 // text, as `statics` says.
-fn place_in(m: &Relocation, statics: bool, r: &Reloc) -> usize
-    ensures { result ≡ place_in m.now.shape statics r.now }
+fn word_index_of(m: &Relocation, statics: bool, r: &Reloc) -> usize
+    ensures { result ≡ word_index_of m.now.shape statics r.now }
 {
     (r.offset as usize).saturating_sub(start_of(statics, &m.shape))
 }
 
 // Relocates word i, if there is one.
-fn move_at(words: &mut [Word], m: &Relocation, r: &Reloc, i: usize)
-    ensures { words.new ≡ moved_at m.now r.now i words.old }
+fn relocate_word_at(words: &mut [Word], m: &Relocation, r: &Reloc, i: usize)
+    ensures { words.new ≡ with_word_relocated m.now r.now i words.old }
 {
     if i < words.len() {
         let w = words[i];
@@ -128,24 +128,24 @@ fn move_at(words: &mut [Word], m: &Relocation, r: &Reloc, i: usize)
 }
 
 // Relocates the word of a relocation, if it is one of these words.
-#[tactic(auto, unfolding(crate::specs::Words::one_moved))]
-fn move_one(words: &mut [Word], m: &Relocation, statics: bool, r: &Reloc)
-    ensures { words.new ≡ one_moved m.now statics r.now words.old }
+#[tactic(auto, unfolding(crate::specs::Words::with_relocation_applied))]
+fn apply_relocation(words: &mut [Word], m: &Relocation, statics: bool, r: &Reloc)
+    ensures { words.new ≡ with_relocation_applied m.now statics r.now words.old }
 {
-    if is_in(statics, r) {
-        move_at(words, m, r, place_in(m, statics, r));
+    if is_relocation_in(statics, r) {
+        relocate_word_at(words, m, r, word_index_of(m, statics, r));
     }
 }
 
 /// Relocates the parts of these words that have relocations, in order. The words are the static
 /// words, or the text, as `statics` says.
 #[tactic(auto, unfolding(crate::specs::Words::relocated_words))]
-pub fn move_words(words: &mut [Word], m: &Relocation, statics: bool, relocations: &[Reloc])
+pub fn relocate_words(words: &mut [Word], m: &Relocation, statics: bool, relocations: &[Reloc])
     ensures { words.new ≡ relocated_words m.now statics relocations.now words.old }
 {
     let mut rest = relocations;
     while let [r, others @ ..] = rest {
-        move_one(words, m, statics, r);
+        apply_relocation(words, m, statics, r);
         rest = others;
     }
 }
@@ -166,8 +166,8 @@ fn word_at(words: &[Word], i: usize) -> Word
 fn one_fits(m: &Relocation, statics: bool, words: &[Word], r: &Reloc) -> bool
     ensures { result ≡ one_fits m.now statics words.now r.now }
 {
-    if is_in(statics, r) {
-        part_fits(m, r, word_at(words, place_in(m, statics, r)))
+    if is_relocation_in(statics, r) {
+        part_fits(m, r, word_at(words, word_index_of(m, statics, r)))
     } else {
         true
     }

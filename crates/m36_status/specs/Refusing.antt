@@ -15,12 +15,12 @@ abbrev pub Early : Type 0 → Type 0
 Early A = Result A Refusal
 
 -- The result of a call is that of the rule, or memory ran out.
-abbrev pub Gives : {A : Type 0} → Result A Refusal → Early A → Type 0
-Gives (Ok a) rule = rule ≡ Ok a
-Gives (Err (BadFile bad)) rule = rule ≡ Err (BadFile bad)
-Gives (Err NoMemory) rule = ⊤
+abbrev pub IsRuleResult : {A : Type 0} → Result A Refusal → Early A → Type 0
+IsRuleResult (Ok a) rule = rule ≡ Ok a
+IsRuleResult (Err (BadFile bad)) rule = rule ≡ Err (BadFile bad)
+IsRuleResult (Err NoMemory) rule = ⊤
 
 -- The refusal that a call returns is that of the rule, or NoMemory.
-abbrev pub Refuses : Refusal → Refusal → Type 0
-Refuses (BadFile bad) rule = rule ≡ BadFile bad
-Refuses NoMemory rule = ⊤
+abbrev pub IsRuleRefusal : Refusal → Refusal → Type 0
+IsRuleRefusal (BadFile bad) rule = rule ≡ BadFile bad
+IsRuleRefusal NoMemory rule = ⊤

@@ -13,44 +13,44 @@ use Rattle.m36_status.specs.declared.refusal.Refusal.TheVariants.{BadFile, NoMem
 use Rattle.m36_status.specs.Refusing.{Early}
 
 -- the refusal of a file, by its name, a code, a place and a column
-abbrev pub refused_at : List ℕ → Code → ℕ → ℕ → Refusal
-refused_at name code at column =
+abbrev pub file_refusal_at : List ℕ → Code → ℕ → ℕ → Refusal
+file_refusal_at name code at column =
     BadFile (record { name = name; code = code; at = at; column = column })
 
 -- the refusal of a file without columns: the column is 0
-abbrev pub refused : List ℕ → Code → ℕ → Refusal
-refused name code at = refused_at name code at 0
+abbrev pub file_refusal : List ℕ → Code → ℕ → Refusal
+file_refusal name code at = file_refusal_at name code at 0
 
 -- ---- words
 
 -- F3 if there are more words than a segment can have
-abbrev pub sized : List ℕ → List ℕ → Early (List ℕ)
-sized name words =
-    if nat_lt segment_limit (length words) then Err (refused name code.F3 0) else Ok words
+abbrev pub check_word_count : List ℕ → List ℕ → Early (List ℕ)
+check_word_count name words =
+    if nat_lt segment_limit (length words) then Err (file_refusal name code.F3 0) else Ok words
 
 -- The words of a file, from the result of unpacking its bytes: T3 or T4 if they are no packed
 -- words, F3 if there are more words than a segment can have.
-abbrev pub words_by : List ℕ → Result (List ℕ) PackFault → Early (List ℕ)
-words_by name (Ok words) = sized name words
-words_by name (Err (pack.T3 count)) = Err (refused name code.T3 count)
-words_by name (Err (pack.T4 place)) = Err (refused name code.T4 place)
-words_by name (Err pack.NoMemory) = Err NoMemory
+abbrev pub words_or_refusal : List ℕ → Result (List ℕ) PackFault → Early (List ℕ)
+words_or_refusal name (Ok words) = check_word_count name words
+words_or_refusal name (Err (pack.T3 count)) = Err (file_refusal name code.T3 count)
+words_or_refusal name (Err (pack.T4 place)) = Err (file_refusal name code.T4 place)
+words_or_refusal name (Err pack.NoMemory) = Err NoMemory
 
 -- ---- objects
 
 -- the refusal of words that are no object, by their first fault
-abbrev pub object_refused : List ℕ → ObjectFault → Refusal
-object_refused name (fault.O1 at) = refused name code.O1 at
-object_refused name (fault.O2 at) = refused name code.O2 at
-object_refused name (fault.O3 at) = refused name code.O3 at
-object_refused name (fault.O4 at) = refused name code.O4 at
-object_refused name (fault.O5 at) = refused name code.O5 at
-object_refused name (fault.O6 at) = refused name code.O6 at
-object_refused name (fault.O7 at) = refused name code.O7 at
-object_refused name (fault.O8 at) = refused name code.O8 at
-object_refused name fault.NoMemory = NoMemory
+abbrev pub object_refusal : List ℕ → ObjectFault → Refusal
+object_refusal name (fault.O1 at) = file_refusal name code.O1 at
+object_refusal name (fault.O2 at) = file_refusal name code.O2 at
+object_refusal name (fault.O3 at) = file_refusal name code.O3 at
+object_refusal name (fault.O4 at) = file_refusal name code.O4 at
+object_refusal name (fault.O5 at) = file_refusal name code.O5 at
+object_refusal name (fault.O6 at) = file_refusal name code.O6 at
+object_refusal name (fault.O7 at) = file_refusal name code.O7 at
+object_refusal name (fault.O8 at) = file_refusal name code.O8 at
+object_refusal name fault.NoMemory = NoMemory
 
 -- The object of a file, from the result of decoding its words: O1 to O8 if they are no object.
-abbrev pub object_by : List ℕ → Result PartsFields ObjectFault → Early PartsFields
-object_by name (Ok parts) = Ok parts
-object_by name (Err fault) = Err (object_refused name fault)
+abbrev pub object_or_refusal : List ℕ → Result PartsFields ObjectFault → Early PartsFields
+object_or_refusal name (Ok parts) = Ok parts
+object_or_refusal name (Err fault) = Err (object_refusal name fault)

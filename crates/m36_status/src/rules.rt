@@ -5,8 +5,8 @@ ghost use Rattle.m36_outside.specs.ReadAnswer.{file_limit};
 ghost use Rattle.m36_text.specs.Packing.{unpacked};
 ghost use Rattle.obj36_parts.specs.ObjectSegment.{segment_limit};
 ghost use Rattle.obj36.specs.ObjectOf.{object_of};
-ghost use Rattle.m36_status.specs.Refusing.{Gives, Refuses};
-ghost use Rattle.m36_status.specs.Rules.{refused, sized, refused_at, words_by, object_refused, object_by};
+ghost use Rattle.m36_status.specs.Refusing.{IsRuleResult, IsRuleRefusal};
+ghost use Rattle.m36_status.specs.Rules.{file_refusal, check_word_count, file_refusal_at, words_or_refusal, object_refusal, object_or_refusal};
 
 use crate::refusal::Refusal;
 use crate::status::{Bad, Code};
@@ -20,7 +20,7 @@ use std::alloc::Global;
 /// Refuses a file with a code, at a place and a column of it. The refusal is NoMemory if there is
 /// no memory for the name.
 pub fn refuse_at(alloc: Global, name: &[u8], code: Code, at: u32, column: u32) -> Refusal
-    ensures { Refuses result (refused_at name.now code at column) }
+    ensures { IsRuleRefusal result (file_refusal_at name.now code at column) }
 {
     match Text::from_bytes(alloc, name) {
         Ok(name) => Refusal::BadFile(Bad {
@@ -35,15 +35,15 @@ pub fn refuse_at(alloc: Global, name: &[u8], code: Code, at: u32, column: u32) -
 
 /// As `refuse_at`, for a file without columns: the column is 0.
 pub fn refuse(alloc: Global, name: &[u8], code: Code, at: u32) -> Refusal
-    ensures { Refuses result (refused name.now code at) }
+    ensures { IsRuleRefusal result (file_refusal name.now code at) }
 {
     refuse_at(alloc, name, code, at, 0)
 }
 
 // F3 if there are more words than a segment can have.
 #[tactic(auto, using(crate::proofs::RuleLaws::sizes))]
-fn sized(alloc: Global, name: &[u8], words: Words) -> Result<Words, Refusal>
-    ensures gives { Gives result (sized name.now words) }
+fn check_word_count(alloc: Global, name: &[u8], words: Words) -> Result<Words, Refusal>
+    ensures gives { IsRuleResult result (check_word_count name.now words) }
     ensures few { IfOk result (λ words. length words ≤ segment_limit) }
 {
     if words.slice().len() > SEGMENT_LIMIT as usize {
@@ -57,11 +57,11 @@ fn sized(alloc: Global, name: &[u8], words: Words) -> Result<Words, Refusal>
 #[tactic(auto, using(crate::proofs::RuleLaws::unpacking))]
 pub fn words_in(alloc: Global, name: &[u8], bytes: &[u8]) -> Result<Words, Refusal>
     requires { length bytes.now ≤ file_limit }
-    ensures gives { Gives result (words_by name.now (unpacked bytes.now)) }
+    ensures gives { IsRuleResult result (words_or_refusal name.now (unpacked bytes.now)) }
     ensures few { IfOk result (λ words. length words ≤ segment_limit) }
 {
     match unpack(alloc, bytes) {
-        Ok(words) => sized(alloc, name, words),
+        Ok(words) => check_word_count(alloc, name, words),
         Err(PackFault::T3(count)) => Err(refuse(alloc, name, Code::T3, count as u32)),
         Err(PackFault::T4(place)) => Err(refuse(alloc, name, Code::T4, place as u32)),
         Err(PackFault::NoMemory) => Err(Refusal::NoMemory),
@@ -70,7 +70,7 @@ pub fn words_in(alloc: Global, name: &[u8], bytes: &[u8]) -> Result<Words, Refus
 
 // O1 to O8, for words that are no object.
 fn refuse_object(alloc: Global, name: &[u8], fault: ObjectFault) -> Refusal
-    ensures { Refuses result (object_refused name.now fault) }
+    ensures { IsRuleRefusal result (object_refusal name.now fault) }
 {
     match fault {
         ObjectFault::O1(at) => refuse(alloc, name, Code::O1, at),
@@ -88,7 +88,7 @@ fn refuse_object(alloc: Global, name: &[u8], fault: ObjectFault) -> Refusal
 /// The object that the words of a file encode, fewer than 2^32 words: O1 to O8 if they encode none.
 pub fn object_in(alloc: Global, name: &[u8], words: &[Word]) -> Result<Object, Refusal>
     requires { length words.now < 2 ^ 32 }
-    ensures { Gives result (object_by name.now (object_of words.now)) }
+    ensures { IsRuleResult result (object_or_refusal name.now (object_of words.now)) }
 {
     match Object::read(alloc, words) {
         Ok(object) => Ok(object),

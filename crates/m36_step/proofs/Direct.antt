@@ -10,14 +10,14 @@ use Rattle.m36_model.specs.WordsPut.{words_written}
 use Rattle.m36_model.specs.Modification.{here}
 use Rattle.m36_model.specs.Registers.{RegsFields}
 use Rattle.m36_model.specs.Results.{OperandFields, operand_fields}
-use Rattle.m36_model.specs.Step.{perform, takes_word, by_direct, direct_word}
+use Rattle.m36_model.specs.Step.{perform, direct_operand, operate_direct, direct_word}
 use Rattle.m36_model.specs.Store.{run}
 use Rattle.m36_model.specs.declared.effects.Formed.{Formed}
 use Rattle.m36_model.specs.declared.effects.Operand36.{Operand36}
 use Rattle.m36_model.specs.declared.outcome.Fault.{Fault}
 use Rattle.m36_model.specs.declared.place.Reference.{Reference}
-use Rattle.m36_step.specs.Operated.{part_of, ran_from}
-use Rattle.m36_step.specs.Reached.{refused_end, unwritten_end, reached_end, fields_reached, DirectOperand}
+use Rattle.m36_step.specs.Operated.{part_of, run_after_address}
+use Rattle.m36_step.specs.Reached.{refused_end, unwritten_end, reached_end, operand_or_fault, IsDirectOperand}
 use Rattle.m36_step.specs.declared.operated.Part as code
 use Rattle.m36_step.specs.declared.operated.Part.TheVariants as part
 use Rattle.m36_step.specs.declared.operated.Reached.{Reached}
@@ -44,12 +44,12 @@ module _ (e : Effect) (n : ℕ) (g : RegsFields) (f : Formed) (core : List ℕ) 
   refused_alike kind.Rwl fault = refl
   refused_alike _ fault = refl
 
-  by_taken : (k : Operand) (w : ℕ) (b : Bool) (r : Result Reached Fault) → fields_reached o r ≡ takes_word e g w b → IfOk r (λ u. u.part ≡ part.Whole) → IfOk r (λ u. words_written k ≡ 0) → ran_from g (by_direct e n g (chain_end_fields f) w b) f core refs ≡ reached_end e n g f k core refs o r
+  by_taken : (k : Operand) (w : ℕ) (b : Bool) (r : Result Reached Fault) → operand_or_fault o r ≡ direct_operand e g w b → IfOk r (λ u. u.part ≡ part.Whole) → IfOk r (λ u. words_written k ≡ 0) → run_after_address g (operate_direct e n g (chain_end_fields f) w b) f core refs ≡ reached_end e n g f k core refs o r
   unfolding run
   by_taken k w true (Ok u) h p l =
       let same : operand_fields o ≡ record { got = direct_word (operand_of e) w; ring = 0; place = 0 } = cc in
-      ap (λ (x : OperandFields). ran_from g (perform e n g (chain_end_fields f) Whole 0 x) f core refs) (sym same)
-      ∙ ap (λ (x : code.Part). ran_from g (perform e n g (chain_end_fields f) (part_of x) 0 (operand_fields o)) f core refs) (sym p)
+      ap (λ (x : OperandFields). run_after_address g (perform e n g (chain_end_fields f) Whole 0 x) f core refs) (sym same)
+      ∙ ap (λ (x : code.Part). run_after_address g (perform e n g (chain_end_fields f) (part_of x) 0 (operand_fields o)) f core refs) (sym p)
       ∙ nothing_written k u l
   by_taken k w true (Err fault) h p l = cc
   by_taken k w false (Ok u) h p l = cc
@@ -57,5 +57,5 @@ module _ (e : Effect) (n : ℕ) (g : RegsFields) (f : Formed) (core : List ℕ) 
       let e : fault ≡ record { at = here g; number = 10; acv = 0 } = cc in
       ap (refused_end f core refs) (sym e) ∙ refused_alike k fault
 
-  pub direct_reached : (k : Operand) (w : ℕ) (r : Result Reached Fault) → DirectOperand e g w o r → IfOk r (λ u. u.part ≡ part.Whole) → IfOk r (λ u. words_written k ≡ 0) → ran_from g (by_direct e n g (chain_end_fields f) w (takes_direct e)) f core refs ≡ reached_end e n g f k core refs o r
+  pub direct_reached : (k : Operand) (w : ℕ) (r : Result Reached Fault) → IsDirectOperand e g w o r → IfOk r (λ u. u.part ≡ part.Whole) → IfOk r (λ u. words_written k ≡ 0) → run_after_address g (operate_direct e n g (chain_end_fields f) w (takes_direct e)) f core refs ≡ reached_end e n g f k core refs o r
   direct_reached k w r h p l = by_taken k w (takes_direct e) r h p l

@@ -4,7 +4,7 @@ use Rattle.m36_inst.specs.Fields.{InstFields}
 use Rattle.m36_inst.specs.Instruction.{inst_of}
 use Rattle.m36_inst.specs.Lookup.{row_at}
 use Rattle.m36_inst.specs.Operands.{operand_of, is_privileged}
-use Rattle.m36_inst.specs.Quick.{group_of, quick_of, quick_row_of, IsQuick, Fits}
+use Rattle.m36_inst.specs.Quick.{group_of, quick_of, quick_row_of, IsQuick, FitsGroup}
 use Rattle.m36_inst.proofs.Grouped.{grouped}
 use Rattle.m36_inst.specs.declared.effect.Effect.{Effect}
 use Rattle.m36_inst.specs.declared.effect.Effect.TheVariants as effect
@@ -14,7 +14,7 @@ use Rattle.m36_inst.specs.declared.rows.Group.{Group}
 use Rattle.m36_inst.specs.declared.rows.Group.TheVariants as group
 use Rattle.m36_inst.specs.declared.rows.Quick.{Quick}
 use Rattle.m36_inst.specs.declared.rows.Row.{Row}
-use Rattle.m36_desc.specs.Access.{ring_called}
+use Rattle.m36_desc.specs.Access.{ring_after_call}
 use Rattle.m36_word.specs.Pairs.{pair_words}
 use Rattle.m36_word.specs.declared.pair.Pair.{Pair}
 use Rattle.m36_model.specs.Act.{Act, Fetch, Transfer, Call}
@@ -24,19 +24,19 @@ use Rattle.m36_model.specs.Effect.{exec, is_absa}
 use Rattle.m36_model.specs.Fields.{FinalFields}
 use Rattle.m36_model.specs.Modification.{here}
 use Rattle.m36_model.specs.Registers.{RegsFields}
-use Rattle.m36_model.specs.Results.{ring_only, leaves}
-use Rattle.m36_model.specs.Step.{Ending, no_operand, outcome_after, outcome_by, aligned_at, by_kind, writing, decode, decoded, effect_and_number, has_right, program}
+use Rattle.m36_model.specs.Results.{ring_only, yields_registers}
+use Rattle.m36_model.specs.Step.{Ending, no_operand, outcome_after, outcome_by, aligned_at, operate_by_kind, writing, decode, decoded, effect_and_number, has_right, program}
 use Rattle.m36_model.specs.Store.{Core_word, serve, changes}
 use Rattle.m36_model.specs.Transfers.{is_taken}
 use Rattle.m36_model.specs.declared.place.Reference.{Reference}
 use Rattle.m36_model.specs.declared.record.StepRecord.{StepRecord}
 use Rattle.m36_model.specs.declared.place.Kind.TheVariants as reference
 use Rattle.m36_walk.specs.Memory.{Memory}
-use Rattle.m36_walk.specs.Served.{standing, sdw_in, request, served_by, at_target, Reads, ServesClaim, ServesWord}
+use Rattle.m36_walk.specs.Served.{midstep_with, sdw_in, request, served_with_result, result_at_target, Reads, ServesClaim, ServesWord}
 use Rattle.m36_walk.specs.Words.{run_changes}
-use Rattle.m36_fastpath.specs.FastPath.{IsDone, word_read, pair_read}
-use Rattle.m36_ea.specs.Formed.{formed_from, ended, plain}
-use Rattle.m36_step.specs.Ended.{EndsAs, ended_of, given_end}
+use Rattle.m36_fastpath.specs.FastPath.{IsQuietEffect, operand_of_word, operand_of_pair}
+use Rattle.m36_ea.specs.Formed.{run_formation, ended, without_tally}
+use Rattle.m36_step.specs.Ended.{EndsAs, end_in_record, code_end}
 use Rattle.m36_step.specs.Operated.{part_of}
 use Rattle.m36_step.specs.Quick.{next_end, EndsWithNext, Operates, Addresses, Decodes, IsNoLdbr, Steps}
 use Rattle.m36_step.specs.References.{read_served}
@@ -47,8 +47,8 @@ use Rattle.m36_step.proofs.Ends.{address_formed, fetches}
 use Rattle.m36_step.proofs.Plain.{not_absa, shift_not_absa, read_ends, stored_ends, half_ends, changed_ends, pair_read_ends, pair_stored_ends, direct_ends, address_ends, stays_ends, target_ends, call_ends, unprivileged}
 
 -- what the group of an instruction implies for its effect
-pub fits : (q : Quick) (k : Group) → IsQuick q → q.group ≡ k → Fits k q.effect
-fits q k row is = subst (λ (x : Group). Fits x q.effect) (sym row.group ∙ is) (grouped q.effect)
+pub fits : (q : Quick) (k : Group) → IsQuick q → q.group ≡ k → FitsGroup k q.effect
+fits q k row is = subst (λ (x : Group). FitsGroup x q.effect) (sym row.group ∙ is) (grouped q.effect)
 
 in_group : (q : Quick) (k : Group) → IsQuick q → q.group ≡ k → group_of q.effect ≡ k
 in_group q k row is = sym row.group ∙ is
@@ -87,7 +87,7 @@ pub record IsFormed (e : Effect) : Type 0 where
   pub privileged : is_privileged e ≡ false
   pub forms : operand_of e ≡ kind.N → ⊥
 
-forms_by : (k : Group) (e : Effect) → Fits k e → (k ≡ group.Other → ⊥) → IsFormed e
+forms_by : (k : Group) (e : Effect) → FitsGroup k e → (k ≡ group.Other → ⊥) → IsFormed e
 forms_by group.Other e f other = absurd (other refl)
 forms_by _ e f other = record { privileged = f.privileged; forms = λ n. let r = sym f.operand ∙ n in absurd cc }
 
@@ -118,13 +118,13 @@ module _ (Has : List Reference → Type 0) (Tells : List Reference → Ended →
     -- A word is read.
     pub read_on : q.group ≡ group.Read → (place got : ℕ) → got ≡ slice_index m.core place
         → ((psr : ℕ) → Reads m m.core psr last.at 1 None (Ok (slice_index m.core place ∷ [])))
-        → ((f : FinalFields) → IsDone after [] (exec q.effect q.reg g f (word_read got)))
+        → ((f : FinalFields) → IsQuietEffect after [] (exec q.effect q.reg g f (operand_of_word got)))
         → TellsWith (reads_one last ∷ []) last → Operates Has Tells q g w last m.core m.core after
     unfolding changes
     read_on k place got is reads done tells refs has =
         let d = done last in
         let new = refs ++ reads_one last ∷ [] in
-        let served = reads g.ppr.psr g dbr refl [] refs [] refl ∙ ap (λ (x : ℕ). read_served (sdw_in m last.at.seg) m.core (plain last) new (Ok (x ∷ []))) (sym is) in
+        let served = reads g.ppr.psr g dbr refl [] refs [] refl ∙ ap (λ (x : ℕ). read_served (sdw_in m last.at.seg) m.core (without_tally last) new (Ok (x ∷ []))) (sym is) in
         record {
           refs = new;
           last = last;
@@ -147,7 +147,7 @@ module _ (Has : List Reference → Type 0) (Tells : List Reference → Ended →
         }
 
     -- A half of a word is stored.
-    pub half_on : (part : code.Part) (k : Operand) → operand_of q.effect ≡ k → by_kind q.effect q.reg g (chain_end_fields (plain last)) k ≡ writing q.effect q.reg g (chain_end_fields (plain last)) 1 (part_of part) → (place word : ℕ) (core : List ℕ) → ServesClaim m m.core last.at 1 (Ok place)
+    pub half_on : (part : code.Part) (k : Operand) → operand_of q.effect ≡ k → operate_by_kind q.effect q.reg g (chain_end_fields (without_tally last)) k ≡ writing q.effect q.reg g (chain_end_fields (without_tally last)) 1 (part_of part) → (place word : ℕ) (core : List ℕ) → ServesClaim m m.core last.at 1 (Ok place)
         → ((f : FinalFields) → Ok (record { regs = after; put = word ∷ []; overflow = false }) ≡ exec q.effect q.reg g f no_operand)
         → core ≡ put_one m.core (Core_word place) (part_of part) word
         → TellsWith (writes_one last ∷ []) last → Operates Has Tells q g w last m.core core after
@@ -163,7 +163,7 @@ module _ (Has : List Reference → Type 0) (Tells : List Reference → Ended →
     -- A word is read, and then it is written.
     pub changed_on : q.group ≡ group.Change → (place got word : ℕ) (core : List ℕ) → got ≡ slice_index m.core place
         → ((psr : ℕ) → Reads m m.core psr last.at 1 None (Ok (slice_index m.core place ∷ []))) → ServesClaim m m.core last.at 1 (Ok place)
-        → ((n : ℕ) (f : FinalFields) → IsDone after (word ∷ []) (exec q.effect n g f (word_read got)))
+        → ((n : ℕ) (f : FinalFields) → IsQuietEffect after (word ∷ []) (exec q.effect n g f (operand_of_word got)))
         → core ≡ slice_set m.core place word
         → ((refs : List Reference) → Has refs → Tells ((refs ++ reads_one last ∷ []) ++ writes_one last ∷ []) (next_end w last)) → Operates Has Tells q g w last m.core core after
     unfolding changes
@@ -171,7 +171,7 @@ module _ (Has : List Reference → Type 0) (Tells : List Reference → Ended →
         let d = done q.reg last in
         let one = refs ++ reads_one last ∷ [] in
         let two = one ++ writes_one last ∷ [] in
-        let served = reads g.ppr.psr g dbr refl [] refs [] refl ∙ ap (λ (x : ℕ). read_served (sdw_in m last.at.seg) m.core (plain last) one (Ok (x ∷ []))) (sym is) in
+        let served = reads g.ppr.psr g dbr refl [] refs [] refl ∙ ap (λ (x : ℕ). read_served (sdw_in m last.at.seg) m.core (without_tally last) one (Ok (x ∷ []))) (sym is) in
         record {
           refs = two;
           last = last;
@@ -195,14 +195,14 @@ module _ (Has : List Reference → Type 0) (Tells : List Reference → Ended →
     -- A pair is read.
     pub pair_on : q.group ≡ group.ReadPair → (place : ℕ) (got : Pair) → pair_words got ≡ slice_index m.core place ∷ (slice_index m.core (place + 1) ∷ [])
         → ((psr : ℕ) → Reads m m.core psr (aligned_at 2 last.at) 2 None (Ok (slice_index m.core place ∷ (slice_index m.core (place + 1) ∷ []))))
-        → ((n : ℕ) (f : FinalFields) (ring : ℕ) → IsDone after [] (exec q.effect n g f (pair_read got ring)))
+        → ((n : ℕ) (f : FinalFields) (ring : ℕ) → IsQuietEffect after [] (exec q.effect n g f (operand_of_pair got ring)))
         → TellsWith (reads_two last ∷ []) last → Operates Has Tells q g w last m.core m.core after
     unfolding changes
     pair_on k place got is reads done tells refs has =
         let ring = (sdw_in m last.at.seg).r1 in
         let d = done q.reg last ring in
         let new = refs ++ reads_two last ∷ [] in
-        let served = reads g.ppr.psr g dbr refl [] refs [] refl ∙ ap (λ (x : List ℕ). read_served (sdw_in m last.at.seg) m.core (plain last) new (Ok x)) (sym is) in
+        let served = reads g.ppr.psr g dbr refl [] refs [] refl ∙ ap (λ (x : List ℕ). read_served (sdw_in m last.at.seg) m.core (without_tally last) new (Ok x)) (sym is) in
         record {
           refs = new;
           last = last;
@@ -228,13 +228,13 @@ module _ (Has : List Reference → Type 0) (Tells : List Reference → Ended →
     pub return_on : q.group ≡ group.Return → (place ring : ℕ) (got : Pair) → pair_words got ≡ slice_index m.core place ∷ (slice_index m.core (place + 1) ∷ [])
         → ((psr : ℕ) → Reads m m.core psr (aligned_at 2 last.at) 2 None (Ok (slice_index m.core place ∷ (slice_index m.core (place + 1) ∷ []))))
         → ring ≡ (sdw_in m last.at.seg).r1
-        → ((n : ℕ) → leaves after ≡ exec effect.Rtcd n g last (pair_read got ring))
+        → ((n : ℕ) → yields_registers after ≡ exec effect.Rtcd n g last (operand_of_pair got ring))
         → TellsWith (reads_two last ∷ []) last → Operates Has Tells q g w last m.core m.core after
     unfolding changes
     return_on k place ring got is reads first done tells refs has =
-        let effect = done q.reg ∙ ap (λ (x : Effect). exec x q.reg g last (pair_read got ring)) (sym (returns_by q.effect (in_group q group.Return row k))) in
+        let effect = done q.reg ∙ ap (λ (x : Effect). exec x q.reg g last (operand_of_pair got ring)) (sym (returns_by q.effect (in_group q group.Return row k))) in
         let new = refs ++ reads_two last ∷ [] in
-        let served = reads g.ppr.psr g dbr refl [] refs [] refl ∙ ap (λ (x : List ℕ). read_served (sdw_in m last.at.seg) m.core (plain last) new (Ok x)) (sym is) in
+        let served = reads g.ppr.psr g dbr refl [] refs [] refl ∙ ap (λ (x : List ℕ). read_served (sdw_in m last.at.seg) m.core (without_tally last) new (Ok x)) (sym is) in
         record {
           refs = new;
           last = last;
@@ -244,9 +244,9 @@ module _ (Has : List Reference → Type 0) (Tells : List Reference → Ended →
 
     -- A call continues in the ring that its target determines.
     pub call_on : q.group ≡ group.Call → (ring : ℕ)
-        → ((refs : List Reference) → serve core_store g (standing m.core [] refs) (request Call last.at 1 []) ≡ served_by (request Call last.at 1 []) m.core [] refs (at_target (sdw_in m last.at.seg) (Ok ring)))
-        → ring ≡ ring_called (sdw_in m last.at.seg) last.at.ring
-        → ((n : ℕ) → leaves after ≡ exec effect.Call6 n g last (ring_only ring))
+        → ((refs : List Reference) → serve core_store g (midstep_with m.core [] refs) (request Call last.at 1 []) ≡ served_with_result (request Call last.at 1 []) m.core [] refs (result_at_target (sdw_in m last.at.seg) (Ok ring)))
+        → ring ≡ ring_after_call (sdw_in m last.at.seg) last.at.ring
+        → ((n : ℕ) → yields_registers after ≡ exec effect.Call6 n g last (ring_only ring))
         → TellsSame last → Operates Has Tells q g w last m.core m.core after
     call_on k ring served is done tells refs has =
         let effect = done q.reg ∙ ap (λ (x : Effect). exec x q.reg g last (ring_only ring)) (sym (calls q.effect (in_group q group.Call row k))) in
@@ -269,7 +269,7 @@ module _ (Has : List Reference → Type 0) (Tells : List Reference → Ended →
         }
 
     pub target_on : q.group ≡ group.Transfer → true ≡ is_taken q.effect g
-        → ((refs : List Reference) → serve core_store g (standing m.core [] refs) (request Transfer last.at 1 []) ≡ served_by (request Transfer last.at 1 []) m.core [] refs (at_target (sdw_in m last.at.seg) (Ok (tt {0}))))
+        → ((refs : List Reference) → serve core_store g (midstep_with m.core [] refs) (request Transfer last.at 1 []) ≡ served_with_result (request Transfer last.at 1 []) m.core [] refs (result_at_target (sdw_in m last.at.seg) (Ok (tt {0}))))
         → Ok (record { regs = after; put = []; overflow = false }) ≡ exec q.effect q.reg g last no_operand
         → TellsSame last → Operates Has Tells q g w last m.core m.core after
     target_on k taken served effect tells refs has =
@@ -301,7 +301,7 @@ module _ (Has : List Reference → Type 0) (Tells : List Reference → Ended →
 
   -- A direct operand.
   pub direct_on : (last : FinalFields) (row : IsQuick q) (core : List ℕ) (after : RegsFields) → q.group ≡ group.Read → (operand : ℕ) → last.direct ≡ Some operand
-      → ((f : FinalFields) → IsDone after [] (exec q.effect q.reg g f (word_read operand)))
+      → ((f : FinalFields) → IsQuietEffect after [] (exec q.effect q.reg g f (operand_of_word operand)))
       → TellsSame last → Operates Has Tells q g w last core core after
   direct_on last row core after k operand some done tells refs has =
       let d = done last in
@@ -314,14 +314,14 @@ module _ (Has : List Reference → Type 0) (Tells : List Reference → Ended →
 
   module _ (core core' : List ℕ) (after : RegsFields) where
     -- from the address on
-    pub addressed_on : (last : FinalFields) (i : InstFields) → i ≡ inst_of w → ((core : List ℕ) (refs : List Reference) → formed_from g i core refs ≡ ended core refs (Ok (plain last)))
+    pub addressed_on : (last : FinalFields) (i : InstFields) → i ≡ inst_of w → ((core : List ℕ) (refs : List Reference) → run_formation g i core refs ≡ ended core refs (Ok (without_tally last)))
         → Operates Has Tells q g w last core core' after → Addresses Has Tells q g w core core' after
     addressed_on last i is forms goes refs has =
         let t = goes refs has in
         record {
           refs = t.refs;
           last = t.last;
-          ends = address_formed g q.effect q.reg w i is core refs core refs (plain last) core' t.refs after (next_end w t.last) (forms core refs) t.ends;
+          ends = address_formed g q.effect q.reg w i is core refs core refs (without_tally last) core' t.refs after (next_end w t.last) (forms core refs) t.ends;
           tells = t.tells;
         }
 
@@ -330,7 +330,7 @@ module _ (Has : List Reference → Type 0) (Tells : List Reference → Ended →
     decoded_on is row other goes privileged refs has =
         let formed = forms_by q.group q.effect (fits q q.group row refl) other in
         let same = ap (λ (x : Option (Effect × ℕ)). decoded g w privileged x) (decode_quick w q is other) ∙ unprivileged q.effect q.reg w g privileged formed.privileged formed.forms in
-        subst (λ (a : Act Ending). EndsWithNext Tells g a (standing core [] refs) core' after w) (sym same) (goes refs has)
+        subst (λ (a : Act Ending). EndsWithNext Tells g a (midstep_with core [] refs) core' after w) (sym same) (goes refs has)
 
 -- The whole step.
 module _ (Has : List Reference → Type 0) (Tells : List Reference → Ended → Type 0) (g : RegsFields) (m : Memory) (dbr : g.dbr ≡ m.dbr) (core' : List ℕ) (after : RegsFields) where
@@ -355,8 +355,8 @@ module _ (Has : List Reference → Type 0) (Tells : List Reference → Ended →
 
 -- What a record has of a quick step.
 pub told_on : (g : RegsFields) (m : Memory) (before : List Reference) (core : List ℕ) (after : RegsFields) (told : StepRecord) → before ≡ []
-    → Steps (λ refs. before ≡ refs) (λ refs e. (told.refs.items ≡ refs) × (ended_of told ≡ e)) g m.core core after
-    → EndsAs g (program g) m.core [] core told.refs.items after (ended_of told)
+    → Steps (λ refs. before ≡ refs) (λ refs e. (told.refs.items ≡ refs) × (end_in_record told ≡ e)) g m.core core after
+    → EndsAs g (program g) m.core [] core told.refs.items after (end_in_record told)
 told_on g m before core after told none steps =
     let t = steps.goes [] none in
-    t.ends ∙ ap (λ (r : List Reference). given_end core r after (next_end steps.word t.last)) (sym t.tells.0) ∙ ap (λ (e : Ended). given_end core told.refs.items after e) (sym t.tells.1)
+    t.ends ∙ ap (λ (r : List Reference). code_end core r after (next_end steps.word t.last)) (sym t.tells.0) ∙ ap (λ (e : Ended). code_end core told.refs.items after e) (sym t.tells.1)

@@ -1,12 +1,12 @@
 -- Each instruction that has an address is in one of three groups.
 use Rattle.std.proofs.Common.{◌≡◌, refl, false, IsTrue}
-use Rattle.m36_inst.specs.Groups.{is_pointer, is_control, is_data}
+use Rattle.m36_inst.specs.Groups.{is_pointer_instruction, is_control_instruction, is_data_instruction}
 use Rattle.m36_inst.specs.Operands.{operand_of}
 use Rattle.m36_inst.specs.declared.effect.Effect.{Effect}
 use Rattle.m36_inst.specs.declared.effect.Effect.TheVariants as effect
 use Rattle.m36_inst.specs.declared.operand.Operand.TheVariants.{N}
 
-pub data_else : (e : Effect) → is_pointer e ≡ false → is_control e ≡ false → (operand_of e ≡ N → ⊥) → IsTrue (is_data e)
+pub data_else : (e : Effect) → is_pointer_instruction e ≡ false → is_control_instruction e ≡ false → (operand_of e ≡ N → ⊥) → IsTrue (is_data_instruction e)
 data_else effect.EppN p c a = cc
 data_else effect.EpbpN p c a = cc
 data_else effect.SpriN p c a = cc

@@ -8,22 +8,22 @@ use Rattle.m36_model.specs.declared.outcome.Outcome.{Outcome}
 use Rattle.m36_model.specs.declared.outcome.Outcome.TheVariants.{Next}
 use Rattle.m36_model.specs.declared.place.Reference.{Reference}
 use Rattle.m36_model.specs.declared.record.StepRecord.{StepRecord}
-use Rattle.m36_step.specs.Answers.{IsOn}
-use Rattle.m36_step.specs.Hurry.{repeated, states_after}
+use Rattle.m36_step.specs.Answers.{IsStepWithNext}
+use Rattle.m36_step.specs.Hurry.{repeated, state_after_steps}
 use Rattle.m36_step.specs.MachineFields.{MachineFields}
-use Rattle.m36_step.specs.MachineTurn.{machine_turn, machine_after, turn_by, after_by, ended_by}
+use Rattle.m36_step.specs.MachineTurn.{machine_turn, machine_after, turn_given_end, after_given_end, end_by_outcome}
 use Rattle.m36_step.specs.Quick.{IsNoLdbr, Steps, next_end}
 use Rattle.m36_step.specs.declared.ended.Ended.{Ended}
 use Rattle.m36_step.proofs.Ends.{step_told, step_left}
 
 -- `taken` steps lead from the first state to this one; each has the outcome Next and is not an LDBR
 pub record Taken (start now : State (List ℕ)) (taken : ℕ) : Type 0 where
-  pub state : now ≡ states_after taken start
-  pub on : (n : ℕ) → n < taken → (record_of core_store (states_after n start)).outcome ≡ Next
-  pub plain : (n : ℕ) → n < taken → ExecutesLdbr (record_of core_store (states_after n start)) → ⊥
+  pub state : now ≡ state_after_steps taken start
+  pub on : (n : ℕ) → n < taken → (record_of core_store (state_after_steps n start)).outcome ≡ Next
+  pub plain : (n : ℕ) → n < taken → ExecutesLdbr (record_of core_store (state_after_steps n start)) → ⊥
 
 pub none_taken : (start : State (List ℕ)) → Taken start start 0
-unfolding states_after
+unfolding state_after_steps
 none_taken start =
     record { state = refl; on = λ n h. absurd (omega arith); plain = λ n h. absurd (omega arith) }
 
@@ -49,31 +49,31 @@ is_on s later steps =
 pub one_more :
     (start before later : State (List ℕ)) (taken : ℕ) → Taken start before taken
     → Steps (λ refs. Unit {0}) (λ refs e. Unit {0}) before.regs before.store later.store later.regs → Taken start later (taken + 1)
-unfolding states_after
+unfolding state_after_steps
 one_more start before later taken t steps =
     let one = is_on before later steps in
     let more : taken + 1 ≡ suc taken = omega arith in
     record {
-      state = one.left ∙ ap (state_after core_store) t.state ∙ sym (ap (λ (k : ℕ). states_after k start) more);
-      on = below_more (λ n. (record_of core_store (states_after n start)).outcome ≡ Next) taken t.on (rw (← t.state) one.on);
-      plain = below_more (λ n. ExecutesLdbr (record_of core_store (states_after n start)) → ⊥) taken t.plain (rw (← t.state) one.plain);
+      state = one.left ∙ ap (state_after core_store) t.state ∙ sym (ap (λ (k : ℕ). state_after_steps k start) more);
+      on = below_more (λ n. (record_of core_store (state_after_steps n start)).outcome ≡ Next) taken t.on (rw (← t.state) one.on);
+      plain = below_more (λ n. ExecutesLdbr (record_of core_store (state_after_steps n start)) → ⊥) taken t.plain (rw (← t.state) one.plain);
     }
 
 -- Turns of a machine whose run has not ended, if each step has the outcome Next.
 pub turns_repeated :
-    (m : MachineFields) (taken : ℕ) → m.ended ≡ None → ((n : ℕ) → n < taken → (record_of core_store (states_after n m.state)).outcome ≡ Next)
-    → repeated machine_after taken m ≡ record { state = states_after taken m.state; ended = None }
-unfolding repeated states_after machine_after
+    (m : MachineFields) (taken : ℕ) → m.ended ≡ None → ((n : ℕ) → n < taken → (record_of core_store (state_after_steps n m.state)).outcome ≡ Next)
+    → repeated machine_after taken m ≡ record { state = state_after_steps taken m.state; ended = None }
+unfolding repeated state_after_steps machine_after
 turns_repeated m zero going on = λ i. record { state = m.state; ended = going i }
 turns_repeated m (suc taken) going on =
-    let before : repeated machine_after taken m ≡ record { state = states_after taken m.state; ended = None } = turns_repeated m taken going (λ n h. on n (omega arith)) in
+    let before : repeated machine_after taken m ≡ record { state = state_after_steps taken m.state; ended = None } = turns_repeated m taken going (λ n h. on n (omega arith)) in
     let next = on taken (omega arith) in
-    ap (λ (x : MachineFields). after_by x.ended x.state) before ∙ ap (λ (o : Outcome). record { state = state_after core_store (states_after taken m.state); ended = ended_by o }) next
+    ap (λ (x : MachineFields). after_given_end x.ended x.state) before ∙ ap (λ (o : Outcome). record { state = state_after core_store (state_after_steps taken m.state); ended = end_by_outcome o }) next
 
 pub turns_on :
-    (m : MachineFields) (taken : ℕ) → m.ended ≡ None → ((n : ℕ) → n < taken → (record_of core_store (states_after n m.state)).outcome ≡ Next)
-    → (n : ℕ) → n < taken → IsOn (machine_turn (repeated machine_after n m))
+    (m : MachineFields) (taken : ℕ) → m.ended ≡ None → ((n : ℕ) → n < taken → (record_of core_store (state_after_steps n m.state)).outcome ≡ Next)
+    → (n : ℕ) → n < taken → IsStepWithNext (machine_turn (repeated machine_after n m))
 unfolding machine_turn
 turns_on m taken going on n h =
     let there = turns_repeated m n going (λ k l. on k (omega arith)) in
-    subst (λ (x : MachineFields). IsOn (turn_by x.ended x.state)) (sym there) (on n h)
+    subst (λ (x : MachineFields). IsStepWithNext (turn_given_end x.ended x.state)) (sym there) (on n h)

@@ -12,8 +12,8 @@ use Rattle.m36_model.specs.Fields.{FinalFields}
 use Rattle.m36_model.specs.WordsPut.{words_written, PutsFor}
 use Rattle.m36_model.specs.Registers.{RegsFields}
 use Rattle.m36_model.specs.Results.{OperandFields, EffectFields, effect_fields, operand_fields, words_of_held}
-use Rattle.m36_model.specs.Step.{Performed, puts_from, performed, tallied}
-use Rattle.m36_model.specs.Store.{Spot, Ran, run}
+use Rattle.m36_model.specs.Step.{Performed, puts_from, operation_result, with_chain_tally}
+use Rattle.m36_model.specs.Store.{Spot, ProgramResult, run}
 use Rattle.m36_model.specs.declared.effects.Effect36.{Effect36}
 use Rattle.m36_model.specs.declared.effects.Formed.{Formed}
 use Rattle.m36_model.specs.declared.effects.Held.{Held}
@@ -24,7 +24,7 @@ use Rattle.m36_model.specs.declared.outcome.Halt.TheVariants as halt
 use Rattle.m36_model.specs.declared.place.Reference.{Reference}
 use Rattle.m36_model.proofs.Computed.{everything}
 use Rattle.m36_walk.specs.Runs.{run_from}
-use Rattle.m36_walk.specs.Served.{standing}
+use Rattle.m36_walk.specs.Served.{midstep_with}
 use Rattle.m36_step.specs.Operated.{part_of, operated_end}
 use Rattle.m36_step.specs.Reached.{unwritten_end, written_end, reached_end}
 use Rattle.m36_step.specs.declared.operated.Operated.{Operated}
@@ -36,7 +36,7 @@ effect_is g x (Ok y) h = let e : effect_fields x ≡ y = cc in ap (λ (z : Effec
 effect_is g x (Err number) h = cc
 
 -- If the effect is refused, nothing is performed, whatever would have been written.
-refusal_is : (g : RegsFields) (fault : Fault) (v : Result EffectFields ℕ) (f : Formed) (part : Part) (first : ℕ) → answer_fields (Err fault) ≡ refused_here g v → performed g (chain_end_fields f) part first v ≡ Err (halt.Fault fault)
+refusal_is : (g : RegsFields) (fault : Fault) (v : Result EffectFields ℕ) (f : Formed) (part : Part) (first : ℕ) → answer_fields (Err fault) ≡ refused_here g v → operation_result g (chain_end_fields f) part first v ≡ Err (halt.Fault fault)
 refusal_is g fault (Ok y) f part first h = cc
 refusal_is g fault (Err number) f part first h = let e = sym h in cc
 
@@ -51,36 +51,36 @@ no_claims claims place n e = rw e (sym (append-nil claims))
 
 module _ (e : Effect) (n : ℕ) (g : RegsFields) (f : Formed) (core : List ℕ) (refs : List Reference) (o : Operand36) (u : Reached) where
   abbrev effect_on : Result EffectFields ℕ
-  effect_on = exec e n (tallied g (chain_end_fields f)) f.last (operand_fields o)
+  effect_on = exec e n (with_chain_tally g (chain_end_fields f)) f.last (operand_fields o)
 
   abbrev claimed : List Spot
   claimed = claimed_by f.tally f.place
 
-  abbrev ended_by : List Spot → Result Performed Halt → Ran (Result Performed Halt) (List ℕ)
-  ended_by claims value = record { value = value; mid = standing core claims refs }
+  abbrev end_by_outcome : List Spot → Result Performed Halt → ProgramResult (Result Performed Halt) (List ℕ)
+  end_by_outcome claims value = record { value = value; mid = midstep_with core claims refs }
 
   module _ (x : Effect36) (h : answer_fields (Ok x) ≡ refused_here g effect_on) where
     abbrev operated : Operated
     operated = record { place = u.place; part = u.part; overflow = x.overflow }
 
     abbrev performs : ℕ → Result Performed Halt
-    performs first = performed g (chain_end_fields f) (part_of u.part) first (Ok (effect_fields x))
+    performs first = operation_result g (chain_end_fields f) (part_of u.part) first (Ok (effect_fields x))
 
-    performed_is : (first : ℕ) → performed g (chain_end_fields f) (part_of u.part) first effect_on ≡ performs first
-    performed_is first = ap (λ (v : Result EffectFields ℕ). performed g (chain_end_fields f) (part_of u.part) first v) (effect_is g x effect_on h)
+    performed_is : (first : ℕ) → operation_result g (chain_end_fields f) (part_of u.part) first effect_on ≡ performs first
+    performed_is first = ap (λ (v : Result EffectFields ℕ). operation_result g (chain_end_fields f) (part_of u.part) first v) (effect_is g x effect_on h)
 
     unwritten_performed : length (words_of_held x.put) ≡ 0 → unwritten_end e n g f core refs o (Ok u) ≡ operated_end core refs f x.regs x.put (Ok operated)
     unfolding run
     unwritten_performed l =
-        ap (ended_by claimed) (performed_is 0)
-        ∙ ap (λ (ps : List Put). ended_by claimed (Ok (record { regs = x.regs; puts = (chain_end_fields f).pending ++ ps; overflow = x.overflow }))) (no_puts (part_of u.part) (length claimed) (words_of_held x.put) l)
-        ∙ ap (λ (cs : List Spot). ended_by cs (performs (length claimed))) (no_claims claimed u.place (length (words_of_held x.put)) l)
+        ap (end_by_outcome claimed) (performed_is 0)
+        ∙ ap (λ (ps : List Put). end_by_outcome claimed (Ok (record { regs = x.regs; puts = (chain_end_fields f).pending ++ ps; overflow = x.overflow }))) (no_puts (part_of u.part) (length claimed) (words_of_held x.put) l)
+        ∙ ap (λ (cs : List Spot). end_by_outcome cs (performs (length claimed))) (no_claims claimed u.place (length (words_of_held x.put)) l)
 
     written_performed : (count : ℕ) → length (words_of_held x.put) ≡ count → written_end e n g f count core refs o (Ok u) ≡ operated_end core refs f x.regs x.put (Ok operated)
     unfolding run
     written_performed count l =
-        ap (ended_by (claimed ++ run_from u.place count)) (performed_is (length claimed))
-        ∙ ap (λ (k : ℕ). ended_by (claimed ++ run_from u.place k) (performs (length claimed))) (sym l)
+        ap (end_by_outcome (claimed ++ run_from u.place count)) (performed_is (length claimed))
+        ∙ ap (λ (k : ℕ). end_by_outcome (claimed ++ run_from u.place k) (performs (length claimed))) (sym l)
 
     pub performed_by_kind : (k : Operand) → length (words_of_held x.put) ≡ words_written k → reached_end e n g f k core refs o (Ok u) ≡ operated_end core refs f x.regs x.put (Ok operated)
     performed_by_kind kind.W l = written_performed 1 l
@@ -95,7 +95,7 @@ module _ (e : Effect) (n : ℕ) (g : RegsFields) (f : Formed) (core : List ℕ) 
   module _ (fault : Fault) (g' : RegsFields) (put : Held) (h : answer_fields (Err fault) ≡ refused_here g effect_on) where
     unwritten_refused : unwritten_end e n g f core refs o (Ok u) ≡ operated_end core refs f g' put (Err (halt.Fault fault))
     unfolding run
-    unwritten_refused = ap (ended_by claimed) (refusal_is g fault effect_on f (part_of u.part) 0 h)
+    unwritten_refused = ap (end_by_outcome claimed) (refusal_is g fault effect_on f (part_of u.part) 0 h)
 
     pub refused_by_kind : (k : Operand) → words_written k ≡ 0 → reached_end e n g f k core refs o (Ok u) ≡ operated_end core refs f g' put (Err (halt.Fault fault))
     refused_by_kind kind.W l = absurd (omega arith)

@@ -8,7 +8,7 @@ use Rattle.m36_model.specs.Store.{State}
 use Rattle.m36_model.specs.declared.place.Reference.{Reference}
 use Rattle.m36_model.specs.declared.record.Shown.{Shown}
 use Rattle.m36_model.specs.declared.record.StepRecord.{StepRecord}
-use Rattle.m36_step.specs.Ended.{given_end}
+use Rattle.m36_step.specs.Ended.{code_end}
 use Rattle.m36_step.specs.Quick.{Steps, next_end}
 use Rattle.m36_step.specs.Shown.{shown_end, EndsShown}
 use Rattle.m36_step.specs.declared.ended.Ended.{Ended}
@@ -22,7 +22,7 @@ pub shown_on :
 shown_on g core core' after shown steps =
     let t = steps.goes [] tt in record {
       refs = t.refs;
-      ends = t.ends ∙ ap (λ (e : Ended). given_end core' t.refs after e) (sym t.tells);
+      ends = t.ends ∙ ap (λ (e : Ended). code_end core' t.refs after e) (sym t.tells);
     }
 
 module _ (s : State (List ℕ)) (core : List ℕ) (after : RegsFields) (shown : Shown) (ends : EndsShown s.regs s.store core after (shown_end shown)) where

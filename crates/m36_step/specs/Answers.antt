@@ -33,13 +33,13 @@ IsStepOrEnd Same Full = ⊥
 IsStepOrEnd Same NoMemory = ⊥
 
 -- a step whose outcome is Next, so that another step follows
-abbrev pub IsOn : Turn → Type 0
-IsOn (Stepped told) = told.outcome ≡ Next
-IsOn (Linked note) = ⊥
-IsOn (Console text) = ⊥
-IsOn (Ended end) = ⊥
-IsOn Full = ⊥
-IsOn NoMemory = ⊥
+abbrev pub IsStepWithNext : Turn → Type 0
+IsStepWithNext (Stepped told) = told.outcome ≡ Next
+IsStepWithNext (Linked note) = ⊥
+IsStepWithNext (Console text) = ⊥
+IsStepWithNext (Ended end) = ⊥
+IsStepWithNext Full = ⊥
+IsStepWithNext NoMemory = ⊥
 
 -- a step
 abbrev pub IsStep : Turn → Type 0
@@ -76,8 +76,8 @@ abbrev pub IsUnable : {S : Type 0} → S → BackAnswer → S → Type 0
 IsUnable before answer later = (answer ≡ back.Unable) × (later ≡ before)
 
 -- the machine has gone back
-abbrev pub IsDone : BackAnswer → Type 0
-IsDone back.Done = Unit {0}
-IsDone (back.Before taken) = ⊥
-IsDone back.Unable = ⊥
-IsDone back.NoMemory = ⊥
+abbrev pub HasGoneBack : BackAnswer → Type 0
+HasGoneBack back.Done = Unit {0}
+HasGoneBack (back.Before taken) = ⊥
+HasGoneBack back.Unable = ⊥
+HasGoneBack back.NoMemory = ⊥

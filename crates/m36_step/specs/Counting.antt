@@ -5,14 +5,14 @@ use Rattle.m36_step.specs.declared.turns.Turn.TheVariants.{Stepped, Linked, Cons
 use Rattle.m36_step.specs.declared.turns.Turn.TheVariants.{NoMemory}
 
 -- the maximum of the count of steps
-abbrev pub most_taken : ℕ
-most_taken = 2 ^ 64 - 1
+abbrev pub step_count_limit : ℕ
+step_count_limit = 2 ^ 64 - 1
 
 -- the count of steps after a turn: a step counts 1, and a service 0
-abbrev pub counted : ℕ → Turn → ℕ
-counted taken (Stepped told) = taken + 1
-counted taken (Linked note) = taken
-counted taken (Console text) = taken
-counted taken (Ended end) = taken
-counted taken Full = taken
-counted taken NoMemory = taken
+abbrev pub step_count_after : ℕ → Turn → ℕ
+step_count_after taken (Stepped told) = taken + 1
+step_count_after taken (Linked note) = taken
+step_count_after taken (Console text) = taken
+step_count_after taken (Ended end) = taken
+step_count_after taken Full = taken
+step_count_after taken NoMemory = taken

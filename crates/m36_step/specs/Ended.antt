@@ -4,7 +4,7 @@ use Rattle.std.specs.Prelude.{ℕ, ◌≡◌, Bool, List, [], Option, Some, None
 use Rattle.m36_model.specs.Fields.{FinalFields}
 use Rattle.m36_model.specs.Registers.{RegsFields}
 use Rattle.m36_model.specs.Act.{Act}
-use Rattle.m36_model.specs.Store.{Ran, run}
+use Rattle.m36_model.specs.Store.{ProgramResult, run}
 use Rattle.m36_model.specs.Core.{core_store}
 use Rattle.m36_model.specs.Step.{Ending, stepped, outcome_of, outcome_after}
 use Rattle.m36_model.specs.declared.effects.Formed.{Formed}
@@ -13,8 +13,8 @@ use Rattle.m36_model.specs.declared.outcome.Outcome.{Outcome}
 use Rattle.m36_model.specs.declared.outcome.Outcome.TheVariants.{Next}
 use Rattle.m36_model.specs.declared.place.Reference.{Reference}
 use Rattle.m36_model.specs.declared.record.StepRecord.{StepRecord}
-use Rattle.m36_walk.specs.Served.{standing}
-use Rattle.m36_ea.specs.Formed.{formed_mid}
+use Rattle.m36_walk.specs.Served.{midstep_with}
+use Rattle.m36_ea.specs.Formed.{midstep_after_address}
 use Rattle.m36_step.specs.declared.ended.Ended.{Ended}
 
 -- the end of a step, with its references, and the registers and core after it
@@ -27,8 +27,8 @@ pub record StepEndState : Type 0 where
   pub core : List ℕ
 
 -- the end of a run of the program, after which the words are written together
-abbrev pub end_of : Ran Ending (List ℕ) → StepEndState
-end_of t =
+abbrev pub end_of_run : ProgramResult Ending (List ℕ) → StepEndState
+end_of_run t =
     record {
       word = t.value.word;
       at = t.value.at;
@@ -39,8 +39,8 @@ end_of t =
     }
 
 -- the end that the code gives, with core, the references and the registers that it leaves
-abbrev pub given_end : List ℕ → List Reference → RegsFields → Ended → StepEndState
-given_end core refs after e =
+abbrev pub code_end : List ℕ → List Reference → RegsFields → Ended → StepEndState
+code_end core refs after e =
     record {
       word = e.word;
       at = e.at;
@@ -60,8 +60,8 @@ completed_end word last overflow mask g =
     record { word = Some word; at = Some last; outcome = outcome_after overflow mask g }
 
 -- the end in a record
-abbrev pub ended_of : StepRecord → Ended
-ended_of told = record { word = told.word; at = told.at; outcome = told.outcome }
+abbrev pub end_in_record : StepRecord → Ended
+end_in_record told = record { word = told.word; at = told.at; outcome = told.outcome }
 
 -- an empty record with these registers
 abbrev pub empty_record_of : RegsFields → StepRecord
@@ -81,11 +81,11 @@ abbrev pub EndsAs :
     RegsFields → Act Ending → List ℕ → List Reference → List ℕ → List Reference → RegsFields → Ended
     → Type 0
 EndsAs g program core refs core' refs' g' e =
-    end_of (run core_store g program (standing core [] refs)) ≡ given_end core' refs' g' e
+    end_of_run (run core_store g program (midstep_with core [] refs)) ≡ code_end core' refs' g' e
 
 -- As `EndsAs`, once the address is formed: the step has claimed the tally word, if there is one.
 abbrev pub EndsFormed :
     RegsFields → Act Ending → List ℕ → Formed → List Reference → List ℕ → List Reference
     → RegsFields → Ended → Type 0
 EndsFormed g program core f refs core' refs' g' e =
-    end_of (run core_store g program (formed_mid core f refs)) ≡ given_end core' refs' g' e
+    end_of_run (run core_store g program (midstep_after_address core f refs)) ≡ code_end core' refs' g' e

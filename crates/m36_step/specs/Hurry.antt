@@ -5,9 +5,9 @@ use Rattle.m36_model.specs.Step.{state_after}
 use Rattle.m36_model.specs.Store.{State}
 
 -- the state after n steps
-unfoldable pub states_after : ℕ → State (List ℕ) → State (List ℕ)
-states_after zero s = s
-states_after (suc n) s = state_after core_store (states_after n s)
+unfoldable pub state_after_steps : ℕ → State (List ℕ) → State (List ℕ)
+state_after_steps zero s = s
+state_after_steps (suc n) s = state_after core_store (state_after_steps n s)
 
 -- a function applied n times
 unfoldable pub repeated : {A : Type 0} → (A → A) → ℕ → A → A

@@ -8,7 +8,7 @@ use Rattle.m36_model.specs.declared.endings.End.{End}
 use Rattle.m36_model.specs.declared.endings.End.TheVariants as end
 use Rattle.m36_model.specs.declared.outcome.Outcome.{Outcome}
 use Rattle.m36_model.specs.declared.outcome.Outcome.TheVariants.{Next, Faulted, Stopped}
-use Rattle.m36_step.specs.Answers.{IsDone, IsService, IsStep, IsHalted, IsStepOrEnd, IsUnable}
+use Rattle.m36_step.specs.Answers.{HasGoneBack, IsService, IsStep, IsHalted, IsStepOrEnd, IsUnable}
 use Rattle.m36_step.specs.Answers.{PrecludesStep}
 use Rattle.m36_step.specs.MachineFields.{MachineFields}
 use Rattle.m36_step.specs.declared.turns.Turn.{Turn}
@@ -16,32 +16,32 @@ use Rattle.m36_step.specs.declared.turns.Turn.TheVariants.{Stepped, Ended}
 use Rattle.m36_step.specs.declared.turns.BackAnswer.{BackAnswer}
 
 -- how a step with this outcome ends the run, if it does
-abbrev pub ended_by : Outcome → Option End
-ended_by Next = None
-ended_by (Faulted fault) = Some (end.Fault fault)
-ended_by (Stopped stop) = Some (end.Stop stop)
+abbrev pub end_by_outcome : Outcome → Option End
+end_by_outcome Next = None
+end_by_outcome (Faulted fault) = Some (end.Fault fault)
+end_by_outcome (Stopped stop) = Some (end.Stop stop)
 
 -- the turn of a state, given how the run has ended
-abbrev pub turn_by : Option End → State (List ℕ) → Turn
-turn_by None s = Stepped (record_of core_store s)
-turn_by (Some e) s = Ended e
+abbrev pub turn_given_end : Option End → State (List ℕ) → Turn
+turn_given_end None s = Stepped (record_of core_store s)
+turn_given_end (Some e) s = Ended e
 
 -- the machine after the turn of a state, given how the run has ended
-abbrev pub after_by : Option End → State (List ℕ) → MachineFields
-after_by None s =
+abbrev pub after_given_end : Option End → State (List ℕ) → MachineFields
+after_given_end None s =
     record {
       state = state_after core_store s;
-      ended = ended_by (record_of core_store s).outcome;
+      ended = end_by_outcome (record_of core_store s).outcome;
     }
-after_by (Some e) s = record { state = s; ended = Some e }
+after_given_end (Some e) s = record { state = s; ended = Some e }
 
 -- A turn is a step, until one has ended the run; from then on each turn reports that end.
 unfoldable pub machine_turn : MachineFields → Turn
-machine_turn m = turn_by m.ended m.state
+machine_turn m = turn_given_end m.ended m.state
 
 -- the machine after its turn
 unfoldable pub machine_after : MachineFields → MachineFields
-machine_after m = after_by m.ended m.state
+machine_after m = after_given_end m.ended m.state
 
 -- the machine makes this turn, and is `later` after it
 abbrev pub MachineTurns : MachineFields → Turn → MachineFields → Type 0
@@ -54,10 +54,10 @@ MachineWent before n answer later = IsUnable before answer later
 -- going back changes nothing unless it answers Done
 pub machine_stays :
     (before : MachineFields) (n : ℕ) (answer : BackAnswer) (after : MachineFields)
-    → MachineWent before n answer after → IsDone answer ⊎ (after ≡ before)
+    → MachineWent before n answer after → HasGoneBack answer ⊎ (after ≡ before)
 machine_stays before n answer after went = inr went.1
 
-no_service : (ended : Option End) (s : State (List ℕ)) → IsService (turn_by ended s) → ⊥
+no_service : (ended : Option End) (s : State (List ℕ)) → IsService (turn_given_end ended s) → ⊥
 no_service None s h = h
 no_service (Some e) s h = h
 
@@ -74,15 +74,15 @@ machine_apart first second third one two h k service other =
     turn_no_service first (subst IsService h.0 service)
 
 no_step : (outcome : Outcome) (s : State (List ℕ))
-    → IsHalted outcome → IsStep (turn_by (ended_by outcome) s) → ⊥
+    → IsHalted outcome → IsStep (turn_given_end (end_by_outcome outcome) s) → ⊥
 no_step Next s not step = not
 no_step (Faulted fault) s not step = step
 no_step (Stopped stop) s not step = step
 
 no_step_after :
     (ended : Option End) (s : State (List ℕ))
-    → PrecludesStep (turn_by ended s)
-    → IsStep (turn_by (after_by ended s).ended (after_by ended s).state) → ⊥
+    → PrecludesStep (turn_given_end ended s)
+    → IsStep (turn_given_end (after_given_end ended s).ended (after_given_end ended s).state) → ⊥
 no_step_after None s interrupts step =
     no_step (record_of core_store s).outcome (state_after core_store s) interrupts step
 no_step_after (Some e) s interrupts step = interrupts
@@ -109,7 +109,7 @@ machine_possible m = (refl, refl)
 
 kept_by :
     (ended : Option End) (s : State (List ℕ))
-    → IsStepOrEnd (after_by ended s ≡ record { state = s; ended = ended }) (turn_by ended s)
+    → IsStepOrEnd (after_given_end ended s ≡ record { state = s; ended = ended }) (turn_given_end ended s)
 kept_by None s = tt
 kept_by (Some e) s = refl
 

@@ -8,7 +8,7 @@ use Rattle.m36_model.specs.Core.{core_store}
 use Rattle.m36_model.specs.Registers.{RegsFields}
 use Rattle.m36_model.specs.Results.{words_of_held}
 use Rattle.m36_model.specs.Step.{Performed, Operation, puts_with, operate}
-use Rattle.m36_model.specs.Store.{Spot, Ran, run}
+use Rattle.m36_model.specs.Store.{Spot, ProgramResult, run}
 use Rattle.m36_model.specs.WordsPut.{IsHalf, FitsHalf}
 use Rattle.m36_model.specs.declared.effects.Formed.{Formed}
 use Rattle.m36_model.specs.declared.effects.Held.{Held}
@@ -16,8 +16,8 @@ use Rattle.m36_model.specs.declared.effects.Tally.{Tally}
 use Rattle.m36_model.specs.declared.outcome.Halt.{Halt}
 use Rattle.m36_model.specs.declared.place.Reference.{Reference}
 use Rattle.m36_walk.specs.Runs.{run_from, IsInCore}
-use Rattle.m36_walk.specs.Served.{standing}
-use Rattle.m36_ea.specs.Formed.{formed_mid}
+use Rattle.m36_walk.specs.Served.{midstep_with}
+use Rattle.m36_ea.specs.Formed.{midstep_after_address}
 use Rattle.m36_step.specs.declared.operated.Part as code
 use Rattle.m36_step.specs.declared.operated.Part.TheVariants as part
 use Rattle.m36_step.specs.declared.operated.Operated.{Operated}
@@ -49,45 +49,45 @@ abbrev pub performed_by : Formed → RegsFields → Held → Operated → Perfor
 performed_by f g put o = record { regs = g; puts = puts_of f put o; overflow = o.overflow }
 
 -- the program of an operation, run over core from the state in which the address is formed
-abbrev pub ran_from :
-    RegsFields → Operation → Formed → List ℕ → List Reference → Ran (Result Performed Halt) (List ℕ)
-ran_from g program f core refs = run core_store g program (formed_mid core f refs)
+abbrev pub run_after_address :
+    RegsFields → Operation → Formed → List ℕ → List Reference → ProgramResult (Result Performed Halt) (List ℕ)
+run_after_address g program f core refs = run core_store g program (midstep_after_address core f refs)
 
 -- the run of the operation of an instruction, from the state in which its address is formed
-abbrev pub operation_from :
+abbrev pub run_of_operation :
     Effect → ℕ → RegsFields → Formed → List ℕ → List Reference
-    → Ran (Result Performed Halt) (List ℕ)
-operation_from e n g f core refs = ran_from g (operate e n g (chain_end_fields f)) f core refs
+    → ProgramResult (Result Performed Halt) (List ℕ)
+run_of_operation e n g f core refs = run_after_address g (operate e n g (chain_end_fields f)) f core refs
 
--- The end of the run of `operation_from`, by the result of the code, with the registers after it
+-- The end of the run of `run_of_operation`, by the result of the code, with the registers after it
 -- and the words to write. If the operation is refused, it has claimed nothing more.
 abbrev pub operated_end :
     List ℕ → List Reference → Formed → RegsFields → Held → Result Operated Halt
-    → Ran (Result Performed Halt) (List ℕ)
+    → ProgramResult (Result Performed Halt) (List ℕ)
 operated_end core refs f g put (Ok o) =
-    record { value = Ok (performed_by f g put o); mid = standing core (claims_of f put o) refs }
-operated_end core refs f g put (Err h) = record { value = Err h; mid = formed_mid core f refs }
+    record { value = Ok (performed_by f g put o); mid = midstep_with core (claims_of f put o) refs }
+operated_end core refs f g put (Err h) = record { value = Err h; mid = midstep_after_address core f refs }
 
 -- the tally word, if there is one, has a place in core
-abbrev pub TallyIn : Option Tally → ℕ → ℕ → Type 0
-TallyIn None place size = Unit {0}
-TallyIn (Some t) place size = place < size
+abbrev pub TallyIsInCore : Option Tally → ℕ → ℕ → Type 0
+TallyIsInCore None place size = Unit {0}
+TallyIsInCore (Some t) place size = place < size
 
 -- A part that is not the whole word takes one word that is a half.
-abbrev pub PartFits : code.Part → List ℕ → Type 0
-PartFits part.Whole words = Unit {0}
-PartFits part.Left words = IsHalf words
-PartFits part.Right words = IsHalf words
+abbrev pub WordsFitPart : code.Part → List ℕ → Type 0
+WordsFitPart part.Whole words = Unit {0}
+WordsFitPart part.Left words = IsHalf words
+WordsFitPart part.Right words = IsHalf words
 
 -- a half has 18 bits; for a whole word nothing is required
-abbrev pub PartHolds : code.Part → ℕ → Type 0
-PartHolds part.Whole w = Unit {0}
-PartHolds part.Left w = FitsHalf w
-PartHolds part.Right w = FitsHalf w
+abbrev pub ValueFitsPart : code.Part → ℕ → Type 0
+ValueFitsPart part.Whole w = Unit {0}
+ValueFitsPart part.Left w = FitsHalf w
+ValueFitsPart part.Right w = FitsHalf w
 
 -- the words to write have places in a core of this size
-pub record Lies (size : ℕ) (f : Formed) (put : Held) (o : Operated) : Type 0 where
-  pub tally : TallyIn f.tally f.place size
+pub record PlacesAreInCore (size : ℕ) (f : Formed) (put : Held) (o : Operated) : Type 0 where
+  pub tally : TallyIsInCore f.tally f.place size
   pub run : IsInCore size o.place (length (words_of_held put))
   pub place : o.place < 2 ^ 24
-  pub part : PartFits o.part (words_of_held put)
+  pub part : WordsFitPart o.part (words_of_held put)

@@ -11,11 +11,11 @@ use Rattle.m36_model.specs.Step.{Ending, addressed, decode, decoded, operated, p
 use Rattle.m36_model.specs.Store.{Midstep, run}
 use Rattle.m36_model.specs.declared.outcome.Outcome.TheVariants.{Next}
 use Rattle.m36_model.specs.declared.place.Reference.{Reference}
-use Rattle.m36_walk.specs.Served.{standing}
-use Rattle.m36_ea.specs.Formed.{plain, formed_mid}
+use Rattle.m36_walk.specs.Served.{midstep_with}
+use Rattle.m36_ea.specs.Formed.{without_tally, midstep_after_address}
 use Rattle.m36_ea.specs.declared.quick.Counting.{Counting}
 use Rattle.m36_model.specs.declared.effects.Formed.{Formed}
-use Rattle.m36_step.specs.Ended.{end_of, given_end}
+use Rattle.m36_step.specs.Ended.{end_of_run, code_end}
 use Rattle.m36_step.specs.declared.ended.Ended.{Ended}
 
 -- the end of a step whose outcome is Next
@@ -28,23 +28,23 @@ pub record EndsWithNext (Tells : List Reference → Ended → Type 0) (g : RegsF
     (mid : Midstep (List ℕ)) (core : List ℕ) (after : RegsFields) (w : ℕ) : Type 0 where
   pub refs : List Reference
   pub last : FinalFields
-  pub ends : end_of (run core_store g act mid) ≡ given_end core refs after (next_end w last)
+  pub ends : end_of_run (run core_store g act mid) ≡ code_end core refs after (next_end w last)
   pub tells : Tells refs (next_end w last)
 
 -- The program of a step that has claimed no write ends as in `EndsWithNext`, whatever references
 -- were completed before. `Has` is what holds of the recorder once these are completed.
-abbrev pub Goes :
+abbrev pub EndsWithNextAlways :
     (List Reference → Type 0) → (List Reference → Ended → Type 0) → RegsFields → Act Ending
     → List ℕ → List ℕ → RegsFields → ℕ → Type 0
-Goes Has Tells g act core core' after w =
-    (refs : List Reference) → Has refs → EndsWithNext Tells g act (standing core [] refs) core' after w
+EndsWithNextAlways Has Tells g act core core' after w =
+    (refs : List Reference) → Has refs → EndsWithNext Tells g act (midstep_with core [] refs) core' after w
 
--- The operation of an instruction whose address has no tally word ends as in `Goes`.
+-- The operation of an instruction whose address has no tally word ends as in `EndsWithNextAlways`.
 abbrev pub Operates :
     (List Reference → Type 0) → (List Reference → Ended → Type 0) → Quick → RegsFields → ℕ
     → FinalFields → List ℕ → List ℕ → RegsFields → Type 0
 Operates Has Tells q g w last core core' after =
-    Goes Has Tells g (operated q.effect q.reg g w (chain_end_fields (plain last)))
+    EndsWithNextAlways Has Tells g (operated q.effect q.reg g w (chain_end_fields (without_tally last)))
     core core' after w
 
 -- the formed address of an instruction that has counted a tally word
@@ -59,31 +59,31 @@ abbrev pub OperatesCounted :
 OperatesCounted Has Tells q g w c core core' after =
     (refs : List Reference) → Has refs
     → EndsWithNext Tells g (operated q.effect q.reg g w (chain_end_fields (counted_address c)))
-    (formed_mid core (counted_address c) refs) core' after w
+    (midstep_after_address core (counted_address c) refs) core' after w
 
--- The program of an instruction, from the formation of its address on, ends as in `Goes`.
+-- The program of an instruction, from the formation of its address on, ends as in `EndsWithNextAlways`.
 abbrev pub Addresses :
     (List Reference → Type 0) → (List Reference → Ended → Type 0) → Quick → RegsFields → ℕ
     → List ℕ → List ℕ → RegsFields → Type 0
 Addresses Has Tells q g w core core' after =
-    Goes Has Tells g (addressed q.effect q.reg g w) core core' after w
+    EndsWithNextAlways Has Tells g (addressed q.effect q.reg g w) core core' after w
 
--- The program of an instruction, from the lookup of its row on, ends as in `Goes`, whether or not
+-- The program of an instruction, from the lookup of its row on, ends as in `EndsWithNextAlways`, whether or not
 -- it may be a privileged one.
 abbrev pub Decodes :
     (List Reference → Type 0) → (List Reference → Ended → Type 0) → RegsFields → ℕ → List ℕ
     → List ℕ → RegsFields → Type 0
 Decodes Has Tells g w core core' after =
     (privileged : Bool)
-    → Goes Has Tells g (decoded g w privileged (decode w)) core core' after w
+    → EndsWithNextAlways Has Tells g (decoded g w privileged (decode w)) core core' after w
 
 -- the word is not an LDBR
 abbrev pub IsNoLdbr : ℕ → Type 0
 IsNoLdbr w = (n : ℕ) → decode w ≡ Some (effect.Ldbr, n) → ⊥
 
--- The program of a whole step ends as in `Goes`, and its instruction is not an LDBR.
+-- The program of a whole step ends as in `EndsWithNextAlways`, and its instruction is not an LDBR.
 pub record Steps (Has : List Reference → Type 0) (Tells : List Reference → Ended → Type 0)
     (g : RegsFields) (core core' : List ℕ) (after : RegsFields) : Type 0 where
   pub word : ℕ
   pub no_ldbr : IsNoLdbr word
-  pub goes : Goes Has Tells g (program g) core core' after word
+  pub goes : EndsWithNextAlways Has Tells g (program g) core core' after word

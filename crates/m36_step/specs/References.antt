@@ -12,8 +12,8 @@ use Rattle.m36_model.specs.declared.effects.Formed.{Formed}
 use Rattle.m36_model.specs.declared.outcome.Fault.{Fault}
 use Rattle.m36_model.specs.declared.place.Reference.{Reference}
 use Rattle.m36_walk.specs.Memory.{Memory}
-use Rattle.m36_walk.specs.Served.{standing, sdw_in, answer_of_words}
-use Rattle.m36_ea.specs.Formed.{formed_mid}
+use Rattle.m36_walk.specs.Served.{midstep_with, sdw_in, answer_of_words}
+use Rattle.m36_ea.specs.Formed.{midstep_after_address}
 use Rattle.m36_step.specs.Operated.{claims_with}
 
 -- the answer to a Read: the words, or the refusal
@@ -22,16 +22,16 @@ abbrev pub read_served :
 read_served d core f refs (Ok words) =
     record {
       reply = Ok (answer_of_words d (claimed_by f.tally f.place) words);
-      mid = formed_mid core f refs;
+      mid = midstep_after_address core f refs;
     }
-read_served d core f refs (Err fault) = record { reply = Err fault; mid = formed_mid core f refs }
+read_served d core f refs (Err fault) = record { reply = Err fault; mid = midstep_after_address core f refs }
 
 -- Core serves this Read, and the answer has these words or this refusal.
 abbrev pub ServesRead :
     RegsFields → Formed → ℕ → Memory → List Reference → List ℕ → List Reference
     → Result (List ℕ) Fault → Type 0
 ServesRead g f count m refs core refs' words =
-    serve core_store g (formed_mid m.core f refs) (request_at Read (chain_end_fields f) count)
+    serve core_store g (midstep_after_address m.core f refs) (request_at Read (chain_end_fields f) count)
     ≡ read_served (sdw_in m f.last.at.seg) core f refs' words
 
 -- the answer to a Write, given the place of the first word, or the refusal
@@ -40,15 +40,15 @@ abbrev pub write_served :
 write_served d core f count refs (Ok place) =
     record {
       reply = Ok (answer_of_words d (claimed_by f.tally f.place) []);
-      mid = standing core (claims_with f place count) refs;
+      mid = midstep_with core (claims_with f place count) refs;
     }
 write_served d core f count refs (Err fault) =
-    record { reply = Err fault; mid = formed_mid core f refs }
+    record { reply = Err fault; mid = midstep_after_address core f refs }
 
 -- Core serves this Write, and its first word has this place, or it is refused.
 abbrev pub ServesWrite :
     RegsFields → Formed → ℕ → Memory → List Reference → List ℕ → List Reference → Result ℕ Fault
     → Type 0
 ServesWrite g f count m refs core refs' place =
-    serve core_store g (formed_mid m.core f refs) (request_at Write (chain_end_fields f) count)
+    serve core_store g (midstep_after_address m.core f refs) (request_at Write (chain_end_fields f) count)
     ≡ write_served (sdw_in m f.last.at.seg) core f count refs' place

@@ -1,17 +1,17 @@
 //! The effect of an instruction, given its operand.
 
 ghost use Rattle.std.specs.Prelude.{ℕ, ◌≡◌, ◌≢◌, ◌<◌, Ok, IfOk, IfErr, IsTrue};
-ghost use Rattle.m36_inst.specs.Groups.{is_pointer, is_control};
+ghost use Rattle.m36_inst.specs.Groups.{is_pointer_instruction, is_control_instruction};
 ghost use Rattle.m36_inst.specs.Operands.{operand_of};
 ghost use Rattle.m36_inst.specs.declared.operand.Operand.TheVariants.{N};
 ghost use Rattle.m36_model.specs.Chain.{chain_end_fields};
 ghost use Rattle.m36_model.specs.Effect.{exec, refused_here};
 ghost use Rattle.m36_model.specs.OperandHeld.{HoldsFor};
 ghost use Rattle.m36_model.specs.Results.{OperandFields, operand_fields, words_of_held};
-ghost use Rattle.m36_model.specs.Step.{with_tally, tallied};
+ghost use Rattle.m36_model.specs.Step.{with_tally, with_chain_tally};
 ghost use Rattle.m36_model.specs.Transfers.{is_taken};
 ghost use Rattle.m36_model.specs.WordsPut.{PutsFor};
-ghost use Rattle.m36_xdata.specs.Changes.{Leaves};
+ghost use Rattle.m36_xdata.specs.Changes.{LeavesEffect};
 ghost use Rattle.m36_xfer.specs.ControlInstructions.{is_transfer};
 
 use m36_inst::{Effect, Row};
@@ -27,8 +27,8 @@ fn with_runout(regs: &Regs, runout: bool) -> Regs
 }
 
 /// Whether an instruction is a pointer register instruction.
-fn is_pointer(effect: Effect) -> bool
-    ensures { result ≡ is_pointer effect }
+fn is_pointer_instruction(effect: Effect) -> bool
+    ensures { result ≡ is_pointer_instruction effect }
 {
     matches!(
         effect,
@@ -45,8 +45,8 @@ fn is_pointer(effect: Effect) -> bool
 }
 
 /// Whether an instruction is a control instruction, or a privileged instruction with an address.
-fn is_control(effect: Effect) -> bool
-    ensures { result ≡ is_control effect }
+fn is_control_instruction(effect: Effect) -> bool
+    ensures { result ≡ is_control_instruction effect }
 {
     matches!(
         effect,
@@ -82,10 +82,10 @@ fn execute_pointer(
     operand: &Operand36,
     put: &mut Held,
 ) -> Result<bool, Fault>
-    requires group { IsTrue (is_pointer row.now.effect) }
+    requires group { IsTrue (is_pointer_instruction row.now.effect) }
     requires reg { row.now.reg < 8 }
     requires got { HoldsFor (operand_of row.now.effect) operand.now.got }
-    ensures value { Leaves regs.old regs.new put.new result
+    ensures value { LeavesEffect regs.old regs.new put.new result
         (refused_here regs.old
         (exec row.now.effect row.now.reg regs.old last.now (operand_fields operand.now))) }
     ensures put { IfOk result (λ o. PutsFor (operand_of row.now.effect) (words_of_held put.new)) }
@@ -123,10 +123,10 @@ fn execute_control(
     operand: &Operand36,
     put: &mut Held,
 ) -> Result<bool, Fault>
-    requires group { IsTrue (is_control row.now.effect) }
+    requires group { IsTrue (is_control_instruction row.now.effect) }
     requires reg { row.now.reg < 8 }
     requires got { HoldsFor (operand_of row.now.effect) operand.now.got }
-    ensures value { Leaves regs.old regs.new put.new result
+    ensures value { LeavesEffect regs.old regs.new put.new result
         (refused_here regs.old
         (exec row.now.effect row.now.reg regs.old last.now (operand_fields operand.now))) }
     ensures put { IfOk result (λ o. PutsFor (operand_of row.now.effect) (words_of_held put.new)) }
@@ -153,18 +153,18 @@ fn execute(
     requires addressed { operand_of row.now.effect ≢ N }
     requires reg { row.now.reg < 8 }
     requires got { HoldsFor (operand_of row.now.effect) operand.now.got }
-    ensures value { Leaves regs.old regs.new put.new result
+    ensures value { LeavesEffect regs.old regs.new put.new result
         (refused_here regs.old
         (exec row.now.effect row.now.reg regs.old last.now (operand_fields operand.now))) }
     ensures put { IfOk result (λ o. PutsFor (operand_of row.now.effect) (words_of_held put.new)) }
 {
-    if is_pointer(row.effect) {
+    if is_pointer_instruction(row.effect) {
         return execute_pointer(row, regs, last, operand, put);
     }
     if m36_xfer::is_transfer(row.effect) {
         return Ok(execute_transfer(row, regs, last, put));
     }
-    if is_control(row.effect) {
+    if is_control_instruction(row.effect) {
         return execute_control(row, regs, last, operand, put);
     }
     m36_xdata::exec_in_place(row, regs, last, operand, put)
@@ -172,7 +172,7 @@ fn execute(
 
 /// Executes an instruction with an address in the registers. If the address has counted a tally
 /// word, the instruction sees the tally runout that this has set. A refusal changes no register.
-#[tactic(auto, unfolding(m36_model::specs::Step::tallied))]
+#[tactic(auto, unfolding(m36_model::specs::Step::with_chain_tally))]
 pub(crate) fn effect(
     row: &Row,
     regs: &mut Regs,
@@ -183,9 +183,9 @@ pub(crate) fn effect(
     requires addressed { operand_of row.now.effect ≢ N }
     requires reg { row.now.reg < 8 }
     requires got { HoldsFor (operand_of row.now.effect) operand.now.got }
-    ensures value { Leaves regs.old regs.new put.new result
+    ensures value { LeavesEffect regs.old regs.new put.new result
         (refused_here regs.old
-        (exec row.now.effect row.now.reg (tallied regs.old (chain_end_fields formed.now))
+        (exec row.now.effect row.now.reg (with_chain_tally regs.old (chain_end_fields formed.now))
         formed.now.last (operand_fields operand.now))) }
     ensures put { IfOk result (λ o. PutsFor (operand_of row.now.effect) (words_of_held put.new)) }
 {
@@ -205,9 +205,9 @@ pub(crate) fn effect(
 }
 
 /// Whether a transfer is taken, if tally runout is as the tally word of its address has set it.
-#[tactic(auto, unfolding(m36_model::specs::Step::tallied))]
+#[tactic(auto, unfolding(m36_model::specs::Step::with_chain_tally))]
 pub(crate) fn taken(row: &Row, regs: &Regs, formed: &Formed) -> bool
-    ensures { result ≡ is_taken row.now.effect (tallied regs.now (chain_end_fields formed.now)) }
+    ensures { result ≡ is_taken row.now.effect (with_chain_tally regs.now (chain_end_fields formed.now)) }
 {
     match formed.tally {
         None => m36_xfer::is_taken(row.effect, regs),

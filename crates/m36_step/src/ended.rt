@@ -41,7 +41,7 @@ fn outcome_of(halt: Halt) -> Outcome
 }
 
 /// The end of a step that is refused.
-pub(crate) fn halted(word: Option<Word>, at: Option<Final>, halt: Halt) -> Ended
+pub(crate) fn end_of_halt(word: Option<Word>, at: Option<Final>, halt: Halt) -> Ended
     ensures { result ≡ halted_end word at halt }
 {
     Ended {
@@ -54,7 +54,7 @@ pub(crate) fn halted(word: Option<Word>, at: Option<Final>, halt: Halt) -> Ended
 /// The outcome of a step whose effect is complete. An overflow is a fault at the instruction if
 /// the overflow mask is off.
 #[inline(always)]
-pub(crate) fn outcome_by(place: At, mask: bool, overflow: bool) -> Outcome
+pub(crate) fn outcome_after_effect(place: At, mask: bool, overflow: bool) -> Outcome
     ensures { (g : RegsFields) → place ≡ here g → result ≡ outcome_after overflow mask g }
 {
     if overflow && !mask {

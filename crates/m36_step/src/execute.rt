@@ -10,14 +10,14 @@ ghost use Rattle.m36_inst.specs.Operands.{operand_of};
 ghost use Rattle.m36_model.specs.Chain.{chain_end_fields};
 ghost use Rattle.m36_model.specs.Modification.{here};
 ghost use Rattle.m36_model.specs.Registers.{RegsFields};
-ghost use Rattle.m36_model.specs.Step.{program, decoded, decode, admitted, is_barred, started, at_once};
+ghost use Rattle.m36_model.specs.Step.{program, decoded, decode, admitted, is_barred, started, immediate_halt};
 ghost use Rattle.m36_model.specs.Step.{addressed, operated};
 ghost use Rattle.m36_step.specs.Ended.{EndsAs, EndsFormed, completed_end};
 
-use crate::ended::{Ended, fault_here, halted, outcome_by};
+use crate::ended::{Ended, fault_here, end_of_halt, outcome_after_effect};
 use crate::operate::operate;
 use crate::writes::write_words;
-use m36_ea::effective;
+use m36_ea::form_address;
 use m36_inst::{Effect, Inst, Operand, Row, row};
 use m36_model::{At, Final, Formed, Halt, Held, Kind, Reference, Refs, Regs, Stop};
 use m36_walk::Walk;
@@ -26,7 +26,7 @@ use m36_word::Word;
 /// The end of a step whose effect is in the registers. The instruction was at `place`. If LDBR has
 /// changed the descriptor segment base register, the walk takes the new value and forgets
 /// everything that it found with the old one.
-fn completed(
+fn finish_step(
     walk: &mut Walk,
     regs: &Regs,
     place: At,
@@ -47,7 +47,7 @@ fn completed(
     Ended {
         word: Some(word),
         at: Some(last),
-        outcome: outcome_by(place, ind.mask, overflow),
+        outcome: outcome_after_effect(place, ind.mask, overflow),
     }
 }
 
@@ -76,10 +76,10 @@ pub(crate) fn operated(
     let here = regs.here();
     let mut put = Held::Empty;
     match operate(walk, regs, row, formed, refs, &mut put) {
-        Err(halt) => halted(Some(word), Some(last), halt),
+        Err(halt) => end_of_halt(Some(word), Some(last), halt),
         Ok(operated) => {
             write_words(walk, formed, &operated, &put);
-            completed(walk, regs, here, word, last, operated.overflow)
+            finish_step(walk, regs, here, word, last, operated.overflow)
         }
     }
 }
@@ -102,15 +102,15 @@ fn addressed(
         walk.old.core refs.old.items walk.new.core refs.new.items regs.new result }
     ensures dbr { walk.new.dbr ≡ regs.new.dbr }
 {
-    match effective(walk, regs, inst, refs) {
-        Err(halt) => halted(Some(word), None, halt),
+    match form_address(walk, regs, inst, refs) {
+        Err(halt) => end_of_halt(Some(word), None, halt),
         Ok(formed) => operated(walk, regs, word, row, &formed, refs),
     }
 }
 
 /// The halt of MME, DRL or DIS, which form no address.
 fn no_address(regs: &Regs, effect: Effect) -> Halt
-    ensures { result ≡ at_once effect regs.now }
+    ensures { result ≡ immediate_halt effect regs.now }
 {
     match effect {
         Effect::Mme => Halt::Fault(fault_here(regs, 2)),
@@ -139,7 +139,7 @@ fn started(
     ensures dbr { walk.new.dbr ≡ regs.new.dbr }
 {
     match row.operand {
-        Operand::N => halted(Some(word), None, no_address(regs, row.effect)),
+        Operand::N => end_of_halt(Some(word), None, no_address(regs, row.effect)),
         _ => addressed(walk, regs, word, inst, row, refs),
     }
 }
@@ -166,7 +166,7 @@ fn admitted(
     ensures dbr { walk.new.dbr ≡ regs.new.dbr }
 {
     if row.privileged && !privileged {
-        return halted(Some(word), None, Halt::Fault(fault_here(regs, 10)));
+        return end_of_halt(Some(word), None, Halt::Fault(fault_here(regs, 10)));
     }
     started(walk, regs, word, inst, row, refs)
 }
@@ -182,7 +182,7 @@ fn decoded(walk: &mut Walk, regs: &mut Regs, word: Word, privileged: bool, refs:
 {
     let inst = Inst::of_word(word);
     match row(inst.code, inst.bit27) {
-        None => halted(Some(word), None, Halt::Stop(Stop::Operation)),
+        None => end_of_halt(Some(word), None, Halt::Stop(Stop::Operation)),
         Some(row) => admitted(walk, regs, word, &inst, &row, privileged, refs),
     }
 }
@@ -197,7 +197,7 @@ pub(crate) fn execute(walk: &mut Walk, regs: &mut Regs, refs: &mut Refs) -> Ende
 {
     let here = regs.here();
     match walk.fetch(here) {
-        Err(fault) => halted(None, None, Halt::Fault(fault)),
+        Err(fault) => end_of_halt(None, None, Halt::Fault(fault)),
         Ok(fetched) => {
             refs.push(Reference {
                 at: here,

@@ -39,7 +39,7 @@ pub mod machine;
 mod operands;
 mod operate;
 mod operated;
-mod quick;
+mod try_quick_step;
 mod quick_counted;
 mod quick_pairs;
 mod quick_words;

@@ -4,20 +4,20 @@ ghost use Rattle.std.specs.Prelude.{ℕ, ◌≡◌, ◌+◌, ◌%◌, ◌^◌, �
 ghost use Rattle.std.specs.Borrow.{sem};
 ghost use Rattle.m36_model.specs.Core.{core_store};
 ghost use Rattle.m36_model.specs.Laws.{ExecutesLdbr, PreservesAudit};
-ghost use Rattle.m36_model.specs.Results.{moved_on};
+ghost use Rattle.m36_model.specs.Results.{advanced};
 ghost use Rattle.m36_model.specs.Shown.{shown_of};
 ghost use Rattle.m36_model.specs.Step.{program, record_of, state_after};
-ghost use Rattle.m36_step.specs.Ended.{EndsAs, ended_of, empty_record_of};
-ghost use Rattle.m36_step.specs.Hurry.{states_after};
-ghost use Rattle.m36_step.specs.MachineTurn.{MachineTurns, ended_by};
+ghost use Rattle.m36_step.specs.Ended.{EndsAs, end_in_record, empty_record_of};
+ghost use Rattle.m36_step.specs.Hurry.{state_after_steps};
+ghost use Rattle.m36_step.specs.MachineTurn.{MachineTurns, end_by_outcome};
 ghost use Rattle.m36_step.specs.Shown.{empty_shown};
 ghost use Rattle.m36_model.specs.declared.outcome.Outcome.TheVariants.{Next};
 
 use crate::execute::execute;
 use crate::hurry::run_quick_steps;
-use crate::quick::quick;
+use crate::try_quick_step::try_quick_step;
 use crate::recording::record_end;
-use crate::shown::take_shown;
+use crate::shown::take_shown_step;
 use crate::stepper::{Replay, Stepper};
 use crate::turns::{BackAnswer, Turn};
 use m36_core::Core;
@@ -58,7 +58,7 @@ impl Model for Machine {
 fn record_general_step(walk: &mut Walk, regs: &mut Regs, told: &mut StepRecord)
     requires dbr { walk.old.dbr ≡ regs.old.dbr }
     ensures ends { EndsAs regs.old (program regs.old) walk.old.core [] walk.new.core
-        told.new.refs.items regs.new (ended_of told.new) }
+        told.new.refs.items regs.new (end_in_record told.new) }
     ensures ppr { told.new.ppr ≡ told.old.ppr }
     ensures dbr { walk.new.dbr ≡ regs.new.dbr }
 {
@@ -72,12 +72,12 @@ fn record_general_step(walk: &mut Walk, regs: &mut Regs, told: &mut StepRecord)
 fn record_step(walk: &mut Walk, regs: &mut Regs, told: &mut StepRecord)
     requires dbr { walk.old.dbr ≡ regs.old.dbr }
     ensures ends { EndsAs regs.old (program regs.old) walk.old.core [] walk.new.core
-        told.new.refs.items regs.new (ended_of told.new) }
+        told.new.refs.items regs.new (end_in_record told.new) }
     ensures ppr { told.new.ppr ≡ told.old.ppr }
     ensures dbr { walk.new.dbr ≡ regs.new.dbr }
 {
     told.refs.clear();
-    if quick(walk, regs, told) {
+    if try_quick_step(walk, regs, told) {
         return;
     }
     record_general_step(walk, regs, told)
@@ -187,7 +187,7 @@ impl Machine {
         ensures ended { self.new.ended ≡ self.old.ended }
     {
         let Machine { walk, regs, .. } = self;
-        take_shown(walk, regs, shown)
+        take_shown_step(walk, regs, shown)
     }
 
     /// An empty value for `step_shown` to overwrite.
@@ -208,11 +208,11 @@ impl Machine {
     #[inline]
     pub fn hurry(&mut self, most: u32) -> u32
         ensures few { result ≤ most }
-        ensures state { self.new.state ≡ states_after result self.old.state }
+        ensures state { self.new.state ≡ state_after_steps result self.old.state }
         ensures on { (n : ℕ) → n < result
-            → (record_of core_store (states_after n self.old.state)).outcome ≡ Next }
+            → (record_of core_store (state_after_steps n self.old.state)).outcome ≡ Next }
         ensures plain { (n : ℕ) → n < result
-            → ExecutesLdbr (record_of core_store (states_after n self.old.state)) → ⊥ }
+            → ExecutesLdbr (record_of core_store (state_after_steps n self.old.state)) → ⊥ }
         ensures ended { self.new.ended ≡ self.old.ended }
     {
         let Machine { walk, regs, .. } = self;
@@ -224,7 +224,7 @@ impl Machine {
     fn note(&mut self, outcome: Outcome)
         requires { self.old.ended ≡ None }
         ensures state { self.new.state ≡ self.old.state }
-        ensures ended { self.new.ended ≡ ended_by outcome }
+        ensures ended { self.new.ended ≡ end_by_outcome outcome }
     {
         match outcome {
             Outcome::Next => {}
@@ -258,10 +258,10 @@ impl Machine {
     }
 
     /// Skips the current instruction: the instruction counter increases by 1, modulo 2^18.
-    #[tactic(auto, unfolding(m36_model::specs::Results::moved_on))]
+    #[tactic(auto, unfolding(m36_model::specs::Results::advanced))]
     pub fn skip(&mut self)
         ensures state { self.new.state
-            ≡ record { regs = moved_on self.old.state.regs; store = self.old.state.store } }
+            ≡ record { regs = advanced self.old.state.regs; store = self.old.state.store } }
         ensures ended { self.new.ended ≡ self.old.ended }
     {
         let ic = self.regs.ppr.ic;

@@ -6,20 +6,20 @@ ghost use Rattle.m36_model.specs.Chain.{chain_end_fields};
 ghost use Rattle.m36_model.specs.Results.{operand_fields, words_of_held, words_in_ring};
 ghost use Rattle.m36_model.specs.Step.{reading_word, reading_words, writing, changing};
 ghost use Rattle.m36_walk.specs.Runs.{IsInCore};
-ghost use Rattle.m36_walk.specs.Served.{IsCount};
+ghost use Rattle.m36_walk.specs.Served.{IsWordCount};
 ghost use Rattle.m36_step.specs.Operated.{part_of};
 ghost use Rattle.m36_step.specs.Reached.{Reads, Writes};
 ghost use Rattle.m36_step.specs.declared.operated.Part.TheVariants as part;
 
 use crate::operated::{Part, Reached};
-use crate::references::{hold_words, read_block, read_pair, read_word};
+use crate::references::{claim_words, read_block, read_pair, read_word};
 use m36_model::{Fault, Formed, Held, Operand36, Refs, Regs};
 use m36_walk::Walk;
 
 /// Fills an operand with words that were read, and with the first ring bracket of their segment or
 /// a new ring.
 #[inline(always)]
-pub(crate) fn give(got: Held, ring: u8, operand: &mut Operand36)
+pub(crate) fn fill_operand(got: Held, ring: u8, operand: &mut Operand36)
     requires { ring < 2 ^ 3 }
     ensures operand { operand_fields operand.new ≡ words_in_ring (words_of_held got) ring }
     ensures got { operand.new.got ≡ got }
@@ -32,7 +32,7 @@ pub(crate) fn give(got: Held, ring: u8, operand: &mut Operand36)
 }
 
 /// The result of reaching an operand that will not be written.
-pub(crate) fn unwritten() -> Reached
+pub(crate) fn nothing_to_write() -> Reached
     ensures place { result.place ≡ 0 }
     ensures part { result.part ≡ part.Whole }
 {
@@ -65,8 +65,8 @@ pub(crate) fn reach_word(
 {
     match read_word(walk, regs, formed, refs) {
         Ok(word) => {
-            give(Held::One(word), 0, operand);
-            Ok(unwritten())
+            fill_operand(Held::One(word), 0, operand);
+            Ok(nothing_to_write())
         }
         Err(fault) => Err(fault),
     }
@@ -96,8 +96,8 @@ pub(crate) fn reach_pair(
 {
     match read_pair(walk, regs, formed, refs) {
         Ok((pair, ring)) => {
-            give(Held::Two(pair), ring, operand);
-            Ok(unwritten())
+            fill_operand(Held::Two(pair), ring, operand);
+            Ok(nothing_to_write())
         }
         Err(fault) => Err(fault),
     }
@@ -128,8 +128,8 @@ pub(crate) fn reach_block(
     match read_block(walk, regs, formed, refs) {
         Ok(read) => {
             let block = read.0;
-            give(Held::Block(block), read.1, operand);
-            Ok(unwritten())
+            fill_operand(Held::Block(block), read.1, operand);
+            Ok(nothing_to_write())
         }
         Err(fault) => Err(fault),
     }
@@ -148,7 +148,7 @@ pub(crate) fn reach_written(
 ) -> Result<Reached, Fault>
     requires dbr { walk.old.dbr ≡ regs.now.dbr }
     requires room { length refs.old.items < 40 }
-    requires count { IsCount count }
+    requires count { IsWordCount count }
     ensures writes { Writes
         (λ e n. writing e n regs.now (chain_end_fields formed.now) count (part_of part)) regs.now
         formed.now count walk.old.core refs.old.items walk.new.core refs.new.items operand.new
@@ -161,9 +161,9 @@ pub(crate) fn reach_written(
     ensures dbr { walk.new.dbr ≡ walk.old.dbr }
     ensures len { length walk.new.core ≡ length walk.old.core }
 {
-    match hold_words(walk, regs, formed, count, refs) {
+    match claim_words(walk, regs, formed, count, refs) {
         Ok(place) => {
-            give(Held::Empty, 0, operand);
+            fill_operand(Held::Empty, 0, operand);
             Ok(Reached { place, part })
         }
         Err(fault) => Err(fault),
@@ -194,9 +194,9 @@ pub(crate) fn reach_changed(
     ensures len { length walk.new.core ≡ length walk.old.core }
 {
     match read_word(walk, regs, formed, refs) {
-        Ok(word) => match hold_words(walk, regs, formed, 1, refs) {
+        Ok(word) => match claim_words(walk, regs, formed, 1, refs) {
             Ok(place) => {
-                give(Held::One(word), 0, operand);
+                fill_operand(Held::One(word), 0, operand);
                 Ok(Reached { place, part })
             }
             Err(fault) => Err(fault),

@@ -4,7 +4,7 @@ ghost use Rattle.std.specs.Prelude.{ℕ, ◌≡◌, ◌≢◌, ◌+◌, ◌≤�
 ghost use Rattle.m36_inst.specs.Lookup.{IsRow};
 ghost use Rattle.m36_inst.specs.declared.operand.Operand.TheVariants.{N};
 ghost use Rattle.m36_ea.specs.Formed.{HasTally};
-ghost use Rattle.m36_step.specs.Operated.{operation_from, operated_end, Lies};
+ghost use Rattle.m36_step.specs.Operated.{run_of_operation, operated_end, PlacesAreInCore};
 
 use crate::effects::effect;
 use crate::operated::Operated;
@@ -34,11 +34,11 @@ pub(crate) fn operate(
     requires tally { HasTally formed.now.tally formed.now.place (length walk.old.core)
         refs.old.items }
     requires room { length refs.old.items ≤ 38 }
-    ensures operates { operation_from row.now.effect row.now.reg regs.old formed.now walk.old.core
+    ensures operates { run_of_operation row.now.effect row.now.reg regs.old formed.now walk.old.core
         refs.old.items ≡ operated_end walk.new.core refs.new.items formed.now regs.new put.new
         result }
     ensures stays { IfErr result (λ h. regs.new ≡ regs.old) }
-    ensures lies { IfOk result (λ o. Lies (length walk.new.core) formed.now put.new o) }
+    ensures lies { IfOk result (λ o. PlacesAreInCore (length walk.new.core) formed.now put.new o) }
     ensures dbr { walk.new.dbr ≡ walk.old.dbr }
     ensures len { length walk.new.core ≡ length walk.old.core }
     ensures count { length refs.new.items ≤ length refs.old.items + 2 }

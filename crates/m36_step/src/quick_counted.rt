@@ -29,7 +29,7 @@ fn tally_runout(regs: &Regs) -> bool
 
 /// Sets or clears tally runout.
 #[inline(always)]
-#[tactic(auto, unfolding(m36_model::specs::Step::tallied))]
+#[tactic(auto, unfolding(m36_model::specs::Step::with_chain_tally))]
 fn set_tally(regs: &mut Regs, runout: bool)
     ensures value { regs.new ≡ with_tally runout regs.old }
     ensures dbr { regs.new.dbr ≡ regs.old.dbr }
@@ -39,7 +39,7 @@ fn set_tally(regs: &mut Regs, runout: bool)
 
 /// Executes an instruction that reads a word.
 #[inline(always)]
-pub(crate) fn read_counted<R: Recorder>(
+pub(crate) fn try_read_with_tally<R: Recorder>(
     walk: &mut Walk,
     regs: &mut Regs,
     rec: &mut R,
@@ -86,7 +86,7 @@ pub(crate) fn read_counted<R: Recorder>(
 
 /// Executes an instruction that stores a word.
 #[inline(always)]
-pub(crate) fn store_counted<R: Recorder>(
+pub(crate) fn try_store_with_tally<R: Recorder>(
     walk: &mut Walk,
     regs: &mut Regs,
     rec: &mut R,

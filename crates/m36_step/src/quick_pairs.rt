@@ -17,7 +17,7 @@ use m36_word::Word;
 
 /// Executes an instruction that reads a pair.
 #[inline(always)]
-pub(crate) fn pair_operand<R: Recorder>(
+pub(crate) fn try_read_pair<R: Recorder>(
     walk: &mut Walk,
     regs: &mut Regs,
     rec: &mut R,
@@ -53,8 +53,8 @@ pub(crate) fn pair_operand<R: Recorder>(
 
 /// Executes an instruction that stores a pair.
 #[inline(always)]
-#[tactic(auto, unfolding(m36_walk::specs::Runs::IsInCore, m36_model::specs::Place::wrapped))]
-pub(crate) fn stored_pair<R: Recorder>(
+#[tactic(auto, unfolding(m36_walk::specs::Runs::IsInCore, m36_model::specs::Place::wrapped_address))]
+pub(crate) fn try_store_pair<R: Recorder>(
     walk: &mut Walk,
     regs: &mut Regs,
     rec: &mut R,
@@ -89,7 +89,7 @@ pub(crate) fn stored_pair<R: Recorder>(
 
 /// Executes CALL6.
 #[inline(always)]
-pub(crate) fn called<R: Recorder>(
+pub(crate) fn try_call<R: Recorder>(
     walk: &mut Walk,
     regs: &mut Regs,
     rec: &mut R,
@@ -113,14 +113,14 @@ pub(crate) fn called<R: Recorder>(
         Ok(ring) => ring,
         Err(_fault) => return false,
     };
-    m36_xfer::enter(regs, last, ring);
+    m36_xfer::call_in_place(regs, last, ring);
     rec.end(word, last);
     true
 }
 
 /// Executes RTCD.
 #[inline(always)]
-pub(crate) fn returned<R: Recorder>(
+pub(crate) fn try_return<R: Recorder>(
     walk: &mut Walk,
     regs: &mut Regs,
     rec: &mut R,
@@ -146,7 +146,7 @@ pub(crate) fn returned<R: Recorder>(
         None => return false,
     };
     let pair = walk.peek_pair(place);
-    m36_xfer::leave(regs, last, pair, ring);
+    m36_xfer::return_in_place(regs, last, pair, ring);
     rec.refer(Kind::Read, first_at(at, 2), 2);
     rec.end(word, last);
     true

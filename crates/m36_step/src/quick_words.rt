@@ -20,7 +20,7 @@ use m36_word::Word;
 
 /// Executes an instruction that reads a word.
 #[inline(always)]
-pub(crate) fn read_operand<R: Recorder>(
+pub(crate) fn try_read_word<R: Recorder>(
     walk: &mut Walk,
     regs: &mut Regs,
     rec: &mut R,
@@ -56,7 +56,7 @@ pub(crate) fn read_operand<R: Recorder>(
 
 /// Executes an instruction that stores a word.
 #[inline(always)]
-pub(crate) fn stored_operand<R: Recorder>(
+pub(crate) fn try_store_word<R: Recorder>(
     walk: &mut Walk,
     regs: &mut Regs,
     rec: &mut R,
@@ -90,7 +90,7 @@ pub(crate) fn stored_operand<R: Recorder>(
 
 /// Executes an instruction that reads and writes a word.
 #[inline(always)]
-pub(crate) fn changed_operand<R: Recorder>(
+pub(crate) fn try_change_word<R: Recorder>(
     walk: &mut Walk,
     regs: &mut Regs,
     rec: &mut R,
@@ -129,7 +129,7 @@ pub(crate) fn changed_operand<R: Recorder>(
 
 /// Executes an instruction that stores the left half of a word.
 #[inline(always)]
-pub(crate) fn upper_operand<R: Recorder>(
+pub(crate) fn try_store_upper<R: Recorder>(
     walk: &mut Walk,
     regs: &mut Regs,
     rec: &mut R,
@@ -163,7 +163,7 @@ pub(crate) fn upper_operand<R: Recorder>(
 
 /// Executes an instruction that stores the right half of a word.
 #[inline(always)]
-pub(crate) fn lower_operand<R: Recorder>(
+pub(crate) fn try_store_lower<R: Recorder>(
     walk: &mut Walk,
     regs: &mut Regs,
     rec: &mut R,
@@ -197,7 +197,7 @@ pub(crate) fn lower_operand<R: Recorder>(
 
 /// Executes an instruction that loads its address.
 #[inline(always)]
-pub(crate) fn address_operand<R: Recorder>(
+pub(crate) fn try_load_address<R: Recorder>(
     walk: &mut Walk,
     regs: &mut Regs,
     rec: &mut R,
@@ -224,7 +224,7 @@ pub(crate) fn address_operand<R: Recorder>(
 
 /// Executes a shift, which uses only its address.
 #[inline(always)]
-pub(crate) fn shift_operand<R: Recorder>(
+pub(crate) fn try_shift<R: Recorder>(
     walk: &mut Walk,
     regs: &mut Regs,
     rec: &mut R,
@@ -251,7 +251,7 @@ pub(crate) fn shift_operand<R: Recorder>(
 
 /// Executes a transfer. One that is not taken does not examine its target.
 #[inline(always)]
-pub(crate) fn target_operand<R: Recorder>(
+pub(crate) fn try_transfer<R: Recorder>(
     walk: &mut Walk,
     regs: &mut Regs,
     rec: &mut R,

@@ -6,16 +6,16 @@ ghost use Rattle.m36_inst.specs.declared.operand.Operand.TheVariants.{N};
 ghost use Rattle.m36_model.specs.Chain.{chain_end_fields};
 ghost use Rattle.m36_model.specs.WordsPut.{words_written};
 ghost use Rattle.m36_model.specs.OperandHeld.{HoldsFor};
-ghost use Rattle.m36_model.specs.Step.{by_kind};
+ghost use Rattle.m36_model.specs.Step.{operate_by_kind};
 ghost use Rattle.m36_walk.specs.Runs.{IsInCore};
-ghost use Rattle.m36_step.specs.Operated.{ran_from, operation_from};
+ghost use Rattle.m36_step.specs.Operated.{run_after_address, run_of_operation};
 ghost use Rattle.m36_step.specs.declared.operated.Part.TheVariants as part;
-ghost use Rattle.m36_step.specs.Reached.{reached_end, part_for, DirectOperand};
+ghost use Rattle.m36_step.specs.Reached.{reached_end, part_for, IsDirectOperand};
 
 use crate::effects::taken;
 use crate::ended::fault_here;
 use crate::operands::{
-    give, reach_block, reach_changed, reach_pair, reach_word, reach_written, unwritten,
+    fill_operand, reach_block, reach_changed, reach_pair, reach_word, reach_written, nothing_to_write,
 };
 use crate::operated::{Part, Reached};
 use crate::targets::{reach_address, reach_call, reach_target};
@@ -37,8 +37,8 @@ fn reach_by_kind(
     requires dbr { walk.old.dbr ≡ regs.now.dbr }
     requires addressed { row.now.operand ≢ N }
     requires room { length refs.old.items + 1 < 40 }
-    ensures reaches { ran_from regs.now
-        (by_kind row.now.effect row.now.reg regs.now (chain_end_fields formed.now) row.now.operand)
+    ensures reaches { run_after_address regs.now
+        (operate_by_kind row.now.effect row.now.reg regs.now (chain_end_fields formed.now) row.now.operand)
         formed.now walk.old.core refs.old.items ≡ reached_end row.now.effect row.now.reg regs.now
         formed.now row.now.operand walk.new.core refs.new.items operand.new result }
     ensures got { IfOk result (λ u. HoldsFor row.now.operand operand.new.got) }
@@ -77,7 +77,7 @@ fn reach_direct(
     operand: &mut Operand36,
 ) -> Result<Reached, Fault>
     requires { IsRow row.now }
-    ensures direct { DirectOperand row.now.effect regs.now word operand.new result }
+    ensures direct { IsDirectOperand row.now.effect regs.now word operand.new result }
     ensures got { IfOk result (λ u. HoldsFor row.now.operand operand.new.got) }
     ensures none { IfOk result (λ u. words_written row.now.operand ≡ 0) }
     ensures place { IfOk result (λ u. u.place ≡ 0) }
@@ -89,12 +89,12 @@ fn reach_direct(
     }
     match row.operand {
         Operand::R => {
-            give(Held::One(word), 0, operand);
-            Ok(unwritten())
+            fill_operand(Held::One(word), 0, operand);
+            Ok(nothing_to_write())
         }
         _ => {
-            give(Held::Empty, 0, operand);
-            Ok(unwritten())
+            fill_operand(Held::Empty, 0, operand);
+            Ok(nothing_to_write())
         }
     }
 }
@@ -113,7 +113,7 @@ pub(crate) fn reach(
     requires row { IsRow row.now }
     requires addressed { row.now.operand ≢ N }
     requires room { length refs.old.items + 1 < 40 }
-    ensures reaches { operation_from row.now.effect row.now.reg regs.now formed.now walk.old.core
+    ensures reaches { run_of_operation row.now.effect row.now.reg regs.now formed.now walk.old.core
         refs.old.items ≡ reached_end row.now.effect row.now.reg regs.now formed.now row.now.operand
         walk.new.core refs.new.items operand.new result }
     ensures got { IfOk result (λ u. HoldsFor row.now.operand operand.new.got) }

@@ -67,7 +67,7 @@ impl Recorder for NoRecord {
 
 impl Recorder for StepRecord {
     ghost use Rattle.std.specs.Prelude.{◌≡◌, length};
-    ghost use Rattle.m36_step.specs.Ended.{ended_of};
+    ghost use Rattle.m36_step.specs.Ended.{end_in_record};
 
     ghost taken = { λ told. length told.refs.items };
 
@@ -75,7 +75,7 @@ impl Recorder for StepRecord {
 
     ghost has = { λ told refs. told.refs.items ≡ refs };
 
-    ghost tells = { λ told refs e. (told.refs.items ≡ refs) × (ended_of told ≡ e) };
+    ghost tells = { λ told refs e. (told.refs.items ≡ refs) × (end_in_record told ≡ e) };
 
     #[inline(always)]
     fn refer(&mut self, kind: Kind, at: At, count: u8) {

@@ -5,16 +5,16 @@ ghost use Rattle.m36_word.specs.Pairs.{pair_words};
 ghost use Rattle.m36_model.specs.Results.{words_of_pairs};
 ghost use Rattle.m36_model.specs.Step.{aligned_at};
 ghost use Rattle.m36_walk.specs.Runs.{IsInCore};
-ghost use Rattle.m36_walk.specs.Served.{IsCount, sdw_in, ok_map};
+ghost use Rattle.m36_walk.specs.Served.{IsWordCount, sdw_in, ok_map};
 ghost use Rattle.m36_step.specs.References.{ServesRead, ServesWrite};
 
-use m36_ea::{pending, procedure_segment};
+use m36_ea::{pending_tally, procedure_segment};
 use m36_model::{At, Fault, Final, Formed, Kind, Refs, Regs};
 use m36_walk::{Walk, first_at};
 use m36_word::{Pair, Word};
 
 /// The address of the word that an address chain ends at.
-pub(crate) fn end_at(formed: &Formed) -> At
+pub(crate) fn end_address(formed: &Formed) -> At
     ensures { result ≡ formed.now.last.at }
 {
     let last = formed.last;
@@ -24,14 +24,14 @@ pub(crate) fn end_at(formed: &Formed) -> At
 /// Adds a completed reference to `count` words, at the address of the first, given the address of
 /// one of them.
 #[inline(always)]
-pub(crate) fn complete(refs: &mut Refs, kind: Kind, at: At, count: u8)
+pub(crate) fn add_reference(refs: &mut Refs, kind: Kind, at: At, count: u8)
     requires room { length refs.old.items < 40 }
-    requires count { IsCount count }
+    requires count { IsWordCount count }
     ensures items { refs.new.items
         ≡ refs.old.items ++ record { kind = kind; at = aligned_at count at; count = count } ∷ [] }
     ensures count { length refs.new.items ≡ length refs.old.items + 1 }
 {
-    m36_ea::complete(refs, kind, first_at(at, count), count);
+    m36_ea::add_reference(refs, kind, first_at(at, count), count);
 }
 
 /// Reads the word of an operand.
@@ -50,10 +50,10 @@ pub(crate) fn read_word(
     ensures len { length walk.new.core ≡ length walk.old.core }
     ensures count { length refs.new.items ≤ length refs.old.items + 1 }
 {
-    let at = end_at(formed);
-    match walk.operand(at, procedure_segment(regs), &pending(formed)) {
+    let at = end_address(formed);
+    match walk.operand(at, procedure_segment(regs), &pending_tally(formed)) {
         Ok(word) => {
-            complete(refs, Kind::Read, at, 1);
+            add_reference(refs, Kind::Read, at, 1);
             Ok(word)
         }
         Err(fault) => Err(fault),
@@ -77,10 +77,10 @@ pub(crate) fn read_pair(
     ensures len { length walk.new.core ≡ length walk.old.core }
     ensures count { length refs.new.items ≤ length refs.old.items + 1 }
 {
-    let at = end_at(formed);
-    match walk.operand_pair(at, procedure_segment(regs), &pending(formed)) {
+    let at = end_address(formed);
+    match walk.read_operand_pair(at, procedure_segment(regs), &pending_tally(formed)) {
         Ok(read) => {
-            complete(refs, Kind::Read, at, 2);
+            add_reference(refs, Kind::Read, at, 2);
             Ok(read)
         }
         Err(fault) => Err(fault),
@@ -104,10 +104,10 @@ pub(crate) fn read_block(
     ensures len { length walk.new.core ≡ length walk.old.core }
     ensures count { length refs.new.items ≤ length refs.old.items + 1 }
 {
-    let at = end_at(formed);
-    match walk.operand_block(at, procedure_segment(regs), &pending(formed)) {
+    let at = end_address(formed);
+    match walk.read_operand_block(at, procedure_segment(regs), &pending_tally(formed)) {
         Ok(read) => {
-            complete(refs, Kind::Read, at, 16);
+            add_reference(refs, Kind::Read, at, 16);
             Ok(read)
         }
         Err(fault) => Err(fault),
@@ -117,7 +117,7 @@ pub(crate) fn read_block(
 /// Claims the 1, 2 or 16 words of an operand that will be written. Returns the place in core of the
 /// first.
 #[inline(always)]
-pub(crate) fn hold_words(
+pub(crate) fn claim_words(
     walk: &mut Walk,
     regs: &Regs,
     formed: &Formed,
@@ -125,7 +125,7 @@ pub(crate) fn hold_words(
     refs: &mut Refs,
 ) -> Result<u32, Fault>
     requires dbr { walk.old.dbr ≡ regs.now.dbr }
-    requires count { IsCount count }
+    requires count { IsWordCount count }
     requires room { length refs.old.items < 40 }
     ensures serves { ServesWrite regs.now formed.now count walk.old refs.old.items walk.new.core
         refs.new.items result }
@@ -135,10 +135,10 @@ pub(crate) fn hold_words(
     ensures len { length walk.new.core ≡ length walk.old.core }
     ensures count { length refs.new.items ≤ length refs.old.items + 1 }
 {
-    let at = end_at(formed);
+    let at = end_address(formed);
     match walk.hold(at, count) {
         Ok(place) => {
-            complete(refs, Kind::Write, at, count);
+            add_reference(refs, Kind::Write, at, count);
             Ok(place)
         }
         Err(fault) => Err(fault),

@@ -10,7 +10,7 @@ ghost use Rattle.m36_step.specs.Quick.{next_end};
 ghost use Rattle.m36_step.specs.Shown.{EndsShown, shown_end};
 
 use crate::execute::execute;
-use crate::quick::quick;
+use crate::try_quick_step::try_quick_step;
 use crate::recorder::Recorder;
 use m36_model::{At, Final, Kind, Outcome, Refs, Regs, Shown};
 use m36_walk::Walk;
@@ -56,13 +56,13 @@ fn show_general_step(walk: &mut Walk, regs: &mut Regs, shown: &mut Shown)
 
 /// Takes one step, and records it without the place of its instruction.
 #[inline(always)]
-fn shown_step(walk: &mut Walk, regs: &mut Regs, shown: &mut Shown)
+fn show_step(walk: &mut Walk, regs: &mut Regs, shown: &mut Shown)
     requires dbr { walk.old.dbr ≡ regs.old.dbr }
     ensures ends { EndsShown regs.old walk.old.core walk.new.core regs.new (shown_end shown.new) }
     ensures ppr { shown.new.ppr ≡ shown.old.ppr }
     ensures dbr { walk.new.dbr ≡ regs.new.dbr }
 {
-    if quick(walk, regs, shown) {
+    if try_quick_step(walk, regs, shown) {
         return;
     }
     show_general_step(walk, regs, shown)
@@ -70,7 +70,7 @@ fn shown_step(walk: &mut Walk, regs: &mut Regs, shown: &mut Shown)
 
 /// Takes one step, and overwrites `shown` with it. The walk and the registers have the same
 /// descriptor segment base register.
-pub(crate) fn take_shown(walk: &mut Walk, regs: &mut Regs, shown: &mut Shown)
+pub(crate) fn take_shown_step(walk: &mut Walk, regs: &mut Regs, shown: &mut Shown)
     requires dbr { walk.old.dbr ≡ regs.old.dbr }
     ensures shown { shown.new ≡ shown_of
         (record_of core_store (record { regs = regs.old; store = walk.old.core })) }
@@ -81,5 +81,5 @@ pub(crate) fn take_shown(walk: &mut Walk, regs: &mut Regs, shown: &mut Shown)
     ensures dbr { walk.new.dbr ≡ regs.new.dbr }
 {
     shown.ppr = regs.ppr;
-    shown_step(walk, regs, shown)
+    show_step(walk, regs, shown)
 }

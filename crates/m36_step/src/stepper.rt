@@ -1,7 +1,7 @@
 //! The traits of machines that are stepped.
 
 ghost use Rattle.std.specs.Prelude.{ℕ, ◌≡◌, ◌<◌, ◌≤◌, ◌^◌, ◌⊎◌, Option, IfOk};
-ghost use Rattle.m36_step.specs.Answers.{PrecludesStep, IsDone, IsService, IsStep, IsStepOrEnd};
+ghost use Rattle.m36_step.specs.Answers.{PrecludesStep, HasGoneBack, IsService, IsStep, IsStepOrEnd};
 
 use crate::turns::{BackAnswer, Turn};
 use m36_model::Regs;
@@ -58,7 +58,7 @@ pub trait Stepper {
 
     /// `back` changes nothing unless it answers Done.
     ghost stays: { (before : Self) (n : ℕ) (answer : BackAnswer) (after : Self)
-        → went before n answer after → IsDone answer ⊎ (after ≡ before) };
+        → went before n answer after → HasGoneBack answer ⊎ (after ≡ before) };
 
     /// A service is not followed by another.
     ghost apart: { (first second third : Self) (one two : Turn)
@@ -73,7 +73,7 @@ pub trait Stepper {
 /// A machine whose turns are a function of its state, and which can be copied.
 pub trait Replay: Stepper {
     ghost use Rattle.m36_step.specs.declared.turns.Turn.{Turn};
-    ghost use Rattle.m36_step.specs.Answers.{IsOn};
+    ghost use Rattle.m36_step.specs.Answers.{IsStepWithNext};
     ghost use Rattle.m36_step.specs.Hurry.{repeated};
 
     /// What the turn from a state answers.
@@ -91,7 +91,7 @@ pub trait Replay: Stepper {
     fn hurry(&mut self, most: u32) -> u32
         ensures few { result ≤ most }
         ensures state { self.new ≡ repeated after result self.old }
-        ensures on { (n : ℕ) → n < result → IsOn (answer (repeated after n self.old)) }
+        ensures on { (n : ℕ) → n < result → IsStepWithNext (answer (repeated after n self.old)) }
     {
         let _ = most;
         0

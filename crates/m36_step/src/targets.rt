@@ -10,14 +10,14 @@ ghost use Rattle.m36_walk.specs.Runs.{IsInCore};
 ghost use Rattle.m36_step.specs.Reached.{Reads};
 ghost use Rattle.m36_step.specs.declared.operated.Part.TheVariants as part;
 
-use crate::operands::{give, unwritten};
+use crate::operands::{fill_operand, nothing_to_write};
 use crate::operated::Reached;
-use crate::references::end_at;
+use crate::references::end_address;
 use m36_model::{Fault, Formed, Held, Operand36, Regs};
 use m36_walk::Walk;
 
 /// Fills an operand with a place in core. Core has at most 2^24 words.
-fn give_place(walk: &Walk, place: u32, operand: &mut Operand36)
+fn fill_with_place(walk: &Walk, place: u32, operand: &mut Operand36)
     requires { place < length walk.now.core }
     ensures operand { operand_fields operand.new ≡ place_only place }
     ensures got { IsTrue (is_empty operand.new.got) }
@@ -50,13 +50,13 @@ pub(crate) fn reach_address(
     ensures same { walk.new ≡ walk.old }
 {
     if !absa {
-        give(Held::Empty, 0, operand);
-        return Ok(unwritten());
+        fill_operand(Held::Empty, 0, operand);
+        return Ok(nothing_to_write());
     }
-    match walk.place(end_at(formed)) {
+    match walk.place(end_address(formed)) {
         Ok(place) => {
-            give_place(walk, place, operand);
-            Ok(unwritten())
+            fill_with_place(walk, place, operand);
+            Ok(nothing_to_write())
         }
         Err(fault) => Err(fault),
     }
@@ -82,14 +82,14 @@ pub(crate) fn reach_target(
     ensures same { walk.new ≡ walk.old }
 {
     if !taken {
-        give(Held::Empty, 0, operand);
-        return Ok(unwritten());
+        fill_operand(Held::Empty, 0, operand);
+        return Ok(nothing_to_write());
     }
     let ppr = regs.ppr;
-    match walk.transfer(end_at(formed), ppr.prr) {
+    match walk.transfer(end_address(formed), ppr.prr) {
         Ok(()) => {
-            give(Held::Empty, 0, operand);
-            Ok(unwritten())
+            fill_operand(Held::Empty, 0, operand);
+            Ok(nothing_to_write())
         }
         Err(fault) => Err(fault),
     }
@@ -113,10 +113,10 @@ pub(crate) fn reach_call(
     ensures part { IfOk result (λ u. u.part ≡ part.Whole) }
     ensures same { walk.new ≡ walk.old }
 {
-    match walk.call(end_at(formed), regs.ppr) {
+    match walk.call(end_address(formed), regs.ppr) {
         Ok(ring) => {
-            give(Held::Empty, ring, operand);
-            Ok(unwritten())
+            fill_operand(Held::Empty, ring, operand);
+            Ok(nothing_to_write())
         }
         Err(fault) => Err(fault),
     }

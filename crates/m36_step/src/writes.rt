@@ -5,11 +5,11 @@ ghost use Rattle.m36_model.specs.Act.{Whole, Left, Right};
 ghost use Rattle.m36_model.specs.Chain.{claimed_by, pending_of};
 ghost use Rattle.m36_model.specs.Core.{core_put, put_one};
 ghost use Rattle.m36_model.specs.Results.{words_of_held, words_of_pairs};
-ghost use Rattle.m36_model.specs.StepCases.{at_spots};
-ghost use Rattle.m36_model.specs.Store.{Core_word, changes, written};
+ghost use Rattle.m36_model.specs.StepCases.{changes_at_spots};
+ghost use Rattle.m36_model.specs.Store.{Core_word, changes, with_part_written};
 ghost use Rattle.m36_walk.specs.Runs.{run_from, IsInCore};
-ghost use Rattle.m36_step.specs.Operated.{part_of, claims_of, puts_of, TallyIn, PartFits};
-ghost use Rattle.m36_step.specs.Operated.{PartHolds, Lies};
+ghost use Rattle.m36_step.specs.Operated.{part_of, claims_of, puts_of, TallyIsInCore, WordsFitPart};
+ghost use Rattle.m36_step.specs.Operated.{ValueFitsPart, PlacesAreInCore};
 ghost use Rattle.m36_step.specs.declared.operated.Part.TheVariants as part;
 
 use crate::operated::{Operated, Part};
@@ -21,7 +21,7 @@ use m36_word::{Pair, Word};
 #[inline(always)]
 fn with_left(old: Word, half: Word) -> Word
     requires { half < 2 ^ 18 }
-    ensures { result ≡ written Left old half }
+    ensures { result ≡ with_part_written Left old half }
 {
     Word::low((half.value() << 18) + old.value() % (1 << 18))
 }
@@ -30,7 +30,7 @@ fn with_left(old: Word, half: Word) -> Word
 #[inline(always)]
 fn with_right(old: Word, half: Word) -> Word
     requires { half < 2 ^ 18 }
-    ensures { result ≡ written Right old half }
+    ensures { result ≡ with_part_written Right old half }
 {
     Word::low((old.value() >> 18 << 18) + half.value())
 }
@@ -38,8 +38,8 @@ fn with_right(old: Word, half: Word) -> Word
 /// A word with this part replaced.
 #[inline(always)]
 fn with_part(part: Part, old: Word, value: Word) -> Word
-    requires { PartHolds part value }
-    ensures { result ≡ written (part_of part) old value }
+    requires { ValueFitsPart part value }
+    ensures { result ≡ with_part_written (part_of part) old value }
 {
     match part {
         Part::Whole => value,
@@ -52,7 +52,7 @@ fn with_part(part: Part, old: Word, value: Word) -> Word
 #[inline(always)]
 pub(crate) fn write_word(walk: &mut Walk, place: u32, part: Part, value: Word)
     requires place { place < length walk.old.core }
-    requires part { PartHolds part value }
+    requires part { ValueFitsPart part value }
     ensures core { walk.new.core ≡ put_one walk.old.core (Core_word place) (part_of part) value }
     ensures dbr { walk.new.dbr ≡ walk.old.dbr }
     ensures len { length walk.new.core ≡ length walk.old.core }
@@ -67,7 +67,7 @@ fn write_block(walk: &mut Walk, place: u32, block: &[Pair; 8])
     requires inside { IsInCore (length walk.old.core) place (length (words_of_pairs block.now)) }
     ensures core { walk.new.core
         ≡ core_put walk.old.core
-        (at_spots Whole (run_from place (length (words_of_pairs block.now)))
+        (changes_at_spots Whole (run_from place (length (words_of_pairs block.now)))
         (words_of_pairs block.now)) }
     ensures dbr { walk.new.dbr ≡ walk.old.dbr }
     ensures len { length walk.new.core ≡ length walk.old.core }
@@ -81,10 +81,10 @@ fn write_operand(walk: &mut Walk, operated: &Operated, put: &Held)
     requires run { IsInCore (length walk.old.core) operated.now.place
         (length (words_of_held put.now)) }
     requires place { operated.now.place < 2 ^ 24 }
-    requires part { PartFits operated.now.part (words_of_held put.now) }
+    requires part { WordsFitPart operated.now.part (words_of_held put.now) }
     ensures core { walk.new.core
         ≡ core_put walk.old.core
-        (at_spots (part_of operated.now.part)
+        (changes_at_spots (part_of operated.now.part)
         (run_from operated.now.place (length (words_of_held put.now)))
         (words_of_held put.now)) }
     ensures dbr { walk.new.dbr ≡ walk.old.dbr }
@@ -101,7 +101,7 @@ fn write_operand(walk: &mut Walk, operated: &Operated, put: &Held)
 /// Writes the tally word of an address, if it has one.
 #[tactic(auto, unfolding(m36_model::specs::Core::core_put, m36_model::specs::Store::changes))]
 fn write_tally(walk: &mut Walk, formed: &Formed)
-    requires { TallyIn formed.now.tally formed.now.place (length walk.old.core) }
+    requires { TallyIsInCore formed.now.tally formed.now.place (length walk.old.core) }
     ensures core { walk.new.core
         ≡ core_put walk.old.core
         (changes (claimed_by formed.now.tally formed.now.place) (pending_of formed.now.tally)) }
@@ -116,7 +116,7 @@ fn write_tally(walk: &mut Walk, formed: &Formed)
 /// Writes the tally word of an address, and then the words of the operand.
 #[tactic(auto, using(crate::proofs::Writing::written_together))]
 pub(crate) fn write_words(walk: &mut Walk, formed: &Formed, operated: &Operated, put: &Held)
-    requires lies { Lies (length walk.old.core) formed.now put.now operated.now }
+    requires lies { PlacesAreInCore (length walk.old.core) formed.now put.now operated.now }
     ensures core { walk.new.core
         ≡ core_put walk.old.core
         (changes (claims_of formed.now put.now operated.now)

@@ -6,10 +6,10 @@ use Rattle.m36_model.specs.Registers.{RegsFields}
 use Rattle.m36_model.specs.Act.{Answer, Act, done, ask}
 use Rattle.m36_model.specs.Store.{Spot, State}
 use Rattle.m36_model.specs.Core.{core_store}
-use Rattle.m36_model.specs.Step.{Ending, program, start, ran, record_of}
+use Rattle.m36_model.specs.Step.{Ending, program, start, run_of_step, record_of}
 use Rattle.m36_model.specs.Flat.{Flat, flat_store}
 use Rattle.m36_model.specs.BootedCore.{booted_dbr, IsLaid}
-use Rattle.m36_model.specs.Residence.{Lacks}
+use Rattle.m36_model.specs.Residence.{PageIsAbsent}
 use Rattle.m36_model.specs.PagedStep.{flat_state, ExecutesAbsa}
 use Rattle.m36_model.specs.declared.outcome.Fault.{Fault}
 use Rattle.m36_model.specs.declared.outcome.Outcome.TheVariants.{Next, Faulted}
@@ -50,14 +50,14 @@ module _ (frames : ℕ) (kept : ℕ → ℕ → ℕ) (g : RegsFields) (core : Li
   abbrev Placed : Ending → Ending → Type 0
   Placed e d = EndPlaced g e d × EndPlaced g d e
 
-  mirrors : Mirrors core_store flat_store g.dbr M Pair (Lacks core)
+  mirrors : Mirrors core_store flat_store g.dbr M Pair (PageIsAbsent core)
   mirrors =
-      subst (λ (d : DbrFields). Mirrors core_store flat_store d M Pair (Lacks core)) (sym dbr) (booted_mirrors core frames laid kept)
+      subst (λ (d : DbrFields). Mirrors core_store flat_store d M Pair (PageIsAbsent core)) (sym dbr) (booted_mirrors core frames laid kept)
 
   begins : AreMids M Pair there.store (start here) (start there)
   begins = record { mirrors = stands_first core frames laid kept; still = refl; claims = tt; refs = refl }
 
-  absa_by : AreRun M Pair (Lacks core) there.store (EndsSo g) (StopsSo g) Placed (ran core_store here) (ran flat_store there) → ExecutesAbsa (record_of core_store here) → ExecutesAbsa (record_of flat_store there)
+  absa_by : AreRun M Pair (PageIsAbsent core) there.store (EndsSo g) (StopsSo g) Placed (run_of_step core_store here) (run_of_step flat_store there) → ExecutesAbsa (record_of core_store here) → ExecutesAbsa (record_of flat_store there)
   unfolding record_of
   absa_by (same value mids post) k =
       record {
@@ -68,14 +68,14 @@ module _ (frames : ℕ) (kept : ℕ → ℕ → ℕ) (g : RegsFields) (core : Li
         next = sym (ap (λ (e : Ending). e.outcome) value) ∙ k.next;
       }
   absa_by (lacked fault number lacks stop m) k =
-      let ends : Faulted fault ≡ Next = sym stop.outcome ∙ k.next in
+      let end_run : Faulted fault ≡ Next = sym stop.outcome ∙ k.next in
       absurd (cc)
   absa_by (placed_apart two mids) k =
       record { word = two.1.word; fetched = two.1.fetched; number = two.1.number; does = two.1.locates; next = two.1.next }
 
   absa_there : ExecutesAbsa (record_of core_store here) → ExecutesAbsa (record_of flat_store there)
   absa_there =
-      absa_by (run_mirrors core_store flat_store g M Pair (Lacks core) mirrors there.store (EndsSo g) (StopsSo g) Placed (present_at g) (program g) (start here) (start there) (asks_either (EndsSo g) (StopsSo g) (EndPlaced g) (program g) (program_asks g)) begins)
+      absa_by (run_mirrors core_store flat_store g M Pair (PageIsAbsent core) mirrors there.store (EndsSo g) (StopsSo g) Placed (present_at g) (program g) (start here) (start there) (asks_either (EndsSo g) (StopsSo g) (EndPlaced g) (program g) (program_asks g)) begins)
 
 pub absa_law :
     (frames : ℕ) (kept : ℕ → ℕ → ℕ) (s : State (List ℕ)) → s.regs.dbr ≡ booted_dbr → IsLaid s.store frames

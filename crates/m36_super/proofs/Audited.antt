@@ -18,9 +18,9 @@ use Rattle.m36_step.specs.declared.turns.Turn.TheVariants.{Stepped, Linked, Cons
 use Rattle.m36_super.specs.Library.{Library}
 use Rattle.m36_super.specs.Services.{asks_too_much, console_text, link_changes}
 use Rattle.m36_super.specs.NextEvent.{NextEvent, Step, Link, Print, Over, loaded_after}
-use Rattle.m36_super.specs.FlatRun.{FlatRun, flat_stepped, flat_linked_by, flat_printed_by, flat_turn_by, flat_turn, flat_turns}
-use Rattle.m36_super.specs.BootedRun.{Booted, IsStep, IsStepTurn, IsLinkTurn, IsConsoleTurn, IsTurnBy, IsTurn, AreTurns, IsLaidOut, LaidOutUntilLdbr, flat_run_of}
-use Rattle.m36_super.specs.TurnLaws.{LocatesInTurn, IsFlatTurn, TurnAuditLaw, IsPlainTurn, FunctionLaw}
+use Rattle.m36_super.specs.FlatRun.{FlatRun, flat_step_turn, flat_link_turn, flat_console_turn, flat_turn_by, flat_turn, flat_turns}
+use Rattle.m36_super.specs.BootedRun.{Booted, IsStepWithPages, IsStepTurn, IsLinkTurn, IsConsoleTurn, IsTurnBy, IsTurn, AreTurns, IsLaidOut, LaidOutUntilLdbr, flat_run_of}
+use Rattle.m36_super.specs.TurnLaws.{TurnExecutesAbsa, IsFlatTurn, TurnAuditLaw, IsPlainTurn, PlainTurnsLaw}
 use Rattle.m36_super.proofs.Served.{services_alike}
 use Rattle.m36_super.proofs.Turns.{turn_law}
 
@@ -42,7 +42,7 @@ old_low m = refl
 same_low : (before after : Booted) → after.state ≡ before.state → IsLow before after
 same_low before after e = ap (λ (s : PagedState). take descriptor_words s.memory.core) e
 
-step_low : (frames : ℕ) (before : Booted) (turn : Turn) (after : Booted) → IsLaidOut frames before.state → IsStep frames before turn after → IsLow before after
+step_low : (frames : ℕ) (before : Booted) (turn : Turn) (after : Booted) → IsLaidOut frames before.state → IsStepWithPages frames before turn after → IsLow before after
 step_low frames before turn after stands h =
     let alike = services_alike frames h.services before.state h.last stands h.served in
     let step = paged_step_law frames h.last.memory.kept (core_state h.last) alike.standing.dbr alike.standing.laid in
@@ -52,7 +52,7 @@ link_low : (frames : ℕ) (at : AtFields) (answer : Result SnapFields RefusedFie
 link_low frames at (Ok s) before NoMemory after h = ap (λ (r : Booted). take descriptor_words r.state.memory.core) h
 link_low frames at (Err why) before NoMemory after h = ap (λ (r : Booted). take descriptor_words r.state.memory.core) h
 link_low frames at (Ok s) before turn after h =
-    flat_low before.state.memory after.state.memory _ h.written.flat (put_descriptors (flat_of before.state.memory) (link_changes at s) ∙ old_low before.state.memory)
+    flat_low before.state.memory after.state.memory _ h.console_byte.flat (put_descriptors (flat_of before.state.memory) (link_changes at s) ∙ old_low before.state.memory)
 link_low frames at (Err why) before turn after h = ap (λ (r : Booted). take descriptor_words r.state.memory.core) h.1
 
 console_low : (b : Bool) (text : Result (List ℕ) Fault) (before : Booted) (turn : Turn) (after : Booted) → IsConsoleTurn b text before turn after → IsLow before after
@@ -85,17 +85,17 @@ turn_audit lib before turn after loaded stands audited h none =
 -- ---- plain turns
 
 -- after a plain turn of the flat run no LDBR has been executed
-link_loaded : (answer : Result SnapFields RefusedFields) (r : FlatRun) (at : AtFields) → (flat_linked_by answer r at).after.loaded ≡ r.loaded
+link_loaded : (answer : Result SnapFields RefusedFields) (r : FlatRun) (at : AtFields) → (flat_link_turn answer r at).after.loaded ≡ r.loaded
 link_loaded (Ok s) r at = refl
 link_loaded (Err why) r at = refl
 
-print_loaded : (b : Bool) (text : Result (List ℕ) Fault) (r : FlatRun) → (flat_printed_by b text r).after.loaded ≡ r.loaded
+print_loaded : (b : Bool) (text : Result (List ℕ) Fault) (r : FlatRun) → (flat_console_turn b text r).after.loaded ≡ r.loaded
 print_loaded true text r = refl
 print_loaded false (Err f) r = refl
 print_loaded false (Ok text) r = refl
 
-step_loaded : (r : FlatRun) → r.loaded ≡ false → IsPlainTurn (flat_stepped r).turn → (flat_stepped r).after.loaded ≡ false
-unfolding flat_stepped
+step_loaded : (r : FlatRun) → r.loaded ≡ false → IsPlainTurn (flat_step_turn r).turn → (flat_step_turn r).after.loaded ≡ false
+unfolding flat_step_turn
 step_loaded r loaded plain = ap (λ (b : Bool). loaded_after b (record_of flat_store r.state)) loaded ∙ plain.1
 
 loaded_by : (coming : NextEvent) (lib : Library) (r : FlatRun) → r.loaded ≡ false → IsPlainTurn (flat_turn_by coming lib r).turn → (flat_turn_by coming lib r).after.loaded ≡ false
@@ -110,7 +110,7 @@ unfolding flat_turn
 flat_loaded lib r loaded plain = loaded_by r.coming lib r loaded plain
 
 -- a turn that executes ABSA is not plain
-pub not_located : (turn : Turn) → LocatesInTurn turn → IsPlainTurn turn → ⊥
+pub not_located : (turn : Turn) → TurnExecutesAbsa turn → IsPlainTurn turn → ⊥
 not_located (Stepped e) h plain = plain.0 h
 not_located (Linked note) h plain = h
 not_located (Console text) h plain = h
@@ -119,12 +119,12 @@ not_located Full h plain = h
 not_located NoMemory h plain = h
 
 -- a plain turn is that of the flat run
-pub plain_flat : (lib : Library) (before : Booted) (turn : Turn) (after : Booted) → IsPlainTurn turn → (IsFlatTurn lib before turn after ⊎ ((turn ≡ NoMemory) × (after ≡ before)) ⊎ LocatesInTurn turn) → IsFlatTurn lib before turn after
+pub plain_flat : (lib : Library) (before : Booted) (turn : Turn) (after : Booted) → IsPlainTurn turn → (IsFlatTurn lib before turn after ⊎ ((turn ≡ NoMemory) × (after ≡ before)) ⊎ TurnExecutesAbsa turn) → IsFlatTurn lib before turn after
 plain_flat lib before turn after plain (inl h) = h
 plain_flat lib before turn after plain (inr (inl h)) = absurd (subst IsPlainTurn h.0 plain)
 plain_flat lib before turn after plain (inr (inr h)) = absurd (not_located turn h plain)
 
-pub function_law : FunctionLaw
+pub function_law : PlainTurnsLaw
 unfolding AreTurns flat_turns
 function_law lib [] r last loaded stands turns plain = refl
 function_law lib (turn ∷ more) r last loaded stands turns plain =

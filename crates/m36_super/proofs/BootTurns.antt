@@ -5,30 +5,30 @@ use Rattle.m36_dir.specs.Catalog.{CatalogFields}
 use Rattle.m36_boot.specs.declared.image.Image.{Image}
 use Rattle.m36_boot.specs.Image.{IsImage, IsRunnable}
 use Rattle.m36_boot.specs.Refusals.{boot_answer}
-use Rattle.m36_boot.specs.Segments.{ring_segment, linkage_pages}
+use Rattle.m36_boot.specs.Segments.{ring_descriptor, linkage_pages}
 use Rattle.m36_boot.specs.Start.{start_answer, start_link}
 use Rattle.m36_link.specs.Fields.{SnapFields}
 use Rattle.m36_link.specs.Known.{nothing_known, linkage_segment}
-use Rattle.m36_link.specs.Accepted.{accepted, MayBeLaid}
-use Rattle.m36_link.specs.Laws.{IsConsistent, MayBeAcceptedFrom, KeepsMadeFrom}
-use Rattle.m36_page.specs.Residence.{Reads}
+use Rattle.m36_link.specs.Accepted.{known_after, MayBeLaid}
+use Rattle.m36_link.specs.Laws.{IsConsistent, MayBeAcceptedFrom, KeepsConsistentFrom}
+use Rattle.m36_page.specs.Residence.{AgreesWithCore}
 use Rattle.m36_super.specs.Library.{Library}
 use Rattle.m36_super.specs.NextEvent.{Step}
 use Rattle.m36_super.specs.SuperFields.{SuperFields, IsManaged, IsRunning}
-use Rattle.m36_super.specs.BootSays.{IsBooted, at_start}
+use Rattle.m36_super.specs.BootResult.{IsBooted, system_at_start}
 
-pub image_runs : (frames : ℕ) (image : Image) → IsRunnable frames image → Reads image.pager image.core → IsRunning (length image.pager.holders) image.regs image.core image.pager
+pub image_runs : (frames : ℕ) (image : Image) → IsRunnable frames image → AgreesWithCore image.pager image.core → IsRunning (length image.pager.holders) image.regs image.core image.pager
 image_runs frames image r reads =
     record {
       dbr = r.dbr;
       managed = subst (λ (n : ℕ). IsManaged n image.core image.pager) (sym r.pages.count) (record {
         pages = r.pages;
         reads = reads;
-        linkage = λ ring low. record { sdw = ring_segment (linkage_segment ring) ring linkage_pages; live = r.linkage ring low; whole = refl };
+        linkage = λ ring low. record { sdw = ring_descriptor (linkage_segment ring) ring linkage_pages; live = r.linkage ring low; whole = refl };
       });
     }
 
-pub start_made : (catalog : CatalogFields) (files : List (List ℕ)) (s : SnapFields) → KeepsMadeFrom → start_answer catalog files ≡ Ok s → IsConsistent catalog files (accepted nothing_known s)
+pub start_made : (catalog : CatalogFields) (files : List (List ℕ)) (s : SnapFields) → KeepsConsistentFrom → start_answer catalog files ≡ Ok s → IsConsistent catalog files (known_after nothing_known s)
 unfolding start_answer
 start_made catalog files s keeps e =
     keeps nothing_known catalog files catalog.start.ring (start_link catalog.start) catalog.work s (record { names = λ k d lt. absurd (omega arith); laid = λ k d lt. absurd (omega arith) }) e
@@ -38,7 +38,7 @@ unfolding start_answer
 start_laid catalog files s may e =
     may nothing_known catalog files catalog.start.ring (start_link catalog.start) catalog.work s e
 
-pub booted : (lib : Library) (image : Image) (s : SuperFields) → s ≡ at_start lib image → boot_answer lib.catalog lib.files ≡ Ok image.snap → IsImage lib.catalog lib.files image.snap image → IsRunnable lib.catalog.frames image → IsBooted lib s
+pub booted : (lib : Library) (image : Image) (s : SuperFields) → s ≡ system_at_start lib image → boot_answer lib.catalog lib.files ≡ Ok image.snap → IsImage lib.catalog lib.files image.snap image → IsRunnable lib.catalog.frames image → IsBooted lib s
 booted lib image s e answer is r =
     subst (IsBooted lib) (sym e) (record {
       image = image;

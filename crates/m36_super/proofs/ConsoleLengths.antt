@@ -4,10 +4,10 @@ use Rattle.std.proofs.lemmas.List.{length-take-le}
 use Rattle.std.specs.Prelude.{⊤, slice_index}
 use Rattle.m36_model.specs.Registers.{RegsFields}
 use Rattle.m36_model.specs.Act.{Answer}
-use Rattle.m36_model.specs.Store.{examined}
+use Rattle.m36_model.specs.Store.{examined_reply}
 use Rattle.m36_model.specs.Flat.{Flat, flat_store}
 use Rattle.m36_model.specs.declared.outcome.Fault.{Fault}
-use Rattle.m36_super.specs.Services.{console_word_count, characters_of, console_at, joined, console_words, cut_to, console_text}
+use Rattle.m36_super.specs.Services.{console_word_count, characters_of, console_at, with_word_before, console_words, cut_to, console_text}
 use Rattle.m36_super.specs.ConsoleLaw.{ConsoleCounts}
 use Rattle.m36_super.proofs.ConsoleReads.{four_characters}
 
@@ -19,7 +19,7 @@ HasLength n (Err why) = ⊤
 with_four : (word text : List ℕ) (n : ℕ) → length word ≡ 4 → length text ≡ n → length (word ++ text) ≡ 4 + n
 with_four word text n four rest = let both = length-append word text in omega arith
 
-joined_length : (n : ℕ) (a : Result Answer Fault) (rest : Result (List ℕ) Fault) → HasLength n rest → HasLength (4 + n) (joined a rest)
+joined_length : (n : ℕ) (a : Result Answer Fault) (rest : Result (List ℕ) Fault) → HasLength n rest → HasLength (4 + n) (with_word_before a rest)
 joined_length n (Err why) rest has = tt
 joined_length n (Ok a) (Err why) has = tt
 joined_length n (Ok a) (Ok text) has =
@@ -31,8 +31,8 @@ words_length g f k zero = refl
 words_length g f k (suc n) =
     let rest : Result (List ℕ) Fault = console_words g f (k + 1) n in
     let same : 4 + 4 * n ≡ 4 * suc n = omega arith in
-    subst (λ (m : ℕ). HasLength m (joined (examined flat_store g f (console_at g k)) rest)) same
-    (joined_length (4 * n) (examined flat_store g f (console_at g k)) rest (words_length g f (k + 1) n))
+    subst (λ (m : ℕ). HasLength m (with_word_before (examined_reply flat_store g f (console_at g k)) rest)) same
+    (joined_length (4 * n) (examined_reply flat_store g f (console_at g k)) rest (words_length g f (k + 1) n))
 
 cut_length : (n m : ℕ) (read : Result (List ℕ) Fault) → n ≤ m → HasLength m read → HasLength n (cut_to n read)
 cut_length n m (Err why) enough has = tt

@@ -9,7 +9,7 @@ use Rattle.obj36_parts.specs.Fields.{LinkFields}
 use Rattle.obj36_parts.specs.PartsFields.{PartsFields}
 use Rattle.obj36_parts.specs.ObjectSegment.{inner_statics, outer_statics, linkage_section, first_link}
 use Rattle.obj36_parts.proofs.LengthLaws.{length-linkage_part}
-use Rattle.m36_link.specs.Fields.{LaidFields, KnownFields, SnapFields}
+use Rattle.m36_link.specs.Fields.{PlacedSectionFields, KnownFields, SnapFields}
 use Rattle.m36_link.specs.Known.{linkage_segment, object_in, laid_words}
 use Rattle.m36_link.specs.Links.{link_from, link_in, holds_link, section_at}
 use Rattle.m36_link.specs.Snap.{snap_of, snap_in}
@@ -32,7 +32,7 @@ found_in p P (x ∷ xs) y e all =
     by_test false test e later = later e
 
 -- the section of a link that is snapped
-pub record IsPlaced (files : List (List ℕ)) (at : AtFields) (l : LaidFields) : Type 0 where
+pub record IsPlaced (files : List (List ℕ)) (at : AtFields) (l : PlacedSectionFields) : Type 0 where
   pub seg : at.seg ≡ linkage_segment at.ring
   pub link : LinkFields
   pub link_is : link_in files at.word l ≡ Some link
@@ -41,7 +41,7 @@ some_of : (v : Option LinkFields) → is_some v ≡ true → (x : LinkFields) ×
 some_of (Some x) e = (x, refl)
 some_of None e = cc
 
-section_of : (known : KnownFields) (files : List (List ℕ)) (at : AtFields) (l : LaidFields) (P : LaidFields → Type 0) → section_at known.laid files at ≡ Some l → All P known.laid → IsPlaced files at l × P l
+section_of : (known : KnownFields) (files : List (List ℕ)) (at : AtFields) (l : PlacedSectionFields) (P : PlacedSectionFields → Type 0) → section_at known.laid files at ≡ Some l → All P known.laid → IsPlaced files at l × P l
 unfolding section_at
 section_of known files at l P e all = by_seg (nat_eq at.seg (linkage_segment at.ring)) refl e
   where
@@ -72,7 +72,7 @@ unfolding laid_words linkage_section
 links_inside o =
     omega (arith, length-append (linkage_section o) (outer_statics o), length-linkage_part (inner_statics o) o.links (2 + 2 * length o.definitions))
 
-in_object : (files : List (List ℕ)) (word : ℕ) (l : LaidFields) (o : PartsFields) (link : LinkFields) → object_in files l.seg ≡ Some o → link_in files word l ≡ Some link → link_from (l.base + first_link o) word o.links ≡ Some link
+in_object : (files : List (List ℕ)) (word : ℕ) (l : PlacedSectionFields) (o : PartsFields) (link : LinkFields) → object_in files l.seg ≡ Some o → link_in files word l ≡ Some link → link_from (l.base + first_link o) word o.links ≡ Some link
 unfolding link_in
 in_object files word l o link read e =
     sym (ap (option_and_then (λ (x : PartsFields). link_from (l.base + first_link x) word x.links)) read) ∙ e
@@ -85,7 +85,7 @@ pub snap_place : (known : KnownFields) (catalog : CatalogFields) (files : List (
 unfolding snap_of
 snap_place known catalog files at s made e = by_section (section_at known.laid files at) refl e
   where
-    by_section : (v : Option LaidFields) → section_at known.laid files at ≡ v → snap_in known catalog files at v ≡ Ok s → IsSnapPlace at
+    by_section : (v : Option PlacedSectionFields) → section_at known.laid files at ≡ v → snap_in known catalog files at v ≡ Ok s → IsSnapPlace at
     by_section None found e = cc
     by_section (Some l) found e =
         let k = section_of known files at l (IsWholeSection catalog files) found made.laid in

@@ -9,13 +9,13 @@ use Rattle.m36_model.specs.Residence.{Paged}
 use Rattle.m36_model.specs.BootedCore.{IsLaid}
 use Rattle.m36_model.specs.declared.endings.End.TheVariants as end
 use Rattle.m36_page.specs.Fields.{PagerFields}
-use Rattle.m36_link.specs.Fields.{KnownFields, SnapFields, LayFields}
+use Rattle.m36_link.specs.Fields.{KnownFields, SnapFields, NewSectionFields}
 use Rattle.m36_link.specs.Known.{linkage_segment, lot_word}
 use Rattle.m36_link.specs.Snap.{RefusedFields}
-use Rattle.m36_link.specs.Accepted.{accepted}
+use Rattle.m36_link.specs.Accepted.{known_after}
 use Rattle.m36_step.specs.declared.turns.Turn.{Turn}
 use Rattle.m36_step.specs.declared.turns.Turn.TheVariants.{Linked, NoMemory}
-use Rattle.m36_super.specs.Laying.{written_from, laying}
+use Rattle.m36_super.specs.Laying.{written_from, section_changes}
 use Rattle.m36_super.specs.PagedPut.{paged_put, paged_put_one}
 use Rattle.m36_super.specs.Services.{link_changes, note_snapped, note_refused}
 use Rattle.m36_super.specs.NextEvent.{NextEvent, Step, Over}
@@ -36,13 +36,13 @@ drop_past (suc i) (x ∷ xs) h = drop_past i xs (omega arith)
 pub record IsWriting (core : List ℕ) (p : PagerFields) (now : List ℕ) (q : PagerFields) (ring at : ℕ) (rest : List ℕ) (word : ℕ) (words : List ℕ) : Type 0 where
   pub fits : at + length rest ≤ 2 ^ 18
   pub put : paged_put (memory_by now q) (written_from (linkage_segment ring) at rest) ≡ paged_put (memory_by core p) (written_from (linkage_segment ring) word words)
-  pub written : flat_put (flat_by now q) (written_from (linkage_segment ring) at rest) ≡ flat_put (flat_by core p) (written_from (linkage_segment ring) word words)
+  pub console_byte : flat_put (flat_by now q) (written_from (linkage_segment ring) at rest) ≡ flat_put (flat_by core p) (written_from (linkage_segment ring) word words)
   pub frames : length q.holders ≡ length p.holders
   pub managed : IsManaged (length q.holders) now q
 
 pub writing_first : (core : List ℕ) (p : PagerFields) (ring word : ℕ) (words : List ℕ) → IsManaged (length p.holders) core p → word + length words ≤ 2 ^ 18 → IsWriting core p core p ring word words word words
 writing_first core p ring word words m fits =
-    record { fits = fits; put = refl; written = refl; frames = refl; managed = m }
+    record { fits = fits; put = refl; console_byte = refl; frames = refl; managed = m }
 
 next_written : (f g : Flat) (seg at w : ℕ) (rest : List ℕ) → g ≡ flat_put f (written_from seg at (w ∷ [])) → flat_put g (written_from seg (at + 1) rest) ≡ flat_put f (written_from seg at (w ∷ rest))
 unfolding flat_put written_from
@@ -58,7 +58,7 @@ writing_next core mid now p r q ring at w word rest words h put =
     record {
       fits = omega arith;
       put = next_put (memory_by mid r) (memory_by now q) (linkage_segment ring) at w rest put.put ∙ h.put;
-      written = next_written (flat_by mid r) (flat_by now q) (linkage_segment ring) at w rest put.flat ∙ h.written;
+      console_byte = next_written (flat_by mid r) (flat_by now q) (linkage_segment ring) at w rest put.flat ∙ h.console_byte;
       frames = put.frames ∙ h.frames;
       managed = put.managed;
     }
@@ -72,7 +72,7 @@ writing_more core mid now p r q ring at word i w words inside is h put =
 writing_end : (core now : List ℕ) (p q : PagerFields) (ring at word : ℕ) (words : List ℕ) → IsWriting core p now q ring at [] word words → ArePut core p now q (written_from (linkage_segment ring) word words)
 unfolding flat_put paged_put written_from
 writing_end core now p q ring at word words h =
-    record { put = h.put; flat = h.written; frames = h.frames; managed = h.managed }
+    record { put = h.put; flat = h.console_byte; frames = h.frames; managed = h.managed }
 
 pub writing_done : (core now : List ℕ) (p q : PagerFields) (ring at word i : ℕ) (words : List ℕ) → length words ≤ i → IsWriting core p now q ring at (drop i words) word words → ArePut core p now q (written_from (linkage_segment ring) word words)
 writing_done core now p q ring at word i words past h =
@@ -101,28 +101,28 @@ pub put_none : (core : List ℕ) (p : PagerFields) → IsManaged (length p.holde
 unfolding flat_put paged_put
 put_none core p m = record { put = refl; flat = refl; frames = refl; managed = m }
 
-pub put_section : (core mid now : List ℕ) (p r q : PagerFields) (l : LayFields) → ArePut core p mid r (written_from (linkage_segment l.ring) l.base l.words) → ArePut mid r now q (written_from (linkage_segment l.ring) l.seg (lot_word l ∷ [])) → ArePut core p now q (laying (Some l))
-unfolding laying
+pub put_section : (core mid now : List ℕ) (p r q : PagerFields) (l : NewSectionFields) → ArePut core p mid r (written_from (linkage_segment l.ring) l.base l.words) → ArePut mid r now q (written_from (linkage_segment l.ring) l.seg (lot_word l ∷ [])) → ArePut core p now q (section_changes (Some l))
+unfolding section_changes
 put_section core mid now p r q l first second = put_both core mid now p r q _ _ first second
 
-pub put_nothing : (core : List ℕ) (p : PagerFields) → IsManaged (length p.holders) core p → ArePut core p core p (laying None)
-unfolding laying
+pub put_nothing : (core : List ℕ) (p : PagerFields) → IsManaged (length p.holders) core p → ArePut core p core p (section_changes None)
+unfolding section_changes
 put_nothing core p m = put_none core p m
 
-pub put_changes : (core mid now : List ℕ) (p r q : PagerFields) (at : AtFields) (s : SnapFields) → at.seg ≡ linkage_segment at.ring → ArePut core p mid r (written_from (linkage_segment at.ring) at.word (s.pair.even ∷ s.pair.odd ∷ [])) → ArePut mid r now q (laying s.lay) → ArePut core p now q (link_changes at s)
+pub put_changes : (core mid now : List ℕ) (p r q : PagerFields) (at : AtFields) (s : SnapFields) → at.seg ≡ linkage_segment at.ring → ArePut core p mid r (written_from (linkage_segment at.ring) at.word (s.pair.even ∷ s.pair.odd ∷ [])) → ArePut mid r now q (section_changes s.lay) → ArePut core p now q (link_changes at s)
 unfolding link_changes
 put_changes core mid now p r q at s seg first second =
     put_both core mid now p r q _ _ (subst (λ (n : ℕ). ArePut core p mid r (written_from n at.word (s.pair.even ∷ s.pair.odd ∷ []))) (sym seg) first) second
 
 -- ---- the turn
 
-pub linked : (old new : State (List ℕ)) (p q : PagerFields) (known later : KnownFields) (coming next : NextEvent) (loaded : Bool) (at : AtFields) (s : SnapFields) (turn : Turn) → ArePut old.store p new.store q (link_changes at s) → new.regs ≡ old.regs → later ≡ accepted known s → next ≡ Step → turn ≡ Linked (note_snapped at s) → IsLinkTurn (Ok s) (length p.holders) at (run_of old p known coming loaded) turn (run_of new q later next loaded)
+pub linked : (old new : State (List ℕ)) (p q : PagerFields) (known later : KnownFields) (coming next : NextEvent) (loaded : Bool) (at : AtFields) (s : SnapFields) (turn : Turn) → ArePut old.store p new.store q (link_changes at s) → new.regs ≡ old.regs → later ≡ known_after known s → next ≡ Step → turn ≡ Linked (note_snapped at s) → IsLinkTurn (Ok s) (length p.holders) at (run_of old p known coming loaded) turn (run_of new q later next loaded)
 unfolding memory_by
 linked old new p q known later coming next loaded at s turn put regs accepts step told =
     subst (λ (t : Turn). IsLinkTurn (Ok s) (length p.holders) at (run_of old p known coming loaded) t (run_of new q later next loaded)) (sym told) (record {
       told = refl;
       regs = regs;
-      written = record { put = put.put; laid = subst (IsLaid new.store) put.frames put.managed.pages.laid; flat = put.flat };
+      console_byte = record { put = put.put; laid = subst (IsLaid new.store) put.frames put.managed.pages.laid; flat = put.flat };
       known = accepts;
       coming = step;
       loaded = refl;
@@ -151,6 +151,6 @@ still_running old new p q changes runs regs put =
 
 pub ruleset writing = (writing_first, writing_more, writing_done)
 
-pub ruleset snapped = (linked, linked_without_memory, still_running)
+pub ruleset complete_snap = (linked, linked_without_memory, still_running)
 
 pub ruleset answers = (link_answered, link_refused, linked_without_memory, snap_place)

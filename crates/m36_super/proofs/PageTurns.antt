@@ -5,36 +5,36 @@ use Rattle.std.proofs.lemmas.List.Folds.{list_any_at}
 use Rattle.std.specs.List.{list_any}
 use Rattle.std.specs.Prelude.{ℕ, suc, ◌+◌, ◌/◌, ◌≤◌, ◌⊎◌, Bool, true, false, List, [], ◌∷◌, length, slice_index, slice_index_or, All, Option, Some, None, Result, Ok, Err}
 use Rattle.m36_desc.specs.Fields.{SdwFields}
-use Rattle.m36_desc.specs.Access.{in_order}
+use Rattle.m36_desc.specs.Access.{has_ordered_brackets}
 use Rattle.m36_desc.specs.Violations.{out_of_segment_bounds, illegal_ring_order}
 use Rattle.m36_model.specs.Fields.{AtFields}
 use Rattle.m36_model.specs.Registers.{RegsFields}
-use Rattle.m36_model.specs.Store.{Spot, State, violation, within, place, place_by, place_within, when_ordered}
+use Rattle.m36_model.specs.Store.{Spot, State, violation, is_within_bound, place, place_by, place_within, when_ordered}
 use Rattle.m36_model.specs.StoreLaw.{Each}
 use Rattle.m36_model.specs.Core.{core_store, unmarked}
 use Rattle.m36_model.specs.Place.{core_sdw, core_spot, without_used}
 use Rattle.m36_model.specs.Step.{record_of, state_after}
 use Rattle.m36_model.specs.Flat.{Flat}
 use Rattle.m36_model.specs.BootedCore.{booted_dbr, table_at, resident_ptw, absent_ptw, IsPage, page_word, IsInFrame, IsLaid}
-use Rattle.m36_model.specs.Residence.{Lacks, absence, ptw_of_page, StaysIn}
-use Rattle.m36_model.specs.PagedStep.{IsPresent, IsFlatStep, IsPageFault, IsAbsaStep}
+use Rattle.m36_model.specs.Residence.{PageIsAbsent, absence, ptw_of_page, StaysIn}
+use Rattle.m36_model.specs.PagedStep.{IsNoPageFault, IsFlatStep, IsPageFault, IsAbsaStep}
 use Rattle.m36_model.specs.declared.outcome.Fault.{Fault}
 use Rattle.m36_model.specs.declared.outcome.Outcome.{Outcome}
 use Rattle.m36_model.specs.declared.outcome.Outcome.TheVariants.{Next, Faulted}
 use Rattle.m36_model.specs.declared.outcome.Refusal.{Refusal}
 use Rattle.m36_model.specs.declared.place.Reference.{Reference}
 use Rattle.m36_model.specs.declared.record.StepRecord.{StepRecord}
-use Rattle.m36_isol.specs.PageServices.{Occupies, IsUnreferenced, MayLoseUsed, IsOutsideFrame}
+use Rattle.m36_isol.specs.PageServices.{Occupies, IsUnreferenced, MayLoseUsedBit, IsOutsideFrame}
 use Rattle.m36_isol.specs.References.{references_of_a_step}
 use Rattle.m36_isol.proofs.Laid.{page_of_word, resident_spot}
 use Rattle.m36_isol.proofs.PagedStep.{paged_step_law}
 use Rattle.m36_isol.proofs.Pages.{few_references}
 use Rattle.m36_page.specs.Fields.{PagerFields}
-use Rattle.m36_page.specs.Residence.{has_page, spot_of, frame_of, kept_word, Holds, IsPager, NamesFrame, Reads}
-use Rattle.m36_page.specs.Changes.{is_to, is_pinned, Stays, IsFreeSpot, OnlyMarkCleared, IsBrought}
+use Rattle.m36_page.specs.Residence.{has_page, spot_of, frame_of, kept_word, Holds, IsPager, NamesFrame, AgreesWithCore}
+use Rattle.m36_page.specs.Changes.{refers_to_page, is_pinned, Stays, IsUnpinnedPtwPlace, OnlyMarkCleared, IsBrought}
 use Rattle.m36_page.proofs.Frames.{frame_absent, resident_unmarked}
 use Rattle.m36_super.specs.SuperFields.{IsManaged, IsRunning, frame_by, IsPaging}
-use Rattle.m36_super.specs.Stepping.{IsLacked, IsTried, IsFullStep}
+use Rattle.m36_super.specs.Stepping.{IsAbsentWord, HasBroughtPage, IsFullStep}
 use Rattle.m36_super.proofs.Paging.{frame_true, paging_law, step_managed}
 
 -- ---- the page that a step lacked
@@ -53,17 +53,17 @@ pub record IsAbsent (core : List ℕ) (seg page : ℕ) : Type 0 where
   pub is : IsPage core seg page
   pub word : page_word core seg page ≡ absent_ptw
 
-pub lacking_page : (core : List ℕ) (frames seg w : ℕ) → IsLaid core frames → Lacks core seg w → IsAbsent core seg (w / 1024)
+pub lacking_page : (core : List ℕ) (frames seg w : ℕ) → IsLaid core frames → PageIsAbsent core seg w → IsAbsent core seg (w / 1024)
 unfolding place
 lacking_page core frames seg w laid lacks = by_sdw (core_sdw core booted_dbr seg) refl lacks
   where
-    by_page : (d : SdwFields) → core_sdw core booted_dbr seg ≡ Ok d → within d w ≡ true → core_spot core booted_dbr d seg w ≡ Err absence → (page_word core seg (w / 1024) ≡ absent_ptw) ⊎ ((frame : ℕ) × IsInFrame core frames seg (w / 1024) frame) → page_word core seg (w / 1024) ≡ absent_ptw
+    by_page : (d : SdwFields) → core_sdw core booted_dbr seg ≡ Ok d → is_within_bound d w ≡ true → core_spot core booted_dbr d seg w ≡ Err absence → (page_word core seg (w / 1024) ≡ absent_ptw) ⊎ ((frame : ℕ) × IsInFrame core frames seg (w / 1024) frame) → page_word core seg (w / 1024) ≡ absent_ptw
     by_page d live inside e (inl word) = word
     by_page d live inside e (inr k) =
         let found = resident_spot core frames laid seg w k.0 d live inside k.1 in
         cc
 
-    by_parts : (d : SdwFields) → core_sdw core booted_dbr seg ≡ Ok d → (a b : Bool) → within d w ≡ b → when_ordered a (place_within b (core_spot core booted_dbr d seg w)) ≡ Err absence → IsAbsent core seg (w / 1024)
+    by_parts : (d : SdwFields) → core_sdw core booted_dbr seg ≡ Ok d → (a b : Bool) → is_within_bound d w ≡ b → when_ordered a (place_within b (core_spot core booted_dbr d seg w)) ≡ Err absence → IsAbsent core seg (w / 1024)
     by_parts d live true true inside e =
         let is = page_of_word core frames laid seg w d live inside in
         record { is = is; word = by_page d live inside e (laid.pages seg (w / 1024) is) }
@@ -72,7 +72,7 @@ lacking_page core frames seg w laid lacks = by_sdw (core_sdw core booted_dbr seg
 
     by_sdw : (v : Result SdwFields Refusal) → core_sdw core booted_dbr seg ≡ v → place_by v (λ d. core_spot core booted_dbr d seg w) w ≡ Err absence → IsAbsent core seg (w / 1024)
     by_sdw (Err why) live e = absurd (laid.dead seg why live (ap number_of e))
-    by_sdw (Ok d) live e = by_parts d live (in_order d) (within d w) refl e
+    by_sdw (Ok d) live e = by_parts d live (has_ordered_brackets d) (is_within_bound d w) refl e
 
 -- ---- a page fault
 
@@ -87,11 +87,11 @@ pub record IsFaultAt (kept : ℕ → ℕ → ℕ) (s : State (List ℕ)) (at : A
   pub fault : IsPageFault kept s
   pub at_is : at ≡ fault.fault.at
 
-pub page_fault : (frames : ℕ) (kept : ℕ → ℕ → ℕ) (s : State (List ℕ)) (at : AtFields) → s.regs.dbr ≡ booted_dbr → IsLaid s.store frames → IsLacked (record_of core_store s).outcome at → IsFaultAt kept s at
+pub page_fault : (frames : ℕ) (kept : ℕ → ℕ → ℕ) (s : State (List ℕ)) (at : AtFields) → s.regs.dbr ≡ booted_dbr → IsLaid s.store frames → IsAbsentWord (record_of core_store s).outcome at → IsFaultAt kept s at
 page_fault frames kept s at dbr laid lacked = by_cases (paged_step_law frames kept s dbr laid).cases
   where
     by_cases : (IsFlatStep kept s ⊎ IsPageFault kept s ⊎ IsAbsaStep kept s) → IsFaultAt kept s at
-    by_cases (inl h) = absurd (subst IsPresent lacked.outcome_is h.present lacked.number)
+    by_cases (inl h) = absurd (subst IsNoPageFault lacked.outcome_is h.present lacked.number)
     by_cases (inr (inl h)) =
         record { fault = h; at_is = lacked.at_is ∙ ap (λ (f : Fault). f.at) (one_fault _ lacked.fault h.fault lacked.outcome_is h.outcome) }
     by_cases (inr (inr h)) =
@@ -121,8 +121,8 @@ unreferenced refs seg page free =
     each_of_all P P (λ e h. h) refs
     (λ i d below same.
     let e : Reference = slice_index_or refs i d in
-    let here : is_to (seg, page) e ≡ true = and_from _ _ (eq-eqb e.at.seg seg same.0) (eq-eqb (e.at.word / 1024) page same.1) in
-    let any : list_any (is_to (seg, page)) refs ≡ true = list_any_at (is_to (seg, page)) refs i d below here in
+    let here : refers_to_page (seg, page) e ≡ true = and_from _ _ (eq-eqb e.at.seg seg same.0) (eq-eqb (e.at.word / 1024) page same.1) in
+    let any : list_any (refers_to_page (seg, page)) refs ≡ true = list_any_at (refers_to_page (seg, page)) refs i d below here in
     absurd (cc))
 
 module _ (old : State (List ℕ)) (p q : PagerFields) (now : List ℕ) (runs : IsRunning (length p.holders) old.regs old.store p) (fault : IsPageFault (kept_word p) old) where
@@ -182,7 +182,7 @@ module _ (old : State (List ℕ)) (p q : PagerFields) (now : List ℕ) (runs : I
       let here = managed_mid.pages.serves s n h.is in
       held_by k s n (slice_index mid (spot_of p s n)) (ap (λ (a : ℕ). unmarked (slice_index mid a)) (spot_at s n here) ∙ h.word) (managed_mid.reads.pages s n here)
 
-  may_lose_used : (a : ℕ) → IsFreeSpot p refs a → MayLoseUsed mid refs a
+  may_lose_used : (a : ℕ) → IsUnpinnedPtwPlace p refs a → MayLoseUsedBit mid refs a
   may_lose_used a f =
       record {
         seg = f.seg;
@@ -193,7 +193,7 @@ module _ (old : State (List ℕ)) (p q : PagerFields) (now : List ℕ) (runs : I
         is = sym (spot_at f.seg f.page (managed_mid.pages.pager.held f.k f.seg f.page f.holds)) ∙ f.is;
       }
 
-  module _ (brought : IsBrought p mid q now seg page refs) (reads : Reads q now) (pager : IsPager q) where
+  module _ (brought : IsBrought p mid q now seg page refs) (reads : AgreesWithCore q now) (pager : IsPager q) where
     paging : IsPaging frames mid now p q
     paging = paging_law frames mid now p q managed_mid pager reads brought.kept
 
@@ -212,11 +212,11 @@ module _ (old : State (List ℕ)) (p q : PagerFields) (now : List ℕ) (runs : I
     goes s n h =
         ap (slice_index now) (sym (spot_at s n (managed_mid.pages.serves s n h.is))) ∙ brought.away s n out (holds_it brought.k s n h)
 
-    passed : (a : ℕ) → OnlyMarkCleared (IsFreeSpot p refs) mid now a → (slice_index now a ≡ slice_index mid a) ⊎ (MayLoseUsed mid refs a × (slice_index now a ≡ without_used (slice_index mid a)))
+    passed : (a : ℕ) → OnlyMarkCleared (IsUnpinnedPtwPlace p refs) mid now a → (slice_index now a ≡ slice_index mid a) ⊎ (MayLoseUsedBit mid refs a × (slice_index now a ≡ without_used (slice_index mid a)))
     passed a (inl e) = inl e
     passed a (inr e) = inr (may_lose_used a e.0, e.1)
 
-    words : (a : ℕ) → ((a ≡ table_at seg + page) → ⊥) → ((s n : ℕ) → Occupies mid s n frame → (a ≡ table_at s + n) → ⊥) → IsOutsideFrame frame a → (slice_index now a ≡ slice_index mid a) ⊎ (MayLoseUsed mid refs a × (slice_index now a ≡ without_used (slice_index mid a)))
+    words : (a : ℕ) → ((a ≡ table_at seg + page) → ⊥) → ((s n : ℕ) → Occupies mid s n frame → (a ≡ table_at s + n) → ⊥) → IsOutsideFrame frame a → (slice_index now a ≡ slice_index mid a) ⊎ (MayLoseUsedBit mid refs a × (slice_index now a ≡ without_used (slice_index mid a)))
     words a other others range =
         passed a
         (brought.words a (λ e. other (e ∙ spot_at seg page has))
@@ -233,7 +233,7 @@ module _ (old : State (List ℕ)) (p q : PagerFields) (now : List ℕ) (runs : I
         ∙ frame_true _ (frame_of q now e.at.seg (e.at.word / 1024)) (brought.kept.shape.pages e.at.seg (e.at.word / 1024) ∙ held.0)
         ∙ stays held.0 frame held.1
 
-    tried_at : (regs : RegsFields) → regs ≡ (state_after core_store old).regs → IsTried old p (record { regs = regs; store = now }) q
+    tried_at : (regs : RegsFields) → regs ≡ (state_after core_store old).regs → HasBroughtPage old p (record { regs = regs; store = now }) q
     tried_at regs same =
         let back : (state_after core_store old).regs ≡ old.regs = ap (λ (s : State Flat). s.regs) fault.state in
         let count = brought.kept.shape.frames in
@@ -272,16 +272,16 @@ pub bring_few : (old : State (List ℕ)) (told : StepRecord) → told ≡ record
 bring_few old told told_is =
     subst (λ (e : StepRecord). length e.refs.items ≤ references_of_a_step) (sym told_is) (few_references old)
 
-fault_at : (old : State (List ℕ)) (p : PagerFields) (told : StepRecord) (at : AtFields) → told ≡ record_of core_store old → IsRunning (length p.holders) old.regs old.store p → IsLacked told.outcome at → IsFaultAt (kept_word p) old at
+fault_at : (old : State (List ℕ)) (p : PagerFields) (told : StepRecord) (at : AtFields) → told ≡ record_of core_store old → IsRunning (length p.holders) old.regs old.store p → IsAbsentWord told.outcome at → IsFaultAt (kept_word p) old at
 fault_at old p told at told_is runs lacked =
-    page_fault (length p.holders) (kept_word p) old at runs.dbr runs.managed.pages.laid (subst (λ (e : StepRecord). IsLacked e.outcome at) told_is lacked)
+    page_fault (length p.holders) (kept_word p) old at runs.dbr runs.managed.pages.laid (subst (λ (e : StepRecord). IsAbsentWord e.outcome at) told_is lacked)
 
-pub bring_page : (old : State (List ℕ)) (p : PagerFields) (told : StepRecord) (at : AtFields) → told ≡ record_of core_store old → IsRunning (length p.holders) old.regs old.store p → IsLacked told.outcome at → has_page p at.seg (at.word / 1024) ≡ true
+pub bring_page : (old : State (List ℕ)) (p : PagerFields) (told : StepRecord) (at : AtFields) → told ≡ record_of core_store old → IsRunning (length p.holders) old.regs old.store p → IsAbsentWord told.outcome at → has_page p at.seg (at.word / 1024) ≡ true
 bring_page old p told at told_is runs lacked =
     let f = fault_at old p told at told_is runs lacked in
     subst (λ (a : AtFields). has_page p a.seg (a.word / 1024) ≡ true) (sym f.at_is) (has old p p old.store runs f.fault)
 
-pub tried : (old mid new : State (List ℕ)) (p q : PagerFields) (told : StepRecord) (at : AtFields) → told ≡ record_of core_store old → mid ≡ state_after core_store old → IsRunning (length p.holders) old.regs old.store p → IsLacked told.outcome at → new.regs ≡ mid.regs → IsBrought p mid.store q new.store at.seg (at.word / 1024) told.refs.items → Reads q new.store → IsPager q → IsTried old p new q
+pub tried : (old mid new : State (List ℕ)) (p q : PagerFields) (told : StepRecord) (at : AtFields) → told ≡ record_of core_store old → mid ≡ state_after core_store old → IsRunning (length p.holders) old.regs old.store p → IsAbsentWord told.outcome at → new.regs ≡ mid.regs → IsBrought p mid.store q new.store at.seg (at.word / 1024) told.refs.items → AgreesWithCore q new.store → IsPager q → HasBroughtPage old p new q
 tried old mid new p q told at told_is mid_is runs lacked regs brought reads pager =
     let f = fault_at old p told at told_is runs lacked in
     let b1 = subst (λ (e : StepRecord). IsBrought p mid.store q new.store at.seg (at.word / 1024) e.refs.items) told_is brought in
@@ -289,7 +289,7 @@ tried old mid new p q told at told_is mid_is runs lacked regs brought reads page
     let b3 = subst (λ (a : AtFields). IsBrought p (state_after core_store old).store q new.store a.seg (a.word / 1024) (record_of core_store old).refs.items) f.at_is b2 in
     tried_at old p q new.store runs f.fault b3 reads pager new.regs (regs ∙ ap (λ (s : State (List ℕ)). s.regs) mid_is)
 
-pub taken : (old new : State (List ℕ)) (p q : PagerFields) (told : StepRecord) → told ≡ record_of core_store old → new ≡ state_after core_store old → IsPresent told.outcome → q ≡ p → IsFullStep old p new q told
+pub taken : (old new : State (List ℕ)) (p q : PagerFields) (told : StepRecord) → told ≡ record_of core_store old → new ≡ state_after core_store old → IsNoPageFault told.outcome → q ≡ p → IsFullStep old p new q told
 taken old new p q told told_is state present same =
     record { step = record { told_is = told_is; state = state; pager = same }; present = present }
 

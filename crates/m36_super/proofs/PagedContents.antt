@@ -3,8 +3,8 @@ use Rattle.std.proofs.Common.{◌≡◌, refl, sym, ◌∙◌, ap, subst, inl, i
 use Rattle.std.proofs.lemmas.Bool.{eqb-true, le-leb}
 use Rattle.std.specs.Prelude.{ℕ, ◌+◌, ◌*◌, ◌/◌, ◌^◌, ◌<◌, ◌≤◌, ◌%◌, ◌⊎◌, Bool, true, false, ◌&&◌, ◌==◌, if◌then◌else◌, List, [], ◌∷◌, length, take, slice_index, slice_set, Option, Some, None, Result, Ok, Err}
 use Rattle.m36_desc.specs.Fields.{SdwFields}
-use Rattle.m36_desc.specs.Access.{in_order}
-use Rattle.m36_model.specs.Store.{Core_word, within, place, place_by, place_within, when_ordered}
+use Rattle.m36_desc.specs.Access.{has_ordered_brackets}
+use Rattle.m36_model.specs.Store.{Core_word, is_within_bound, place, place_by, place_within, when_ordered}
 use Rattle.m36_model.specs.Place.{core_sdw, core_spot}
 use Rattle.m36_model.specs.Act.{Whole}
 use Rattle.m36_model.specs.Core.{core_store}
@@ -16,14 +16,14 @@ use Rattle.m36_isol.proofs.Laid.{page_of_word, absent_spot, resident_spot}
 use Rattle.m36_isol.proofs.Moved.{same_descriptors}
 use Rattle.m36_page.specs.Fields.{PagerFields}
 use Rattle.std.specs.Bool.{then_some}
-use Rattle.m36_page.specs.Residence.{has_page, frame_in, frame_of, kept_word, paged_by, word_in, content_of, HasFrames, IsPager, Reads}
+use Rattle.m36_page.specs.Residence.{has_page, frame_in, frame_of, kept_word, paged_by, word_in, content_of, HasFrames, IsPager, AgreesWithCore}
 use Rattle.m36_page.specs.Residence as pages
 use Rattle.m36_page.specs.Changes.{IsSet}
 use Rattle.m36_page.proofs.Parts.{content_kept}
 use Rattle.m36_link.specs.Known.{linkage_segment}
 use Rattle.m36_super.specs.Laying.{written_from}
 use Rattle.m36_super.specs.PagedPut.{put_at, paged_put}
-use Rattle.m36_super.specs.SuperFields.{IsLinkage, IsManaged, held_in}
+use Rattle.m36_super.specs.SuperFields.{IsLinkageSegment, IsManaged, frame_in_pager}
 use Rattle.m36_super.specs.Writing.{memory_by, flat_by, ArePut}
 use Rattle.m36_super.proofs.Paging.{frame_true, residence, now_managed, descriptors}
 
@@ -40,7 +40,7 @@ shown_by false b found = 0
 
 abbrev pub shown : Result SdwFields Refusal → Option ℕ → ℕ → ℕ
 shown (Err why) found w = 0
-shown (Ok d) found w = shown_by (in_order d) (within d w) found
+shown (Ok d) found w = shown_by (has_ordered_brackets d) (is_within_bound d w) found
 
 found_at : (b : Bool) (v : ℕ) → b ≡ true → found_word (then_some b v) ≡ v
 found_at true v e = refl
@@ -57,15 +57,15 @@ module _ (frames : ℕ) (core : List ℕ) (p : PagerFields) (m : IsManaged frame
   abbrev memory : Paged
   memory = record { core = core; kept = kept_word p }
 
-  pub here : IsResidence core frames (held_in p core)
+  pub here : IsResidence core frames (frame_in_pager p core)
   here = residence frames core p m.pages.laid.most m.pages.first m.pages.count m.pages.pager m.reads m.pages.serves m.pages.at
 
   -- a word within the bound of a live segment is in a page
-  pub page_there : (seg w : ℕ) (d : SdwFields) → core_sdw core booted_dbr seg ≡ Ok d → within d w ≡ true → has_page p seg (w / 1024) ≡ true
+  pub page_there : (seg w : ℕ) (d : SdwFields) → core_sdw core booted_dbr seg ≡ Ok d → is_within_bound d w ≡ true → has_page p seg (w / 1024) ≡ true
   page_there seg w d live inside =
       m.pages.serves seg (w / 1024) (page_of_word core frames m.pages.laid seg w d live inside)
 
-  spot_word : (seg w : ℕ) (d : SdwFields) → core_sdw core booted_dbr seg ≡ Ok d → within d w ≡ true → (v : Option ℕ) → held_in p core seg (w / 1024) ≡ v → word_at memory seg w (core_spot core booted_dbr d seg w) ≡ resident_word memory v seg w
+  spot_word : (seg w : ℕ) (d : SdwFields) → core_sdw core booted_dbr seg ≡ Ok d → is_within_bound d w ≡ true → (v : Option ℕ) → frame_in_pager p core seg (w / 1024) ≡ v → word_at memory seg w (core_spot core booted_dbr d seg w) ≡ resident_word memory v seg w
   spot_word seg w d live inside None e =
       let is = page_of_word core frames m.pages.laid seg w d live inside in
       ap (word_at memory seg w) (absent_spot core frames m.pages.laid seg w d live inside (here.words seg (w / 1024) is ∙ ap ptw_of_page e))
@@ -80,10 +80,10 @@ module _ (frames : ℕ) (core : List ℕ) (p : PagerFields) (m : IsManaged frame
   unfolding content_of pages.page_word
   found_of seg w has = found_at _ _ has
 
-  word_there : (seg w : ℕ) (d : SdwFields) → core_sdw core booted_dbr seg ≡ Ok d → within d w ≡ true → word_at memory seg w (core_spot core booted_dbr d seg w) ≡ found_word (content_of p core seg w)
+  word_there : (seg w : ℕ) (d : SdwFields) → core_sdw core booted_dbr seg ≡ Ok d → is_within_bound d w ≡ true → word_at memory seg w (core_spot core booted_dbr d seg w) ≡ found_word (content_of p core seg w)
   word_there seg w d live inside =
       let has = page_there seg w d live inside in
-      spot_word seg w d live inside (held_in p core seg (w / 1024)) refl
+      spot_word seg w d live inside (frame_in_pager p core seg (w / 1024)) refl
       ∙ ap (λ (v : Option ℕ). resident_word memory v seg w) (frame_true _ (frame_of p core seg (w / 1024)) has)
       ∙ sym (found_of seg w has)
 
@@ -91,14 +91,14 @@ module _ (frames : ℕ) (core : List ℕ) (p : PagerFields) (m : IsManaged frame
   dead_word seg w why other true e = absurd (other (eqb-true why.number 17 e))
   dead_word seg w why other false e = ap (λ (b : Bool). if b then memory.kept seg w else 0) e
 
-  by_parts : (seg w : ℕ) (d : SdwFields) → core_sdw core booted_dbr seg ≡ Ok d → (a b : Bool) → within d w ≡ b → word_at memory seg w (when_ordered a (place_within b (core_spot core booted_dbr d seg w))) ≡ shown_by a b (content_of p core seg w)
+  by_parts : (seg w : ℕ) (d : SdwFields) → core_sdw core booted_dbr seg ≡ Ok d → (a b : Bool) → is_within_bound d w ≡ b → word_at memory seg w (when_ordered a (place_within b (core_spot core booted_dbr d seg w))) ≡ shown_by a b (content_of p core seg w)
   by_parts seg w d live true true inside = word_there seg w d live inside
   by_parts seg w d live true false inside = refl
   by_parts seg w d live false b inside = refl
 
   by_sdw : (seg w : ℕ) (v : Result SdwFields Refusal) → core_sdw core booted_dbr seg ≡ v → word_at memory seg w (place_by v (λ d. core_spot core booted_dbr d seg w) w) ≡ shown v (content_of p core seg w) w
   by_sdw seg w (Err why) live = dead_word seg w why (m.pages.laid.dead seg why live) _ refl
-  by_sdw seg w (Ok d) live = by_parts seg w d live (in_order d) (within d w) refl
+  by_sdw seg w (Ok d) live = by_parts seg w d live (has_ordered_brackets d) (is_within_bound d w) refl
 
   pub content_shown : (seg w : ℕ) → paged_content memory seg w ≡ shown (core_sdw core booted_dbr seg) (content_of p core seg w) w
   unfolding paged_content place
@@ -126,7 +126,7 @@ not_both a b x y apart e =
     let l = both_same x y in
     cc
 
-module _ (frames : ℕ) (core now : List ℕ) (p q : PagerFields) (ring word v : ℕ) (m : IsManaged frames core p) (low : ring < 8) (fits : word < 2 ^ 18) (s : IsSet p core q now (linkage_segment ring) word v) (reads : Reads q now) (pager : IsPager q) where
+module _ (frames : ℕ) (core now : List ℕ) (p q : PagerFields) (ring word v : ℕ) (m : IsManaged frames core p) (low : ring < 8) (fits : word < 2 ^ 18) (s : IsSet p core q now (linkage_segment ring) word v) (reads : AgreesWithCore q now) (pager : IsPager q) where
   abbrev seg : ℕ
   seg = linkage_segment ring
 
@@ -140,18 +140,18 @@ module _ (frames : ℕ) (core now : List ℕ) (p q : PagerFields) (ring word v :
   shown_now seg' w' =
       ap (λ (x : Result SdwFields Refusal). shown x (content_of q now seg' w') w') (same_descriptors core now low_words seg')
 
-  within_whole : (d : SdwFields) → d.bound ≡ 16383 → within d word ≡ true
+  within_whole : (d : SdwFields) → d.bound ≡ 16383 → is_within_bound d word ≡ true
   within_whole d e =
       let k : word / 16 ≤ d.bound = omega arith in
       le-leb (word / 16) d.bound k
 
-  link : IsLinkage core seg
+  link : IsLinkageSegment core seg
   link = m.linkage ring low
 
-  ordered : in_order link.sdw ≡ true
+  ordered : has_ordered_brackets link.sdw ≡ true
   ordered = (m.pages.laid.segments seg link.sdw link.live).ordered
 
-  inside : within link.sdw word ≡ true
+  inside : is_within_bound link.sdw word ≡ true
   inside = within_whole link.sdw link.whole
 
   shown_here : shown (core_sdw core booted_dbr seg) (content_of q now seg word) word ≡ v
@@ -189,7 +189,7 @@ module _ (frames : ℕ) (core now : List ℕ) (p q : PagerFields) (ring word v :
   is_page : IsPage core seg (word / 1024)
   is_page = m.pages.exact seg (word / 1024) has
 
-  held : held_in p core seg (word / 1024) ≡ frame_of p core seg (word / 1024)
+  held : frame_in_pager p core seg (word / 1024) ≡ frame_of p core seg (word / 1024)
   held = frame_true _ (frame_of p core seg (word / 1024)) has
 
   placed : place core_store core booted_dbr seg word ≡ core_spot core booted_dbr link.sdw seg word
@@ -243,7 +243,7 @@ module _ (frames : ℕ) (core now : List ℕ) (p q : PagerFields) (ring word v :
   unfolding memory_by paged_put written_from
   new_paged = put_by (frame_of p core seg (word / 1024)) refl
 
-pub word_put : (core now : List ℕ) (p q : PagerFields) (ring word v : ℕ) → IsManaged (length p.holders) core p → ring < 8 → word < 2 ^ 18 → IsSet p core q now (linkage_segment ring) word v → Reads q now → IsPager q → ArePut core p now q (written_from (linkage_segment ring) word (v ∷ []))
+pub word_put : (core now : List ℕ) (p q : PagerFields) (ring word v : ℕ) → IsManaged (length p.holders) core p → ring < 8 → word < 2 ^ 18 → IsSet p core q now (linkage_segment ring) word v → AgreesWithCore q now → IsPager q → ArePut core p now q (written_from (linkage_segment ring) word (v ∷ []))
 word_put core now p q ring word v m low fits s reads pager =
     let count = s.shape.frames in
     record {

@@ -10,12 +10,12 @@ use Rattle.m36_isol.proofs.PagedStep.{paged_step_law}
 use Rattle.m36_isol.proofs.Moved.{same_descriptors, laid_by}
 use Rattle.m36_page.specs.Fields.{PagerFields}
 use Rattle.std.specs.Bool.{then_some}
-use Rattle.m36_page.specs.Residence.{has_page, spot_of, frame_of, kept_word, word_in, content_of, Holds, IsPager, NamesFrame, Reads}
+use Rattle.m36_page.specs.Residence.{has_page, spot_of, frame_of, kept_word, word_in, content_of, Holds, IsPager, NamesFrame, AgreesWithCore}
 use Rattle.m36_page.specs.Residence as pages
-use Rattle.m36_page.specs.Changes.{IsPaged, IsSameShape}
+use Rattle.m36_page.specs.Changes.{IsChangeable, IsSameShape}
 use Rattle.m36_page.proofs.Frames.{frame_absent, frame_resident}
 use Rattle.m36_link.specs.Known.{linkage_segment}
-use Rattle.m36_super.specs.SuperFields.{IsLinkage, IsManaged, frame_by, held_in, IsPaging, PagingLaw, StepManagedLaw}
+use Rattle.m36_super.specs.SuperFields.{IsLinkageSegment, IsManaged, frame_by, frame_in_pager, IsPaging, PagingLaw, StepManagedLaw}
 
 -- lists with the same first words
 take_same : (n : ℕ) (xs ys : List ℕ) → length xs ≡ length ys → ((a : ℕ) → a < n → slice_index xs a ≡ slice_index ys a) → take n xs ≡ take n ys
@@ -50,15 +50,15 @@ one_some v a b e f = cc
 some_in : (v : Option ℕ) (a b : ℕ) → v ≡ Some a → v ≡ Some b → a ≡ b
 some_in v a b e f = cc
 
-module _ (frames : ℕ) (core : List ℕ) (p : PagerFields) (most : wired_frames + frames ≤ 16384) (first : p.first ≡ wired_frames) (frames_are : length p.holders ≡ frames) (pager : IsPager p) (reads : Reads p core) (serves : (seg page : ℕ) → IsPage core seg page → has_page p seg page ≡ true) (at : (seg page : ℕ) → has_page p seg page ≡ true → spot_of p seg page ≡ table_at seg + page) where
+module _ (frames : ℕ) (core : List ℕ) (p : PagerFields) (most : wired_frames + frames ≤ 16384) (first : p.first ≡ wired_frames) (frames_are : length p.holders ≡ frames) (pager : IsPager p) (reads : AgreesWithCore p core) (serves : (seg page : ℕ) → IsPage core seg page → has_page p seg page ≡ true) (at : (seg page : ℕ) → has_page p seg page ≡ true → spot_of p seg page ≡ table_at seg + page) where
   -- the page that a frame holds
-  record IsHeld (seg page frame : ℕ) : Type 0 where
+  record IsNoStep (seg page frame : ℕ) : Type 0 where
     k : ℕ
     holds : Holds p k seg page
     frame_is : frame ≡ p.first + k
     word : unmarked (slice_index core (spot_of p seg page)) ≡ resident_ptw frame
 
-  tells : (seg page : ℕ) → has_page p seg page ≡ true → NamesFrame p seg page (slice_index core (spot_of p seg page)) → ((frame_of p core seg page ≡ None) × (unmarked (slice_index core (spot_of p seg page)) ≡ absent_ptw)) ⊎ ((frame : ℕ) × (frame_of p core seg page ≡ Some frame) × IsHeld seg page frame)
+  tells : (seg page : ℕ) → has_page p seg page ≡ true → NamesFrame p seg page (slice_index core (spot_of p seg page)) → ((frame_of p core seg page ≡ None) × (unmarked (slice_index core (spot_of p seg page)) ≡ absent_ptw)) ⊎ ((frame : ℕ) × (frame_of p core seg page ≡ Some frame) × IsNoStep seg page frame)
   unfolding frame_of
   tells seg page has (inl e) = inl (frame_absent _ e, e)
   tells seg page has (inr h) =
@@ -69,12 +69,12 @@ module _ (frames : ℕ) (core : List ℕ) (p : PagerFields) (most : wired_frames
       inr (p.first + h.0, frame_resident _ (p.first + h.0) small h.2, record { k = h.0; holds = h.1; frame_is = refl; word = h.2 })
 
   -- if a page is in a frame, the frame holds it
-  held_by : (seg page frame : ℕ) (b : Bool) → has_page p seg page ≡ b → frame_by b (frame_of p core seg page) ≡ Some frame → IsHeld seg page frame
+  held_by : (seg page frame : ℕ) (b : Bool) → has_page p seg page ≡ b → frame_by b (frame_of p core seg page) ≡ Some frame → IsNoStep seg page frame
   held_by seg page frame true has e = by_tells (tells seg page has (reads.pages seg page has))
     where
-      by_tells : ((frame_of p core seg page ≡ None) × (unmarked (slice_index core (spot_of p seg page)) ≡ absent_ptw)) ⊎ ((f : ℕ) × (frame_of p core seg page ≡ Some f) × IsHeld seg page f) → IsHeld seg page frame
+      by_tells : ((frame_of p core seg page ≡ None) × (unmarked (slice_index core (spot_of p seg page)) ≡ absent_ptw)) ⊎ ((f : ℕ) × (frame_of p core seg page ≡ Some f) × IsNoStep seg page f) → IsNoStep seg page frame
       by_tells (inl h) = let none = h.0 in cc
-      by_tells (inr h) = subst (IsHeld seg page) (some_in _ h.0 frame h.1 e) h.2
+      by_tells (inr h) = subst (IsNoStep seg page) (some_in _ h.0 frame h.1 e) h.2
   held_by seg page frame false has e = cc
 
   word_by : (seg page : ℕ) → IsPage core seg page → (b : Bool) → has_page p seg page ≡ b → page_word core seg page ≡ ptw_of_page (frame_by b (frame_of p core seg page))
@@ -83,12 +83,12 @@ module _ (frames : ℕ) (core : List ℕ) (p : PagerFields) (most : wired_frames
       here : page_word core seg page ≡ unmarked (slice_index core (spot_of p seg page))
       here = ap (λ (n : ℕ). unmarked (slice_index core n)) (sym (at seg page has))
 
-      by_tells : ((frame_of p core seg page ≡ None) × (unmarked (slice_index core (spot_of p seg page)) ≡ absent_ptw)) ⊎ ((f : ℕ) × (frame_of p core seg page ≡ Some f) × IsHeld seg page f) → page_word core seg page ≡ ptw_of_page (frame_of p core seg page)
+      by_tells : ((frame_of p core seg page ≡ None) × (unmarked (slice_index core (spot_of p seg page)) ≡ absent_ptw)) ⊎ ((f : ℕ) × (frame_of p core seg page ≡ Some f) × IsNoStep seg page f) → page_word core seg page ≡ ptw_of_page (frame_of p core seg page)
       by_tells (inl h) = here ∙ h.1 ∙ sym (ap ptw_of_page h.0)
       by_tells (inr h) = here ∙ h.2.word ∙ sym (ap ptw_of_page h.1)
   word_by seg page is false has = absurd (true_false _ (serves seg page is) has)
 
-  pub residence : IsResidence core frames (held_in p core)
+  pub residence : IsResidence core frames (frame_in_pager p core)
   residence =
       record {
         words = λ seg page is. word_by seg page is _ refl;
@@ -96,7 +96,7 @@ module _ (frames : ℕ) (core : List ℕ) (p : PagerFields) (most : wired_frames
         one = λ seg page seg' page' frame e f. one_of frame (held_by seg page frame _ refl e) (held_by seg' page' frame _ refl f);
       }
     where
-      range_of : {seg page : ℕ} (frame : ℕ) → IsHeld seg page frame → IsPageable frames frame
+      range_of : {seg page : ℕ} (frame : ℕ) → IsNoStep seg page frame → IsPageable frames frame
       range_of {seg = seg} {page = page} frame h =
           let within = get_within p.holders h.k (seg, page) h.holds in
           let low : p.first ≡ 146 = first in
@@ -105,7 +105,7 @@ module _ (frames : ℕ) (core : List ℕ) (p : PagerFields) (most : wired_frames
           let y : frame < 146 + frames = omega arith in
           (x, y)
 
-      one_of : {seg page seg' page' : ℕ} (frame : ℕ) → IsHeld seg page frame → IsHeld seg' page' frame → (seg ≡ seg') × (page ≡ page')
+      one_of : {seg page seg' page' : ℕ} (frame : ℕ) → IsNoStep seg page frame → IsNoStep seg' page' frame → (seg ≡ seg') × (page ≡ page')
       one_of {seg = seg} {page = page} {seg' = seg'} {page' = page'} frame h k =
           let is = h.frame_is in
           let other = k.frame_is in
@@ -127,12 +127,12 @@ pub frame_true : (b : Bool) (v : Option ℕ) → b ≡ true → frame_by b v ≡
 frame_true true v e = refl
 frame_true false v e = cc
 
-linkage_kept : (core now : List ℕ) → ((seg : ℕ) → core_sdw now booted_dbr seg ≡ core_sdw core booted_dbr seg) → (seg : ℕ) → IsLinkage core seg → IsLinkage now seg
+linkage_kept : (core now : List ℕ) → ((seg : ℕ) → core_sdw now booted_dbr seg ≡ core_sdw core booted_dbr seg) → (seg : ℕ) → IsLinkageSegment core seg → IsLinkageSegment now seg
 linkage_kept core now same seg h = record { sdw = h.sdw; live = same seg ∙ h.live; whole = h.whole }
 
-module _ (frames : ℕ) (core now : List ℕ) (p q : PagerFields) (m : IsManaged frames core p) (pager : IsPager q) (reads : Reads q now) (shape : IsSameShape p q) (size : length now ≡ length core) (others : (a : ℕ) → (IsPaged p a → ⊥) → slice_index now a ≡ slice_index core a) where
+module _ (frames : ℕ) (core now : List ℕ) (p q : PagerFields) (m : IsManaged frames core p) (pager : IsPager q) (reads : AgreesWithCore q now) (shape : IsSameShape p q) (size : length now ≡ length core) (others : (a : ℕ) → (IsChangeable p a → ⊥) → slice_index now a ≡ slice_index core a) where
   -- the descriptors are unchanged
-  not_paged : (a : ℕ) → a < 2048 → IsPaged p a → ⊥
+  not_paged : (a : ℕ) → a < 2048 → IsChangeable p a → ⊥
   not_paged a low (inl h) =
       let at : spot_of p h.seg h.page ≡ (2048 + 256 * h.seg) + h.page = m.pages.at h.seg h.page h.has in
       let is = h.is in
@@ -168,14 +168,14 @@ module _ (frames : ℕ) (core now : List ℕ) (p q : PagerFields) (m : IsManaged
   frames_are : length q.holders ≡ frames
   frames_are = shape.frames ∙ m.pages.count
 
-  before_residence : IsResidence core frames (held_in p core)
+  before_residence : IsResidence core frames (frame_in_pager p core)
   before_residence = residence frames core p m.pages.laid.most m.pages.first m.pages.count m.pages.pager m.reads m.pages.serves m.pages.at
 
-  after_residence : IsResidence now frames (held_in q now)
+  after_residence : IsResidence now frames (frame_in_pager q now)
   after_residence = residence frames now q m.pages.laid.most first frames_are pager reads serves at
 
   now_laid : IsLaid now frames
-  now_laid = laid_by core frames m.pages.laid now size descriptors (held_in q now) after_residence
+  now_laid = laid_by core frames m.pages.laid now size descriptors (frame_in_pager q now) after_residence
 
   pub now_managed : IsManaged frames now q
   now_managed =
@@ -196,7 +196,7 @@ module _ (frames : ℕ) (core now : List ℕ) (p q : PagerFields) (m : IsManaged
       }
 
   module _ (content : (seg w : ℕ) → content_of q now seg w ≡ content_of p core seg w) where
-    words : (seg w : ℕ) → IsPage core seg (w / 1024) → resident_word (record { core = now; kept = kept_word q }) (held_in q now seg (w / 1024)) seg w ≡ resident_word (record { core = core; kept = kept_word p }) (held_in p core seg (w / 1024)) seg w
+    words : (seg w : ℕ) → IsPage core seg (w / 1024) → resident_word (record { core = now; kept = kept_word q }) (frame_in_pager q now seg (w / 1024)) seg w ≡ resident_word (record { core = core; kept = kept_word p }) (frame_in_pager p core seg (w / 1024)) seg w
     words seg w is =
         let has = m.pages.serves seg (w / 1024) is in
         let other = shape.pages seg (w / 1024) ∙ has in
@@ -213,9 +213,9 @@ module _ (frames : ℕ) (core now : List ℕ) (p q : PagerFields) (m : IsManaged
               record {
                 size = size;
                 descriptors = descriptors;
-                before = held_in p core;
+                before = frame_in_pager p core;
                 residence_before = before_residence;
-                after = held_in q now;
+                after = frame_in_pager q now;
                 residence_after = after_residence;
                 words = words;
               };

@@ -6,7 +6,7 @@ use Rattle.m36_model.specs.Store.{State}
 use Rattle.m36_model.specs.Flat.{Flat}
 use Rattle.m36_model.specs.BootedCore.{descriptor_words}
 use Rattle.m36_model.specs.Residence.{flat_of}
-use Rattle.m36_isol.specs.PageServices.{PagedState, core_state, stepped_memory, IsServed, AreServed}
+use Rattle.m36_isol.specs.PageServices.{PagedState, core_state, stepped_memory, IsPageFaultServed, ArePageFaultsServed}
 use Rattle.m36_isol.proofs.PagedStep.{paged_step_law}
 use Rattle.m36_isol.proofs.Moved.{moved_law}
 use Rattle.m36_super.specs.BootedRun.{IsLaidOut}
@@ -18,7 +18,7 @@ pub record IsAlike (frames : ℕ) (old new : PagedState) : Type 0 where
   pub flat : flat_of new.memory ≡ flat_of old.memory
   pub low : take descriptor_words new.memory.core ≡ take descriptor_words old.memory.core
 
-one_service : (frames : ℕ) (old new : PagedState) → IsLaidOut frames old → IsServed frames old new → IsAlike frames old new
+one_service : (frames : ℕ) (old new : PagedState) → IsLaidOut frames old → IsPageFaultServed frames old new → IsAlike frames old new
 one_service frames old new stands served =
     let step = paged_step_law frames old.memory.kept (core_state old) stands.dbr stands.laid in
     let moved = served.service.moved in
@@ -30,8 +30,8 @@ one_service frames old new stands served =
       low = moved.descriptors ∙ step.descriptors;
     }
 
-pub services_alike : (frames n : ℕ) (old new : PagedState) → IsLaidOut frames old → AreServed frames n old new → IsAlike frames old new
-unfolding AreServed
+pub services_alike : (frames n : ℕ) (old new : PagedState) → IsLaidOut frames old → ArePageFaultsServed frames n old new → IsAlike frames old new
+unfolding ArePageFaultsServed
 services_alike frames zero old new stands same =
     subst (IsAlike frames old) (sym same) (record { regs = refl; standing = stands; flat = refl; low = refl })
 services_alike frames (suc n) old new stands served =

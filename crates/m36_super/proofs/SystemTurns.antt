@@ -5,7 +5,7 @@ use Rattle.m36_model.specs.declared.endings.End.{End}
 use Rattle.m36_model.specs.declared.endings.End.TheVariants as end
 use Rattle.m36_model.specs.Fields.{AtFields}
 use Rattle.m36_model.specs.Residence.{flat_of}
-use Rattle.m36_model.specs.Results.{moved_on}
+use Rattle.m36_model.specs.Results.{advanced}
 use Rattle.m36_model.specs.declared.outcome.Fault.{Fault}
 use Rattle.m36_model.specs.declared.outcome.Outcome.{Outcome}
 use Rattle.m36_model.specs.declared.outcome.Outcome.TheVariants.{Next, Faulted, Stopped}
@@ -13,7 +13,7 @@ use Rattle.m36_link.specs.Snap.{snap_of}
 use Rattle.m36_step.specs.declared.turns.Turn.{Turn}
 use Rattle.m36_step.specs.declared.turns.Turn.TheVariants.{Console, Ended}
 use Rattle.m36_super.specs.Library.{Library}
-use Rattle.m36_super.specs.NextEvent.{NextEvent, Step, Link, Print, Over, coming_in, coming_on, coming_after}
+use Rattle.m36_super.specs.NextEvent.{NextEvent, Step, Link, Print, Over, event_after_known_fault, event_after_fault, event_after_outcome}
 use Rattle.m36_super.specs.Services.{asks_too_much, console_text}
 use Rattle.m36_super.specs.BootedRun.{Booted, IsStepTurn, IsLinkTurn, IsConsoleTurn, IsTurnBy, IsTurn}
 use Rattle.m36_super.specs.SuperFields.{SuperFields, booted_of, NoServiceAfterLdbr, IsRunning}
@@ -23,21 +23,21 @@ use Rattle.m36_model.specs.Store.{State}
 
 -- ---- the next turn is not a service once an LDBR has been executed
 
-due_in : (a b : Bool) (f : Fault) → NoServiceAfterLdbr (coming_in a b f) false
+due_in : (a b : Bool) (f : Fault) → NoServiceAfterLdbr (event_after_known_fault a b f) false
 due_in true b f = refl
 due_in false true f = refl
 due_in false false f = tt
 
-due_on : (loaded : Bool) (ring : ℕ) (f : Fault) → NoServiceAfterLdbr (coming_on loaded ring f) loaded
+due_on : (loaded : Bool) (ring : ℕ) (f : Fault) → NoServiceAfterLdbr (event_after_fault loaded ring f) loaded
 due_on true ring f = tt
 due_on false ring f = due_in _ _ f
 
-due_by : (loaded : Bool) (ring : ℕ) (outcome : Outcome) → NoServiceAfterLdbr (coming_after loaded ring outcome) loaded
+due_by : (loaded : Bool) (ring : ℕ) (outcome : Outcome) → NoServiceAfterLdbr (event_after_outcome loaded ring outcome) loaded
 due_by loaded ring Next = tt
 due_by loaded ring (Faulted f) = due_on loaded ring f
 due_by loaded ring (Stopped s) = tt
 
-pub due_after : (loaded : Bool) (ring : ℕ) (outcome : Outcome) (next : NextEvent) → next ≡ coming_after loaded ring outcome → NoServiceAfterLdbr next loaded
+pub due_after : (loaded : Bool) (ring : ℕ) (outcome : Outcome) (next : NextEvent) → next ≡ event_after_outcome loaded ring outcome → NoServiceAfterLdbr next loaded
 due_after loaded ring outcome next e =
     subst (λ (c : NextEvent). NoServiceAfterLdbr c loaded) (sym e) (due_by loaded ring outcome)
 
@@ -84,11 +84,11 @@ pub console_faulted : (limited : Bool) (text : Result (List ℕ) Fault) (before 
 console_faulted limited text before after turn f e fault told same =
     subst (λ (b : Bool). IsConsoleTurn b text before turn after) (sym e) (subst (λ (t : Result (List ℕ) Fault). IsConsoleTurn false t before turn after) (sym fault) (told, same))
 
-pub console_printed : (limited : Bool) (text : Result (List ℕ) Fault) (before after : Booted) (turn : Turn) (characters : List ℕ) → limited ≡ false → text ≡ Ok characters → turn ≡ Console characters → after ≡ record before { state = record { regs = moved_on before.state.regs; memory = before.state.memory }; coming = Step } → IsConsoleTurn limited text before turn after
+pub console_printed : (limited : Bool) (text : Result (List ℕ) Fault) (before after : Booted) (turn : Turn) (characters : List ℕ) → limited ≡ false → text ≡ Ok characters → turn ≡ Console characters → after ≡ record before { state = record { regs = advanced before.state.regs; memory = before.state.memory }; coming = Step } → IsConsoleTurn limited text before turn after
 console_printed limited text before after turn characters e read told same =
     subst (λ (b : Bool). IsConsoleTurn b text before turn after) (sym e) (subst (λ (t : Result (List ℕ) Fault). IsConsoleTurn false t before turn after) (sym read) (told, same))
 
-pub running_moved : (old new : State (List ℕ)) (p : PagerFields) → IsRunning (length p.holders) old.regs old.store p → new ≡ record { regs = moved_on old.regs; store = old.store } → IsRunning (length p.holders) new.regs new.store p
+pub running_moved : (old new : State (List ℕ)) (p : PagerFields) → IsRunning (length p.holders) old.regs old.store p → new ≡ record { regs = advanced old.regs; store = old.store } → IsRunning (length p.holders) new.regs new.store p
 running_moved old new p runs e =
     subst (λ (s : State (List ℕ)). IsRunning (length p.holders) s.regs s.store p) (sym e) (record { dbr = moved_dbr old.regs ∙ runs.dbr; managed = runs.managed })
 

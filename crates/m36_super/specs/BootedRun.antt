@@ -5,22 +5,22 @@
 use Rattle.std.specs.Prelude.{◌≡◌, ℕ, ◌≤◌, Bool, true, false, List, [], ◌∷◌}
 use Rattle.std.specs.Prelude.{Result, Ok, Err}
 use Rattle.m36_model.specs.Fields.{AtFields}
-use Rattle.m36_model.specs.Results.{moved_on}
+use Rattle.m36_model.specs.Results.{advanced}
 use Rattle.m36_model.specs.Store.{Change}
 use Rattle.m36_model.specs.Core.{core_store}
 use Rattle.m36_model.specs.Step.{record_of, state_after}
 use Rattle.m36_model.specs.Flat.{flat_put}
 use Rattle.m36_model.specs.BootedCore.{booted_dbr, IsLaid}
 use Rattle.m36_model.specs.Residence.{Paged, flat_of}
-use Rattle.m36_model.specs.PagedStep.{IsPresent}
+use Rattle.m36_model.specs.PagedStep.{IsNoPageFault}
 use Rattle.m36_model.specs.declared.endings.End.TheVariants as end
 use Rattle.m36_model.specs.declared.outcome.Fault.{Fault}
 use Rattle.m36_model.specs.declared.record.StepRecord.{StepRecord}
-use Rattle.m36_isol.specs.PageServices.{PagedState, core_state, stepped_memory, AreServed}
+use Rattle.m36_isol.specs.PageServices.{PagedState, core_state, stepped_memory, ArePageFaultsServed}
 use Rattle.m36_isol.specs.PageServices.{pages_of_an_instruction}
 use Rattle.m36_link.specs.Fields.{KnownFields, SnapFields}
 use Rattle.m36_link.specs.Snap.{RefusedFields, snap_of}
-use Rattle.m36_link.specs.Accepted.{accepted}
+use Rattle.m36_link.specs.Accepted.{known_after}
 use Rattle.m36_step.specs.LinkNoteFields.{LinkNoteFields}
 use Rattle.m36_step.specs.declared.turns.Turn.{Turn}
 use Rattle.m36_step.specs.declared.turns.Turn.TheVariants.{Stepped, Linked, Console, Ended}
@@ -66,17 +66,17 @@ pub record IsStepTo (s : PagedState) (before : Booted) (turn : Turn) (after : Bo
 
 -- A turn that is a step: some pages are served, and then the step is taken, which meets no absent
 -- page.
-pub record IsStep (frames : ℕ) (before : Booted) (turn : Turn) (after : Booted) : Type 0 where
+pub record IsStepWithPages (frames : ℕ) (before : Booted) (turn : Turn) (after : Booted) : Type 0 where
   pub services : ℕ
   pub few : services ≤ pages_of_an_instruction
   pub last : PagedState
-  pub served : AreServed frames services before.state last
-  pub present : IsPresent (record_of_state last).outcome
+  pub served : ArePageFaultsServed frames services before.state last
+  pub present : IsNoPageFault (record_of_state last).outcome
   pub takes : IsStepTo last before turn after
 
 -- Pages are served until an LDBR has been executed, and none after that.
 abbrev pub IsStepTurn : Bool → ℕ → Booted → Turn → Booted → Type 0
-IsStepTurn false frames before turn after = IsStep frames before turn after
+IsStepTurn false frames before turn after = IsStepWithPages frames before turn after
 IsStepTurn true frames before turn after = IsStepTo before.state before turn after
 
 -- ---- services
@@ -96,8 +96,8 @@ pub record IsLinked
     : Type 0 where
   pub told : turn ≡ Linked (note_snapped at s)
   pub regs : after.state.regs ≡ before.state.regs
-  pub written : IsWrittenBy frames before.state.memory after.state.memory (link_changes at s)
-  pub known : after.known ≡ accepted before.known s
+  pub console_byte : IsWrittenBy frames before.state.memory after.state.memory (link_changes at s)
+  pub known : after.known ≡ known_after before.known s
   pub coming : after.coming ≡ Step
   pub loaded : after.loaded ≡ before.loaded
 
@@ -126,7 +126,7 @@ IsConsoleTurn false (Ok text) before turn after =
     (turn ≡ Console text)
     × (after
     ≡ record before {
-      state = record { regs = moved_on before.state.regs; memory = before.state.memory };
+      state = record { regs = advanced before.state.regs; memory = before.state.memory };
       coming = Step;
     })
 

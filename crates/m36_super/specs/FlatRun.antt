@@ -2,7 +2,7 @@
 use Rattle.std.specs.Prelude.{ℕ, zero, suc, Bool, true, false, List, [], ◌∷◌}
 use Rattle.std.specs.Prelude.{Result, Ok, Err}
 use Rattle.m36_model.specs.Fields.{AtFields}
-use Rattle.m36_model.specs.Results.{moved_on}
+use Rattle.m36_model.specs.Results.{advanced}
 use Rattle.m36_model.specs.Store.{State}
 use Rattle.m36_model.specs.Step.{record_of, state_after}
 use Rattle.m36_model.specs.Flat.{Flat, flat_put, flat_store}
@@ -10,7 +10,7 @@ use Rattle.m36_model.specs.declared.endings.End.TheVariants as end
 use Rattle.m36_model.specs.declared.outcome.Fault.{Fault}
 use Rattle.m36_link.specs.Fields.{KnownFields, SnapFields}
 use Rattle.m36_link.specs.Snap.{RefusedFields, snap_of}
-use Rattle.m36_link.specs.Accepted.{accepted}
+use Rattle.m36_link.specs.Accepted.{known_after}
 use Rattle.m36_step.specs.declared.turns.Turn.{Turn}
 use Rattle.m36_step.specs.declared.turns.Turn.TheVariants.{Stepped, Linked, Console, Ended}
 use Rattle.m36_super.specs.Library.{Library}
@@ -32,8 +32,8 @@ pub record FlatTurn : Type 0 where
   pub after : FlatRun
 
 -- a turn of the flat run that is a step
-unfoldable pub flat_stepped : FlatRun → FlatTurn
-flat_stepped r =
+unfoldable pub flat_step_turn : FlatRun → FlatTurn
+flat_step_turn r =
     let told = record_of flat_store r.state in
     record {
       turn = Stepped told;
@@ -47,8 +47,8 @@ flat_stepped r =
 
 -- a turn of the flat run that is the service of the link at this address, by the answer to the
 -- link; if it is refused, the next turn is the end
-abbrev pub flat_linked_by : Result SnapFields RefusedFields → FlatRun → AtFields → FlatTurn
-flat_linked_by (Ok s) r at =
+abbrev pub flat_link_turn : Result SnapFields RefusedFields → FlatRun → AtFields → FlatTurn
+flat_link_turn (Ok s) r at =
     record {
       turn = Linked (note_snapped at s);
       after =
@@ -58,11 +58,11 @@ flat_linked_by (Ok s) r at =
                   regs = r.state.regs;
                   store = flat_put r.state.store (link_changes at s);
                 };
-            known = accepted r.known s;
+            known = known_after r.known s;
             coming = Step;
           };
     }
-flat_linked_by (Err why) r at =
+flat_link_turn (Err why) r at =
     record {
       turn = Linked (note_refused at why);
       after = record r { coming = Over (end.Link why.code) };
@@ -70,27 +70,27 @@ flat_linked_by (Err why) r at =
 
 -- a turn of the flat run that is a console service; if it is refused (true) or its text cannot be
 -- read, the run ends at once
-abbrev pub flat_printed_by : Bool → Result (List ℕ) Fault → FlatRun → FlatTurn
-flat_printed_by true text r =
+abbrev pub flat_console_turn : Bool → Result (List ℕ) Fault → FlatRun → FlatTurn
+flat_console_turn true text r =
     record { turn = Ended end.Console; after = record r { coming = Over end.Console } }
-flat_printed_by false (Err f) r =
+flat_console_turn false (Err f) r =
     record { turn = Ended (end.Fault f); after = record r { coming = Over (end.Fault f) } }
-flat_printed_by false (Ok text) r =
+flat_console_turn false (Ok text) r =
     record {
       turn = Console text;
       after =
           record r {
-            state = record { regs = moved_on r.state.regs; store = r.state.store };
+            state = record { regs = advanced r.state.regs; store = r.state.store };
             coming = Step;
           };
     }
 
 -- a turn of the flat run, by what the next turn is
 abbrev pub flat_turn_by : NextEvent → Library → FlatRun → FlatTurn
-flat_turn_by Step lib r = flat_stepped r
-flat_turn_by (Link at) lib r = flat_linked_by (snap_of r.known lib.catalog lib.files at) r at
+flat_turn_by Step lib r = flat_step_turn r
+flat_turn_by (Link at) lib r = flat_link_turn (snap_of r.known lib.catalog lib.files at) r at
 flat_turn_by Print lib r =
-    flat_printed_by (asks_too_much r.state.regs) (console_text r.state.regs r.state.store) r
+    flat_console_turn (asks_too_much r.state.regs) (console_text r.state.regs r.state.store) r
 flat_turn_by (Over e) lib r = record { turn = Ended e; after = r }
 
 -- one turn of the flat run

@@ -9,7 +9,7 @@ pub mod FlatRun
 pub mod BootedRun
 pub mod TurnLaws
 pub mod SuperFields
-pub mod BootSays
+pub mod BootResult
 pub mod Stepping
 pub mod Writing
 pub mod Examining

@@ -15,22 +15,22 @@ pub use Rattle.m36_super.specs.declared.coming.NextEvent.TheVariants.{Step, Link
 -- The next turn after a fault, if no LDBR has been executed: a link service if it is that of fault
 -- tag 2 (first flag), which a link to be snapped has; a console service if it is MME in ring 0
 -- (second flag); the end of the run otherwise.
-abbrev pub coming_in : Bool → Bool → Fault → NextEvent
-coming_in true console f = Link f.at
-coming_in false true f = Print
-coming_in false false f = Over (end.Fault f)
+abbrev pub event_after_known_fault : Bool → Bool → Fault → NextEvent
+event_after_known_fault true console f = Link f.at
+event_after_known_fault false true f = Print
+event_after_known_fault false false f = Over (end.Fault f)
 
 -- the next turn after a fault in a ring; once an LDBR has been executed (true), the end
-abbrev pub coming_on : Bool → ℕ → Fault → NextEvent
-coming_on true ring f = Over (end.Fault f)
-coming_on false ring f =
-    coming_in (nat_eq f.number fault_tag_2) (nat_eq f.number master_mode_entry && nat_eq ring 0) f
+abbrev pub event_after_fault : Bool → ℕ → Fault → NextEvent
+event_after_fault true ring f = Over (end.Fault f)
+event_after_fault false ring f =
+    event_after_known_fault (nat_eq f.number fault_tag_2) (nat_eq f.number master_mode_entry && nat_eq ring 0) f
 
 -- the next turn after a step in a ring with this outcome; every stop ends the run
-abbrev pub coming_after : Bool → ℕ → Outcome → NextEvent
-coming_after loaded ring Next = Step
-coming_after loaded ring (Faulted f) = coming_on loaded ring f
-coming_after loaded ring (Stopped s) = Over (end.Stop s)
+abbrev pub event_after_outcome : Bool → ℕ → Outcome → NextEvent
+event_after_outcome loaded ring Next = Step
+event_after_outcome loaded ring (Faulted f) = event_after_fault loaded ring f
+event_after_outcome loaded ring (Stopped s) = Over (end.Stop s)
 
 -- ---- whether an LDBR has been executed
 
@@ -41,17 +41,17 @@ is_ldbr (Some (effect.Ldbr, n)) = true
 is_ldbr (Some (e, n)) = false
 
 -- a step with this word and this outcome has executed an LDBR
-abbrev pub loads : Option ℕ → Outcome → Bool
-loads None outcome = false
-loads (Some w) Next = is_ldbr (decode w)
-loads (Some w) (Faulted f) = false
-loads (Some w) (Stopped s) = false
+abbrev pub executed_ldbr : Option ℕ → Outcome → Bool
+executed_ldbr None outcome = false
+executed_ldbr (Some w) Next = is_ldbr (decode w)
+executed_ldbr (Some w) (Faulted f) = false
+executed_ldbr (Some w) (Stopped s) = false
 
 -- whether an LDBR has been executed, in this step or before it
 abbrev pub loaded_after : Bool → StepRecord → Bool
 loaded_after true e = true
-loaded_after false e = loads e.word e.outcome
+loaded_after false e = executed_ldbr e.word e.outcome
 
 -- the next turn after a step with this record; the flag is whether an LDBR was executed before it
 abbrev pub next_event_after : Bool → StepRecord → NextEvent
-next_event_after loaded e = coming_after (loaded_after loaded e) e.ppr.prr e.outcome
+next_event_after loaded e = event_after_outcome (loaded_after loaded e) e.ppr.prr e.outcome

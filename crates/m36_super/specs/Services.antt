@@ -8,7 +8,7 @@ use Rattle.m36_word.specs.Pairs.{pair_words}
 use Rattle.m36_model.specs.Fields.{AtFields}
 use Rattle.m36_model.specs.Registers.{RegsFields}
 use Rattle.m36_model.specs.Act.{Answer}
-use Rattle.m36_model.specs.Store.{Change, examined}
+use Rattle.m36_model.specs.Store.{Change, examined_reply}
 use Rattle.m36_model.specs.Modification.{ptr}
 use Rattle.m36_model.specs.Flat.{Flat, flat_store}
 use Rattle.m36_model.specs.declared.endings.LinkCode.{LinkCode}
@@ -19,14 +19,14 @@ use Rattle.obj36.specs.References.{reference_text}
 use Rattle.m36_link.specs.Fields.{SnapFields}
 use Rattle.m36_link.specs.Snap.{RefusedFields}
 use Rattle.m36_step.specs.LinkNoteFields.{LinkNoteFields}
-use Rattle.m36_super.specs.Laying.{written_from, laying}
+use Rattle.m36_super.specs.Laying.{written_from, section_changes}
 
 -- ---- links
 
 -- A link service that succeeds writes the pair, the linkage section that it lays and the word of
 -- the linkage offset table for it, and no other word.
 unfoldable pub link_changes : AtFields → SnapFields → List Change
-link_changes at s = written_from at.seg at.word (pair_words s.pair) ++ laying s.lay
+link_changes at s = written_from at.seg at.word (pair_words s.pair) ++ section_changes s.lay
 
 -- the link as it is reported: ? if the word is not a link
 abbrev pub link_text : Option LinkFields → List ℕ
@@ -78,16 +78,16 @@ console_at g k =
     record { seg = (ptr g 2).seg; word = ((ptr g 2).word + k) % 2 ^ 18; ring = (ptr g 2).ring }
 
 -- the characters of a word before those of the rest of the text, or the first fault
-abbrev pub joined : Result Answer Fault → Result (List ℕ) Fault → Result (List ℕ) Fault
-joined (Err f) rest = Err f
-joined (Ok a) (Err f) = Err f
-joined (Ok a) (Ok characters) = Ok (characters_of (slice_index a.words 0) ++ characters)
+abbrev pub with_word_before : Result Answer Fault → Result (List ℕ) Fault → Result (List ℕ) Fault
+with_word_before (Err f) rest = Err f
+with_word_before (Ok a) (Err f) = Err f
+with_word_before (Ok a) (Ok characters) = Ok (characters_of (slice_index a.words 0) ++ characters)
 
 -- the characters of n words of the text from word k on
 unfoldable pub console_words : RegsFields → Flat → ℕ → ℕ → Result (List ℕ) Fault
 console_words g f k zero = Ok []
 console_words g f k (suc n) =
-    joined (examined flat_store g f (console_at g k)) (console_words g f (k + 1) n)
+    with_word_before (examined_reply flat_store g f (console_at g k)) (console_words g f (k + 1) n)
 
 -- the first n characters of a text, or the fault of reading it
 abbrev pub cut_to : ℕ → Result (List ℕ) Fault → Result (List ℕ) Fault

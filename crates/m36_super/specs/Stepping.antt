@@ -5,32 +5,32 @@ use Rattle.m36_model.specs.Fields.{AtFields}
 use Rattle.m36_model.specs.Store.{State}
 use Rattle.m36_model.specs.Core.{core_store}
 use Rattle.m36_model.specs.Step.{record_of, state_after}
-use Rattle.m36_model.specs.PagedStep.{IsPresent}
+use Rattle.m36_model.specs.PagedStep.{IsNoPageFault}
 use Rattle.m36_model.specs.declared.outcome.Fault.{Fault}
 use Rattle.m36_model.specs.declared.outcome.Outcome.{Outcome}
 use Rattle.m36_model.specs.declared.outcome.Outcome.TheVariants.{Faulted}
 use Rattle.m36_model.specs.declared.record.StepRecord.{StepRecord}
-use Rattle.m36_isol.specs.PageServices.{IsServed, AreServed, pages_of_an_instruction}
+use Rattle.m36_isol.specs.PageServices.{IsPageFaultServed, ArePageFaultsServed, pages_of_an_instruction}
 use Rattle.m36_page.specs.Fields.{PagerFields}
 use Rattle.m36_super.specs.SuperFields.{paged_of, IsRunning}
 
 -- the step lacked the page of the word at `at`
-pub record IsLacked (outcome : Outcome) (at : AtFields) : Type 0 where
+pub record IsAbsentWord (outcome : Outcome) (at : AtFields) : Type 0 where
   pub fault : Fault
   pub outcome_is : outcome ≡ Faulted fault
   pub number : fault.number ≡ missing_page
   pub at_is : at ≡ fault.at
 
 -- The step lacked the page of this word, or it lacked none.
-abbrev pub LackedSays : Outcome → Option AtFields → Type 0
-LackedSays outcome None = IsPresent outcome
-LackedSays outcome (Some at) = IsLacked outcome at
+abbrev pub AbsentWordResult : Outcome → Option AtFields → Type 0
+AbsentWordResult outcome None = IsNoPageFault outcome
+AbsentWordResult outcome (Some at) = IsAbsentWord outcome at
 
 -- A step lacked a page, and the page was brought in.
-pub record IsTried
+pub record HasBroughtPage
     (old : State (List ℕ)) (p : PagerFields) (new : State (List ℕ)) (q : PagerFields) : Type 0
   where
-    pub served : IsServed (length p.holders) (paged_of old p) (paged_of new q)
+    pub served : IsPageFaultServed (length p.holders) (paged_of old p) (paged_of new q)
     pub frames : length q.holders ≡ length p.holders
     pub runs : IsRunning (length q.holders) new.regs new.store q
 
@@ -47,13 +47,13 @@ pub record IsFullStep
     (old : State (List ℕ)) (p : PagerFields) (new : State (List ℕ)) (q : PagerFields)
     (told : StepRecord) : Type 0 where
   pub step : IsBareStep old p new q told
-  pub present : IsPresent told.outcome
+  pub present : IsNoPageFault told.outcome
 
 -- A try of a step: a page was brought in (true), or the step was taken (false).
-abbrev pub AttemptSays :
+abbrev pub AttemptResult :
     Bool → State (List ℕ) → PagerFields → State (List ℕ) → PagerFields → StepRecord → Type 0
-AttemptSays true old p new q told = IsTried old p new q
-AttemptSays false old p new q told = IsFullStep old p new q told
+AttemptResult true old p new q told = HasBroughtPage old p new q
+AttemptResult false old p new q told = IsFullStep old p new q told
 
 -- The pages that a step lacked were brought in, and then it was taken.
 pub record IsStepped
@@ -62,14 +62,14 @@ pub record IsStepped
   pub last : State (List ℕ)
   pub services : ℕ
   pub few : services ≤ pages_of_an_instruction
-  pub served : AreServed (length p.holders) services (paged_of old p) (paged_of last q)
+  pub served : ArePageFaultsServed (length p.holders) services (paged_of old p) (paged_of last q)
   pub frames : length q.holders ≡ length p.holders
   pub runs : IsRunning (length q.holders) last.regs last.store q
   pub taken : IsFullStep last q new q told
 
 -- A step: with page services until an LDBR has been executed (false), and without them after that
 -- (true).
-abbrev pub StepSays :
+abbrev pub StepContract :
     Bool → State (List ℕ) → PagerFields → State (List ℕ) → PagerFields → StepRecord → Type 0
-StepSays false old p new q told = IsStepped old p new q told
-StepSays true old p new q told = IsBareStep old p new q told
+StepContract false old p new q told = IsStepped old p new q told
+StepContract true old p new q told = IsBareStep old p new q told

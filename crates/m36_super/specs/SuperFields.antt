@@ -11,7 +11,7 @@ use Rattle.m36_model.specs.BootedCore.{booted_dbr}
 use Rattle.m36_model.specs.Residence.{IsMoved}
 use Rattle.m36_isol.specs.PageServices.{PagedState}
 use Rattle.m36_page.specs.Fields.{PagerFields}
-use Rattle.m36_page.specs.Residence.{has_page, frame_of, paged_by, IsPager, Reads}
+use Rattle.m36_page.specs.Residence.{has_page, frame_of, paged_by, IsPager, AgreesWithCore}
 use Rattle.m36_page.specs.Changes.{KeepsContents}
 use Rattle.m36_link.specs.Fields.{KnownFields}
 use Rattle.m36_link.specs.Known.{linkage_segment}
@@ -48,7 +48,7 @@ booted_of s =
     run_of (record { regs = s.regs; store = s.core }) s.pager s.known s.coming s.loaded
 
 -- Segment `seg` is live and has all the pages that a segment can have, as a linkage segment does.
-pub record IsLinkage (core : List ℕ) (seg : ℕ) : Type 0 where
+pub record IsLinkageSegment (core : List ℕ) (seg : ℕ) : Type 0 where
   pub sdw : SdwFields
   pub live : core_sdw core booted_dbr seg ≡ Ok sdw
   pub whole : sdw.bound ≡ bound_of_pages linkage_pages
@@ -58,8 +58,8 @@ pub record IsLinkage (core : List ℕ) (seg : ℕ) : Type 0 where
 -- have all the pages that a segment can have.
 pub record IsManaged (frames : ℕ) (core : List ℕ) (p : PagerFields) : Type 0 where
   pub pages : HasPages frames core p
-  pub reads : Reads p core
-  pub linkage : (ring : ℕ) → ring < 8 → IsLinkage core (linkage_segment ring)
+  pub reads : AgreesWithCore p core
+  pub linkage : (ring : ℕ) → ring < 8 → IsLinkageSegment core (linkage_segment ring)
 
 -- The descriptor segment base register is that of the image, and the core and the pager satisfy
 -- `IsManaged`. So segments are found by the descriptors of the image.
@@ -96,8 +96,8 @@ frame_by true frame = frame
 frame_by false frame = None
 
 -- the frame of a page of a pager, if the pager has the page and it is in one
-abbrev pub held_in : PagerFields → List ℕ → ℕ → ℕ → Option ℕ
-held_in p core seg page = frame_by (has_page p seg page) (frame_of p core seg page)
+abbrev pub frame_in_pager : PagerFields → List ℕ → ℕ → ℕ → Option ℕ
+frame_in_pager p core seg page = frame_by (has_page p seg page) (frame_of p core seg page)
 
 -- The result of a call of the pager: pages have moved, and the pager and its core satisfy
 -- `IsManaged`.
@@ -105,15 +105,15 @@ pub record IsPaging
     (frames : ℕ) (core now : List ℕ) (p q : PagerFields) : Type 0 where
   pub moved :
       IsMoved frames (paged_by core p) (paged_by now q)
-  pub before_is : (seg page : ℕ) → moved.before seg page ≡ held_in p core seg page
-  pub after_is : (seg page : ℕ) → moved.after seg page ≡ held_in q now seg page
+  pub before_is : (seg page : ℕ) → moved.before seg page ≡ frame_in_pager p core seg page
+  pub after_is : (seg page : ℕ) → moved.after seg page ≡ frame_in_pager q now seg page
   pub manages : IsManaged frames now q
 
 -- A call of the pager that keeps all content moves pages.
 abbrev pub PagingLaw : Type 0
 PagingLaw =
     (frames : ℕ) (core now : List ℕ) (p q : PagerFields)
-    → IsManaged frames core p → IsPager q → Reads q now → KeepsContents p core q now
+    → IsManaged frames core p → IsPager q → AgreesWithCore q now → KeepsContents p core q now
     → IsPaging frames core now p q
 
 -- A step keeps `IsManaged`.

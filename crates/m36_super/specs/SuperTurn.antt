@@ -13,13 +13,13 @@ use Rattle.m36_model.specs.declared.outcome.Outcome.{Outcome}
 use Rattle.m36_model.specs.declared.outcome.Outcome.TheVariants.{Next, Faulted, Stopped}
 use Rattle.m36_link.specs.Fields.{SnapFields}
 use Rattle.m36_link.specs.Snap.{RefusedFields}
-use Rattle.m36_step.specs.Answers.{IsDone, IsService, IsStep, IsHalted, IsUnable, PrecludesStep}
+use Rattle.m36_step.specs.Answers.{HasGoneBack, IsService, IsStep, IsHalted, IsUnable, PrecludesStep}
 use Rattle.m36_step.specs.declared.turns.Turn.{Turn}
 use Rattle.m36_step.specs.declared.turns.Turn.TheVariants.{Stepped, Linked, Console, Ended, Full}
 use Rattle.m36_step.specs.declared.turns.Turn.TheVariants.{NoMemory}
 use Rattle.m36_step.specs.declared.turns.BackAnswer.{BackAnswer}
 use Rattle.m36_super.specs.NextEvent.{NextEvent, Step, Link, Print, Over, loaded_after}
-use Rattle.m36_super.specs.NextEvent.{coming_in, coming_on, coming_after}
+use Rattle.m36_super.specs.NextEvent.{event_after_known_fault, event_after_fault, event_after_outcome}
 use Rattle.m36_super.specs.Library.{Library}
 use Rattle.m36_super.specs.BootedRun.{Booted, IsStepTurn, IsLinkTurn, IsConsoleTurn, IsTurnBy}
 use Rattle.m36_super.specs.BootedRun.{IsTurn, IsStepTo, record_of_state}
@@ -32,8 +32,8 @@ SuperTurns before turn later =
     IsTurn before.lib (booted_of before) turn (booted_of later) × (later.lib ≡ before.lib)
 
 -- A booted system cannot go back.
-abbrev pub SuperWent : SuperFields → ℕ → BackAnswer → SuperFields → Type 0
-SuperWent before n answer later = IsUnable before answer later
+abbrev pub SuperBack : SuperFields → ℕ → BackAnswer → SuperFields → Type 0
+SuperBack before n answer later = IsUnable before answer later
 
 -- The content of a word: of the flat memory until an LDBR has been executed, and of core after
 -- that.
@@ -51,15 +51,15 @@ super_content s seg w = content_by s.loaded s seg w
 -- going back changes nothing unless it answers Done
 pub super_stays :
     (before : SuperFields) (n : ℕ) (answer : BackAnswer) (after : SuperFields)
-    → SuperWent before n answer after → IsDone answer ⊎ (after ≡ before)
+    → SuperBack before n answer after → HasGoneBack answer ⊎ (after ≡ before)
 super_stays before n answer after went = inr went.1
 
 -- the next turn is not a service
-abbrev pub IsQuiet : NextEvent → Type 0
-IsQuiet Step = Unit {0}
-IsQuiet (Link at) = ⊥
-IsQuiet Print = ⊥
-IsQuiet (Over e) = Unit {0}
+abbrev pub IsNoService : NextEvent → Type 0
+IsNoService Step = Unit {0}
+IsNoService (Link at) = ⊥
+IsNoService Print = ⊥
+IsNoService (Over e) = Unit {0}
 
 step_no_service :
     (loaded : Bool) (frames : ℕ) (before : Booted) (turn : Turn) (after : Booted)
@@ -71,17 +71,17 @@ step_no_service true frames before turn after h service = subst IsService h.told
 pub link_quiet :
     (answer : Result SnapFields RefusedFields) (frames : ℕ) (at : AtFields) (before : Booted)
     (turn : Turn) (after : Booted) → IsLinkTurn answer frames at before turn after → IsService turn
-    → IsQuiet after.coming
-link_quiet (Ok s) frames at before (Linked note) after h service = subst IsQuiet (sym h.coming) tt
-link_quiet (Ok s) frames at before (Console text) after h service = subst IsQuiet (sym h.coming) tt
+    → IsNoService after.coming
+link_quiet (Ok s) frames at before (Linked note) after h service = subst IsNoService (sym h.coming) tt
+link_quiet (Ok s) frames at before (Console text) after h service = subst IsNoService (sym h.coming) tt
 link_quiet (Ok s) frames at before (Stepped told) after h service = absurd service
 link_quiet (Ok s) frames at before (Ended e) after h service = absurd service
 link_quiet (Ok s) frames at before Full after h service = absurd service
 link_quiet (Ok s) frames at before NoMemory after h service = absurd service
 link_quiet (Err why) frames at before (Linked note) after h service =
-    subst (λ (r : Booted). IsQuiet r.coming) (sym h.1) tt
+    subst (λ (r : Booted). IsNoService r.coming) (sym h.1) tt
 link_quiet (Err why) frames at before (Console text) after h service =
-    subst (λ (r : Booted). IsQuiet r.coming) (sym h.1) tt
+    subst (λ (r : Booted). IsNoService r.coming) (sym h.1) tt
 link_quiet (Err why) frames at before (Stepped told) after h service = absurd service
 link_quiet (Err why) frames at before (Ended e) after h service = absurd service
 link_quiet (Err why) frames at before Full after h service = absurd service
@@ -89,15 +89,15 @@ link_quiet (Err why) frames at before NoMemory after h service = absurd service
 
 console_quiet :
     (b : Bool) (text : Result (List ℕ) Fault) (before : Booted) (turn : Turn) (after : Booted)
-    → IsConsoleTurn b text before turn after → IsService turn → IsQuiet after.coming
+    → IsConsoleTurn b text before turn after → IsService turn → IsNoService after.coming
 console_quiet true text before turn after h service = absurd (subst IsService h.0 service)
 console_quiet false (Err f) before turn after h service = absurd (subst IsService h.0 service)
 console_quiet false (Ok text) before turn after h service =
-    subst (λ (r : Booted). IsQuiet r.coming) (sym h.1) tt
+    subst (λ (r : Booted). IsNoService r.coming) (sym h.1) tt
 
 after_service :
     (coming : NextEvent) (lib : Library) (before : Booted) (turn : Turn) (after : Booted)
-    → IsTurnBy coming lib before turn after → IsService turn → IsQuiet after.coming
+    → IsTurnBy coming lib before turn after → IsService turn → IsNoService after.coming
 after_service Step lib before turn after h service =
     absurd (step_no_service before.loaded lib.catalog.frames before turn after h service)
 after_service (Link at) lib before turn after h service =
@@ -107,7 +107,7 @@ after_service (Over e) lib before turn after h service = absurd (subst IsService
 
 no_service :
     (coming : NextEvent) (lib : Library) (before : Booted) (turn : Turn) (after : Booted)
-    → IsTurnBy coming lib before turn after → IsQuiet coming → IsService turn → ⊥
+    → IsTurnBy coming lib before turn after → IsNoService coming → IsService turn → ⊥
 no_service Step lib before turn after h quiet service =
     step_no_service before.loaded lib.catalog.frames before turn after h service
 no_service (Link at) lib before turn after h quiet service = quiet
@@ -127,40 +127,40 @@ super_apart first second third one two h k service other =
 -- ---- a turn that interrupts is not followed by a step
 
 -- the next turn is not a step
-abbrev pub IsHeld : NextEvent → Type 0
-IsHeld Step = ⊥
-IsHeld (Link at) = Unit {0}
-IsHeld Print = Unit {0}
-IsHeld (Over e) = Unit {0}
+abbrev pub IsNoStep : NextEvent → Type 0
+IsNoStep Step = ⊥
+IsNoStep (Link at) = Unit {0}
+IsNoStep Print = Unit {0}
+IsNoStep (Over e) = Unit {0}
 
-held_in : (link console : Bool) (f : Fault) → IsHeld (coming_in link console f)
-held_in true console f = tt
-held_in false true f = tt
-held_in false false f = tt
+frame_in_pager : (link console : Bool) (f : Fault) → IsNoStep (event_after_known_fault link console f)
+frame_in_pager true console f = tt
+frame_in_pager false true f = tt
+frame_in_pager false false f = tt
 
-held_on : (loaded : Bool) (ring : ℕ) (f : Fault) → IsHeld (coming_on loaded ring f)
+held_on : (loaded : Bool) (ring : ℕ) (f : Fault) → IsNoStep (event_after_fault loaded ring f)
 held_on true ring f = tt
 held_on false ring f =
-    held_in (nat_eq f.number fault_tag_2) (nat_eq f.number master_mode_entry && nat_eq ring 0) f
+    frame_in_pager (nat_eq f.number fault_tag_2) (nat_eq f.number master_mode_entry && nat_eq ring 0) f
 
 held_after :
     (loaded : Bool) (ring : ℕ) (outcome : Outcome)
-    → IsHalted outcome → IsHeld (coming_after loaded ring outcome)
+    → IsHalted outcome → IsNoStep (event_after_outcome loaded ring outcome)
 held_after loaded ring Next not = absurd not
 held_after loaded ring (Faulted f) not = held_on loaded ring f
 held_after loaded ring (Stopped s) not = tt
 
 takes_held :
     (s : PagedState) (before : Booted) (turn : Turn) (after : Booted)
-    → IsStepTo s before turn after → PrecludesStep turn → IsHeld after.coming
+    → IsStepTo s before turn after → PrecludesStep turn → IsNoStep after.coming
 takes_held s before turn after h interrupts =
-    subst (λ (r : Booted). IsHeld r.coming) (sym h.after_is)
+    subst (λ (r : Booted). IsNoStep r.coming) (sym h.after_is)
     (held_after (loaded_after before.loaded (record_of_state s)) (record_of_state s).ppr.prr (record_of_state s).outcome
     (subst PrecludesStep h.told interrupts))
 
 step_held :
     (loaded : Bool) (frames : ℕ) (before : Booted) (turn : Turn) (after : Booted)
-    → IsStepTurn loaded frames before turn after → PrecludesStep turn → IsHeld after.coming
+    → IsStepTurn loaded frames before turn after → PrecludesStep turn → IsNoStep after.coming
 step_held false frames before turn after h interrupts =
     takes_held h.last before turn after h.takes interrupts
 step_held true frames before turn after h interrupts =
@@ -169,7 +169,7 @@ step_held true frames before turn after h interrupts =
 link_held :
     (answer : Result SnapFields RefusedFields) (frames : ℕ) (at : AtFields) (before : Booted)
     (turn : Turn) (after : Booted)
-    → IsLinkTurn answer frames at before turn after → PrecludesStep turn → IsHeld after.coming
+    → IsLinkTurn answer frames at before turn after → PrecludesStep turn → IsNoStep after.coming
 link_held (Ok s) frames at before (Linked note) after h interrupts =
     absurd (subst PrecludesStep h.told interrupts)
 link_held (Ok s) frames at before (Stepped told) after h interrupts =
@@ -179,9 +179,9 @@ link_held (Ok s) frames at before (Ended e) after h interrupts = absurd interrup
 link_held (Ok s) frames at before Full after h interrupts = absurd interrupts
 link_held (Ok s) frames at before NoMemory after h interrupts = absurd interrupts
 link_held (Err why) frames at before (Linked note) after h interrupts =
-    subst (λ (r : Booted). IsHeld r.coming) (sym h.1) tt
+    subst (λ (r : Booted). IsNoStep r.coming) (sym h.1) tt
 link_held (Err why) frames at before (Stepped told) after h interrupts =
-    subst (λ (r : Booted). IsHeld r.coming) (sym h.1) tt
+    subst (λ (r : Booted). IsNoStep r.coming) (sym h.1) tt
 link_held (Err why) frames at before (Console text) after h interrupts = absurd interrupts
 link_held (Err why) frames at before (Ended e) after h interrupts = absurd interrupts
 link_held (Err why) frames at before Full after h interrupts = absurd interrupts
@@ -197,7 +197,7 @@ console_no_interrupt false (Ok text) before turn after h interrupts =
 
 after_interrupt :
     (coming : NextEvent) (lib : Library) (before : Booted) (turn : Turn) (after : Booted)
-    → IsTurnBy coming lib before turn after → PrecludesStep turn → IsHeld after.coming
+    → IsTurnBy coming lib before turn after → PrecludesStep turn → IsNoStep after.coming
 after_interrupt Step lib before turn after h interrupts =
     step_held before.loaded lib.catalog.frames before turn after h interrupts
 after_interrupt (Link at) lib before turn after h interrupts =
@@ -233,7 +233,7 @@ console_no_step false (Ok text) before turn after h step = subst IsStep h.0 step
 
 no_step :
     (coming : NextEvent) (lib : Library) (before : Booted) (turn : Turn) (after : Booted)
-    → IsTurnBy coming lib before turn after → IsHeld coming → IsStep turn → ⊥
+    → IsTurnBy coming lib before turn after → IsNoStep coming → IsStep turn → ⊥
 no_step Step lib before turn after h held step = held
 no_step (Link at) lib before turn after h held step =
     link_no_step _ lib.catalog.frames at before turn after h step

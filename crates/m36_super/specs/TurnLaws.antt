@@ -12,22 +12,22 @@ use Rattle.m36_step.specs.declared.turns.Turn.{Turn}
 use Rattle.m36_step.specs.declared.turns.Turn.TheVariants.{Stepped, Linked, Console, Ended, Full}
 use Rattle.m36_step.specs.declared.turns.Turn.TheVariants.{NoMemory}
 use Rattle.m36_super.specs.Library.{Library}
-use Rattle.m36_super.specs.NextEvent.{loads, loaded_after}
+use Rattle.m36_super.specs.NextEvent.{executed_ldbr, loaded_after}
 use Rattle.m36_super.specs.FlatRun.{flat_turn, flat_turns}
 use Rattle.m36_super.specs.BootedRun.{Booted, IsTurn, AreTurns, LaidOutUntilLdbr, flat_run_of}
 
 -- A step counts as loading the DBR exactly if it executes an LDBR.
 abbrev pub LoadsLaw : Type 0
-LoadsLaw = (e : StepRecord) → (loads e.word e.outcome ≡ true) ↔ ExecutesLdbr e
+LoadsLaw = (e : StepRecord) → (executed_ldbr e.word e.outcome ≡ true) ↔ ExecutesLdbr e
 
 -- the turn executes ABSA
-abbrev pub LocatesInTurn : Turn → Type 0
-LocatesInTurn (Stepped e) = ExecutesAbsa e
-LocatesInTurn (Linked note) = ⊥
-LocatesInTurn (Console text) = ⊥
-LocatesInTurn (Ended e) = ⊥
-LocatesInTurn Full = ⊥
-LocatesInTurn NoMemory = ⊥
+abbrev pub TurnExecutesAbsa : Turn → Type 0
+TurnExecutesAbsa (Stepped e) = ExecutesAbsa e
+TurnExecutesAbsa (Linked note) = ⊥
+TurnExecutesAbsa (Console text) = ⊥
+TurnExecutesAbsa (Ended e) = ⊥
+TurnExecutesAbsa Full = ⊥
+TurnExecutesAbsa NoMemory = ⊥
 
 -- the turn and the state after it are those of the flat run
 pub record IsFlatTurn (lib : Library) (before : Booted) (turn : Turn)
@@ -37,19 +37,19 @@ pub record IsFlatTurn (lib : Library) (before : Booted) (turn : Turn)
 
 -- Until an LDBR is executed, a turn is that of the flat run, or runs out of memory, or executes
 -- ABSA, and then the turn of the flat run does too. The core stays laid out as that of the image.
-pub record IsTurnKept (lib : Library) (before : Booted) (turn : Turn)
+pub record ObeysTurnLaw (lib : Library) (before : Booted) (turn : Turn)
     (after : Booted) : Type 0 where
   pub cases :
-      IsFlatTurn lib before turn after ⊎ ((turn ≡ NoMemory) × (after ≡ before)) ⊎ LocatesInTurn turn
-  pub locates : LocatesInTurn turn → LocatesInTurn (flat_turn lib (flat_run_of before)).turn
+      IsFlatTurn lib before turn after ⊎ ((turn ≡ NoMemory) × (after ≡ before)) ⊎ TurnExecutesAbsa turn
+  pub locates : TurnExecutesAbsa turn → TurnExecutesAbsa (flat_turn lib (flat_run_of before)).turn
   pub stands : LaidOutUntilLdbr after.loaded lib.catalog.frames after.state
 
--- Each turn before an LDBR is executed satisfies `IsTurnKept`.
+-- Each turn before an LDBR is executed satisfies `ObeysTurnLaw`.
 abbrev pub TurnLaw : Type 0
 TurnLaw =
     (lib : Library) (before : Booted) (turn : Turn) (after : Booted) → before.loaded ≡ false
     → LaidOutUntilLdbr false lib.catalog.frames before.state → IsTurn lib before turn after
-    → IsTurnKept lib before turn after
+    → ObeysTurnLaw lib before turn after
 
 -- A turn keeps the audit conditions until an LDBR is executed.
 abbrev pub TurnAuditLaw : Type 0
@@ -69,8 +69,8 @@ IsPlainTurn Full = Unit {0}
 IsPlainTurn NoMemory = ⊥
 
 -- If all turns of a booted run are plain, they are those of the flat run, which has no frames.
-abbrev pub FunctionLaw : Type 0
-FunctionLaw =
+abbrev pub PlainTurnsLaw : Type 0
+PlainTurnsLaw =
     (lib : Library) (turns : List Turn) (r last : Booted) → r.loaded ≡ false
     → LaidOutUntilLdbr false lib.catalog.frames r.state → AreTurns lib r turns last → Each IsPlainTurn turns
     → turns ≡ flat_turns lib (flat_run_of r) (length turns)

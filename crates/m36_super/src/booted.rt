@@ -67,7 +67,7 @@ impl Model for Super {
 impl Super {
     /// The system at its start, from the parts of a booted image: the next turn is a step, and no
     /// LDBR has been executed.
-    pub(crate) fn at_start(
+    pub(crate) fn system_at_start(
         alloc: Global,
         machine: Machine,
         pager: Pager,
@@ -233,12 +233,12 @@ impl Super {
 }
 
 impl Stepper for Super {
-    ghost use Rattle.m36_super.specs.SuperTurn.{SuperTurns, SuperWent, super_content};
+    ghost use Rattle.m36_super.specs.SuperTurn.{SuperTurns, SuperBack, super_content};
     ghost use Rattle.m36_super.specs.SuperTurn.{super_stays, super_apart, super_interrupted};
 
     ghost next = { λ before turn later. SuperTurns before turn later };
 
-    ghost went = { λ before n answer later. SuperWent before n answer later };
+    ghost went = { λ before n answer later. SuperBack before n answer later };
 
     ghost regs = { λ s. s.regs };
 

@@ -6,10 +6,10 @@ ghost use Rattle.m36_boot.specs.Segments.{is_short, AreShort};
 ghost use Rattle.m36_boot.specs.Image.{IsRunnable};
 ghost use Rattle.m36_boot.specs.Start.{start_answer};
 ghost use Rattle.m36_link.specs.Known.{nothing_known};
-ghost use Rattle.m36_link.specs.Accepted.{accepted};
+ghost use Rattle.m36_link.specs.Accepted.{known_after};
 ghost use Rattle.m36_link.specs.Laws.{IsConsistent};
-ghost use Rattle.m36_page.specs.Residence.{Reads};
-ghost use Rattle.m36_super.specs.BootSays.{BootSays, at_start};
+ghost use Rattle.m36_page.specs.Residence.{AgreesWithCore};
+ghost use Rattle.m36_super.specs.BootResult.{BootResult, system_at_start};
 
 use crate::booted::Super;
 use m36_boot::{BootFault, Image, lay};
@@ -56,7 +56,7 @@ fn known_of(
     snap: &Snap,
 ) -> Result<Known, NoMemory>
     requires { start_answer catalog.now files.now ≡ Ok snap.now }
-    ensures known { IfOk result (λ known. known ≡ accepted nothing_known snap.now) }
+    ensures known { IfOk result (λ known. known ≡ known_after nothing_known snap.now) }
     ensures made { IfOk result (IsConsistent catalog.now files.now) }
 {
     link_laws();
@@ -68,7 +68,7 @@ fn known_of(
 // The system that an image starts, with the names and sections that the answer to its link makes
 // known.
 #[tactic(auto, using(crate::proofs::BootTurns::image_runs))]
-fn started(
+fn system_of_image(
     alloc: Global,
     catalog: Catalog,
     files: Vec<File>,
@@ -77,9 +77,9 @@ fn started(
     requires files { length files.items ≡ length catalog.segments }
     requires answer { start_answer catalog files.items ≡ Ok image.snap }
     requires runnable { IsRunnable catalog.frames image }
-    requires reads { Reads image.pager image.core }
+    requires reads { AgreesWithCore image.pager image.core }
     ensures { IfOk result
-        (λ s. s ≡ at_start (record { catalog = catalog; files = files.items }) image) }
+        (λ s. s ≡ system_at_start (record { catalog = catalog; files = files.items }) image) }
 {
     let known = known_of(alloc, &catalog, files.as_slice(), &image.snap)?;
     let Image {
@@ -89,7 +89,7 @@ fn started(
         ..
     } = image;
     let machine = Machine::start(core, regs);
-    Ok(Super::at_start(alloc, machine, pager, known, catalog, files))
+    Ok(Super::system_at_start(alloc, machine, pager, known, catalog, files))
 }
 
 impl Super {
@@ -99,10 +99,10 @@ impl Super {
     pub fn boot(alloc: Global, catalog: Catalog, words: Vec<Words>) -> Result<Super, BootFault>
         requires files { length words.items ≡ length catalog.segments }
         requires short { AreShort words.items }
-        ensures says { BootSays (record { catalog = catalog; files = words.items }) result }
+        ensures says { BootResult (record { catalog = catalog; files = words.items }) result }
     {
         let files = files_of(alloc, words)?;
         let image = lay(alloc, &catalog, files.as_slice())?;
-        Ok(started(alloc, catalog, files, image)?)
+        Ok(system_of_image(alloc, catalog, files, image)?)
     }
 }

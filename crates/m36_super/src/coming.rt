@@ -2,7 +2,7 @@
 
 ghost use Rattle.std.specs.Prelude.{ℕ, ◌≡◌, false, Some};
 ghost use Rattle.m36_model.specs.Step.{decode};
-ghost use Rattle.m36_super.specs.NextEvent.{is_ldbr, loads, loaded_after, coming_in, coming_on, coming_after};
+ghost use Rattle.m36_super.specs.NextEvent.{is_ldbr, executed_ldbr, loaded_after, event_after_known_fault, event_after_fault, event_after_outcome};
 
 use m36_inst::{Effect, Inst, row};
 use m36_model::{At, End, Fault, Outcome, StepRecord};
@@ -50,8 +50,8 @@ fn loads_dbr(effect: Effect) -> bool
 }
 
 // Whether a step has executed an LDBR.
-fn loads(told: &StepRecord) -> bool
-    ensures { result ≡ loads told.now.word told.now.outcome }
+fn executed_ldbr(told: &StepRecord) -> bool
+    ensures { result ≡ executed_ldbr told.now.word told.now.outcome }
 {
     match (told.word, told.outcome) {
         (Some(word), Outcome::Next) => is_ldbr(word),
@@ -63,12 +63,12 @@ fn loads(told: &StepRecord) -> bool
 pub(crate) fn loaded_after(loaded: bool, told: &StepRecord) -> bool
     ensures { result ≡ loaded_after loaded told.now }
 {
-    loaded || loads(told)
+    loaded || executed_ldbr(told)
 }
 
 // The next turn after a fault in this ring, if no LDBR has been executed.
-fn coming_in(ring: u8, fault: Fault) -> NextEvent
-    ensures { result ≡ coming_on false ring fault }
+fn event_after_known_fault(ring: u8, fault: Fault) -> NextEvent
+    ensures { result ≡ event_after_fault false ring fault }
 {
     if fault.number == FAULT_TAG_2 {
         NextEvent::Link(fault.at)
@@ -81,8 +81,8 @@ fn coming_in(ring: u8, fault: Fault) -> NextEvent
 
 /// The next turn after a step with this outcome. `ring` is the ring in which its instruction was
 /// executed, and `loaded` whether an LDBR has been executed, in this step or before it.
-pub(crate) fn coming_after(loaded: bool, ring: u8, outcome: Outcome) -> NextEvent
-    ensures { result ≡ coming_after loaded ring outcome }
+pub(crate) fn event_after_outcome(loaded: bool, ring: u8, outcome: Outcome) -> NextEvent
+    ensures { result ≡ event_after_outcome loaded ring outcome }
 {
     match outcome {
         Outcome::Next => NextEvent::Step,
@@ -91,7 +91,7 @@ pub(crate) fn coming_after(loaded: bool, ring: u8, outcome: Outcome) -> NextEven
             if loaded {
                 NextEvent::Over(End::Fault(fault))
             } else {
-                coming_in(ring, fault)
+                event_after_known_fault(ring, fault)
             }
         }
     }

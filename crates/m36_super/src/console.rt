@@ -2,7 +2,7 @@
 
 ghost use Rattle.std.specs.Prelude.{◌≡◌, ◌≤◌, ◌<◌, ◌+◌, ◌*◌, ◌/◌, ◌++◌, ◌==◌, Bool, length, Ok, Err, MatchResult};
 ghost use Rattle.m36_model.specs.Flat.{flat_store};
-ghost use Rattle.m36_model.specs.Store.{fault_by, examined};
+ghost use Rattle.m36_model.specs.Store.{fault_by, examined_reply};
 ghost use Rattle.m36_model.specs.Place.{core_sdw};
 ghost use Rattle.m36_model.specs.BootedCore.{booted_dbr};
 ghost use Rattle.m36_link.specs.Fields.{KnownFields};
@@ -11,7 +11,7 @@ ghost use Rattle.m36_super.specs.Services.{console_limit, console_word_limit, as
 ghost use Rattle.m36_super.specs.Services.{console_at, console_words, console_text};
 ghost use Rattle.m36_super.specs.SuperFields.{run_of, IsManaged, IsRunning};
 ghost use Rattle.m36_super.specs.Writing.{flat_by};
-ghost use Rattle.m36_super.specs.Examining.{ExaminedSays};
+ghost use Rattle.m36_super.specs.Examining.{ExaminedResult};
 
 use crate::coming::NextEvent;
 use crate::content::found_word;
@@ -21,7 +21,7 @@ use m36_desc::{Acv, Sdw, may_read};
 use m36_model::{At, End, Fault, Refusal, Regs};
 use m36_page::Pager;
 use m36_step::{ConsoleNote, Machine, Turn};
-use m36_tables::{descriptor, violation, within};
+use m36_tables::{descriptor, violation, is_within_bound};
 use m36_word::Word;
 
 // The maximum number of characters that a console service writes.
@@ -58,13 +58,13 @@ fn described_word(core: &Core, pager: &Pager, regs: &Regs, sdw: &Sdw, at: At) ->
     requires managed { IsManaged (length pager.now.holders) core.now pager.now }
     requires dbr { regs.now.dbr ≡ booted_dbr }
     requires live { core_sdw core.now booted_dbr at.seg ≡ Ok sdw.now }
-    ensures { ExaminedSays result (examined flat_store regs.now (flat_by core.now pager.now) at) }
+    ensures { ExaminedResult result (examined_reply flat_store regs.now (flat_by core.now pager.now) at) }
 {
     let same = is_executing(regs, at);
     if let Err(Acv(acv)) = may_read(sdw, at.ring, same) {
         return Err(fault(violation(acv), at));
     }
-    if !within(sdw, at.word) {
+    if !is_within_bound(sdw, at.word) {
         return Err(fault(violation(OUT_OF_SEGMENT_BOUNDS), at));
     }
     Ok(found_word(core, pager, sdw, at.seg, at.word))
@@ -73,10 +73,10 @@ fn described_word(core: &Core, pager: &Pager, regs: &Regs, sdw: &Sdw, at: At) ->
 // The word at an address, by the rules of access, wherever its page is; or the fault of reading it.
 // No mark of a page table word is set.
 #[tactic(auto, using(crate::proofs::ConsoleReads::dead_word))]
-fn examined(core: &Core, pager: &Pager, regs: &Regs, at: At) -> Result<Word, Fault>
+fn examined_reply(core: &Core, pager: &Pager, regs: &Regs, at: At) -> Result<Word, Fault>
     requires managed { IsManaged (length pager.now.holders) core.now pager.now }
     requires dbr { regs.now.dbr ≡ booted_dbr }
-    ensures { ExaminedSays result (examined flat_store regs.now (flat_by core.now pager.now) at) }
+    ensures { ExaminedResult result (examined_reply flat_store regs.now (flat_by core.now pager.now) at) }
 {
     match descriptor(core, regs.dbr, at.seg) {
         Ok(sdw) => described_word(core, pager, regs, &sdw, at),
@@ -85,7 +85,7 @@ fn examined(core: &Core, pager: &Pager, regs: &Regs, at: At) -> Result<Word, Fau
 }
 
 // The byte that is written for a character of nine bits.
-fn written(character: u64) -> u8
+fn console_byte(character: u64) -> u8
     ensures { result ≡ written_character character }
 {
     if character < 128 {
@@ -103,10 +103,10 @@ fn put_characters(text: &mut ArrayVec<u8, 256>, word: Word)
 {
     let v = word.value();
     let four = [
-        written(v >> 27),
-        written((v >> 18) % 512),
-        written((v >> 9) % 512),
-        written(v % 512),
+        console_byte(v >> 27),
+        console_byte((v >> 18) % 512),
+        console_byte((v >> 9) % 512),
+        console_byte(v % 512),
     ];
     match text.try_extend_from_slice(&four) {
         Ok(()) => {}
@@ -115,7 +115,7 @@ fn put_characters(text: &mut ArrayVec<u8, 256>, word: Word)
 }
 
 // The address of word k of the text, which begins at PR2, with the ring of PR2.
-fn place(regs: &Regs, k: u32) -> At
+fn text_address(regs: &Regs, k: u32) -> At
     requires { k ≤ console_word_limit }
     ensures { result ≡ console_at regs.now k }
 {
@@ -147,7 +147,7 @@ fn text_words(
     let mut k = 0;
     let mut left = count;
     while left > 0 {
-        let word = match examined(core, pager, regs, place(regs, k)) {
+        let word = match examined_reply(core, pager, regs, text_address(regs, k)) {
             Ok(word) => word,
             Err(fault) => return Err(fault),
         };
@@ -175,7 +175,7 @@ fn text(core: &Core, pager: &Pager, regs: &Regs, count: u32) -> Result<ConsoleNo
 }
 
 // Ends the run in this way: returns the turn that reports the end, which is also the next turn.
-fn ends(coming: &mut NextEvent, end: &End) -> Turn
+fn end_run(coming: &mut NextEvent, end: &End) -> Turn
     ensures turn { result ≡ Turn.Ended end.now }
     ensures coming { coming.new ≡ NextEvent.Over end.now }
 {
@@ -200,7 +200,7 @@ pub(crate) fn print(machine: &mut Machine, pager: &Pager, coming: &mut NextEvent
     let regs = machine.regs();
     let count = regs.a.value();
     if count > MOST_CHARACTERS {
-        return ends(coming, &End::Console);
+        return end_run(coming, &End::Console);
     }
     match text(machine.walk().core(), pager, regs, count as u32) {
         Ok(note) => {
@@ -208,6 +208,6 @@ pub(crate) fn print(machine: &mut Machine, pager: &Pager, coming: &mut NextEvent
             *coming = NextEvent::Step;
             Turn::Console(note)
         }
-        Err(fault) => ends(coming, &End::Fault(fault)),
+        Err(fault) => end_run(coming, &End::Fault(fault)),
     }
 }

@@ -5,7 +5,7 @@ ghost use Rattle.m36_model.specs.Flat.{flat_store};
 ghost use Rattle.m36_model.specs.Place.{core_sdw};
 ghost use Rattle.m36_model.specs.BootedCore.{booted_dbr};
 ghost use Rattle.m36_model.specs.Sight.{content_in};
-ghost use Rattle.m36_model.specs.Store.{within};
+ghost use Rattle.m36_model.specs.Store.{is_within_bound};
 ghost use Rattle.m36_page.specs.Residence.{content_of};
 ghost use Rattle.m36_super.specs.SuperFields.{IsManaged, IsRunning};
 ghost use Rattle.m36_super.specs.Writing.{flat_by};
@@ -14,7 +14,7 @@ use m36_core::Core;
 use m36_desc::Sdw;
 use m36_page::Pager;
 use m36_step::Machine;
-use m36_tables::{descriptor, in_order, within};
+use m36_tables::{descriptor, has_ordered_brackets, is_within_bound};
 use m36_word::Word;
 
 /// A word within the bound of a segment with this descriptor.
@@ -22,7 +22,7 @@ use m36_word::Word;
 pub(crate) fn found_word(core: &Core, pager: &Pager, sdw: &Sdw, seg: u16, word: u32) -> Word
     requires managed { IsManaged (length pager.now.holders) core.now pager.now }
     requires live { core_sdw core.now booted_dbr seg ≡ Ok sdw.now }
-    requires inside { within sdw.now word ≡ true }
+    requires inside { is_within_bound sdw.now word ≡ true }
     ensures { content_of pager.now core.now seg word ≡ Some result }
 {
     match pager.content(core, seg, word) {
@@ -38,10 +38,10 @@ fn placed_word(core: &Core, pager: &Pager, sdw: &Sdw, seg: u16, word: u32) -> Op
     requires live { core_sdw core.now booted_dbr seg ≡ Ok sdw.now }
     ensures { result ≡ content_in flat_store (flat_by core.now pager.now) booted_dbr seg word }
 {
-    if !in_order(sdw) {
+    if !has_ordered_brackets(sdw) {
         return None;
     }
-    if !within(sdw, word) {
+    if !is_within_bound(sdw, word) {
         return None;
     }
     Some(found_word(core, pager, sdw, seg, word))

@@ -41,7 +41,7 @@ mod linking;
 mod naming;
 mod stepping;
 
-ghost use Rattle.m36_super.specs.TurnLaws.{LoadsLaw, TurnLaw, TurnAuditLaw, FunctionLaw};
+ghost use Rattle.m36_super.specs.TurnLaws.{LoadsLaw, TurnLaw, TurnAuditLaw, PlainTurnsLaw};
 ghost use Rattle.m36_super.specs.SuperFields.{PagingLaw, StepManagedLaw};
 ghost use Rattle.m36_super.specs.LayingLaw.{LayingLaw};
 ghost use Rattle.m36_super.specs.ConsoleLaw.{ConsoleCounts};
@@ -56,10 +56,10 @@ pub use coming::NextEvent;
 /// executes ABSA or LDBR, or runs out of memory, are those of the flat run, which has no frames. A
 /// step counts as loading the descriptor segment base register exactly if it executes an LDBR.
 pub fn law_turn()
-    ensures loads { LoadsLaw }
+    ensures executed_ldbr { LoadsLaw }
     ensures turn { TurnLaw }
     ensures audit { TurnAuditLaw }
-    ensures function { FunctionLaw }
+    ensures function { PlainTurnsLaw }
 {}
 
 /// A call of the pager that keeps all content moves pages of the booted image, and the pager and

@@ -4,10 +4,10 @@ ghost use Rattle.std.specs.Prelude.{◌≡◌, ◌≤◌, ◌<◌, ◌+◌, ◌^
 ghost use Rattle.obj36_parts.specs.ObjectSegment.{segment_limit};
 ghost use Rattle.m36_link.specs.Known.{linkage_segment};
 ghost use Rattle.m36_link.specs.Snap.{snap_of};
-ghost use Rattle.m36_link.specs.Accepted.{accepted, MayBeLaid};
+ghost use Rattle.m36_link.specs.Accepted.{known_after, MayBeLaid};
 ghost use Rattle.m36_link.specs.Laws.{IsConsistent};
 ghost use Rattle.m36_super.specs.BootedRun.{IsLinkTurn, link_turn};
-ghost use Rattle.m36_super.specs.Laying.{written_from, laying};
+ghost use Rattle.m36_super.specs.Laying.{written_from, section_changes};
 ghost use Rattle.m36_super.specs.Services.{link_changes, note_snapped, note_of};
 ghost use Rattle.m36_super.specs.SuperFields.{run_of, IsManaged, IsRunning};
 ghost use Rattle.m36_super.specs.Writing.{ArePut};
@@ -35,8 +35,8 @@ fn write_word(machine: &mut Machine, pager: &mut Pager, ring: u8, word: u32, w: 
     ensures regs { machine.new.state.regs ≡ machine.old.state.regs }
 {
     let seg = FIRST_LINKAGE + ring as u16;
-    match pager.place(machine.walk().core(), seg, word) {
-        Some(place) => machine.store(place, w),
+    match pager.text_address(machine.walk().core(), seg, word) {
+        Some(text_address) => machine.store(text_address, w),
         None => pager.set_kept(machine.walk().core(), seg, word, w),
     }
 }
@@ -64,7 +64,7 @@ fn write_section(machine: &mut Machine, pager: &mut Pager, lay: &NewSection)
     requires managed { IsManaged (length pager.old.holders) machine.old.state.store pager.old }
     requires fits { lay.now.base + length lay.now.words ≤ segment_limit }
     ensures put { ArePut machine.old.state.store pager.old machine.new.state.store pager.new
-        (laying (Some lay.now)) }
+        (section_changes (Some lay.now)) }
     ensures regs { machine.new.state.regs ≡ machine.old.state.regs }
 {
     write_words(machine, pager, lay.ring, lay.base, lay.words.slice());
@@ -73,11 +73,11 @@ fn write_section(machine: &mut Machine, pager: &mut Pager, lay: &NewSection)
 
 // Writes the linkage section that an answer lays, if it lays one.
 #[tactic(auto, using(crate::proofs::LinkTurns::put_nothing))]
-fn write_lay(machine: &mut Machine, pager: &mut Pager, lay: &Option<NewSection>)
+fn write_section_if_any(machine: &mut Machine, pager: &mut Pager, lay: &Option<NewSection>)
     requires managed { IsManaged (length pager.old.holders) machine.old.state.store pager.old }
     requires fits { IfSome lay.now (λ l. l.base + length l.words ≤ segment_limit) }
     ensures put { ArePut machine.old.state.store pager.old machine.new.state.store pager.new
-        (laying lay.now) }
+        (section_changes lay.now) }
     ensures regs { machine.new.state.regs ≡ machine.old.state.regs }
 {
     match lay {
@@ -105,7 +105,7 @@ fn write_changes(machine: &mut Machine, pager: &mut Pager, at: At, snap: &Snap)
         at.word,
         &[snap.pair.even, snap.pair.odd],
     );
-    write_lay(machine, pager, &snap.lay);
+    write_section_if_any(machine, pager, &snap.lay);
 }
 
 // The note of a link that was snapped.
@@ -136,8 +136,8 @@ fn note_refused(at: At, code: LinkCode, link: Option<&Link>) -> LinkNote
 
 // Completes the service of the link at `at`, which resolves to `snap`: makes known what it adds,
 // and writes its changes. If memory runs out, nothing has changed.
-#[tactic(auto, using(crate::proofs::LinkTurns::snapped))]
-fn snapped(
+#[tactic(auto, using(crate::proofs::LinkTurns::complete_snap))]
+fn complete_snap(
     machine: &mut Machine,
     pager: &mut Pager,
     known: &mut Known,
@@ -156,7 +156,7 @@ fn snapped(
     ensures frames { length pager.new.holders ≡ length pager.old.holders }
     ensures runs { IsRunning (length pager.new.holders) machine.new.state.regs
         machine.new.state.store pager.new }
-    ensures known { (known.new ≡ accepted known.old snap.now) ⊎ (known.new ≡ known.old) }
+    ensures known { (known.new ≡ known_after known.old snap.now) ⊎ (known.new ≡ known.old) }
 {
     match known.accept(snap) {
         Ok(()) => {
@@ -196,7 +196,7 @@ pub(crate) fn link(
 {
     link_laws();
     match known.resolve(alloc, catalog, files, at) {
-        Ok(snap) => snapped(machine, pager, known, coming, at, &snap),
+        Ok(snap) => complete_snap(machine, pager, known, coming, at, &snap),
         Err(LinkFault::Refused(code, link)) => {
             *coming = NextEvent::Over(End::Link(code));
             Ok(note_refused(at, code, link.as_ref()))

@@ -3,13 +3,13 @@
 ghost use Rattle.std.specs.Prelude.{◌≡◌, ◌≤◌, ◌<◌, ◌/◌, length, true};
 ghost use Rattle.m36_isol.specs.References.{references_of_a_step};
 ghost use Rattle.m36_link.specs.Fields.{KnownFields};
-ghost use Rattle.m36_page.specs.Residence.{has_page, Reads, IsPager};
+ghost use Rattle.m36_page.specs.Residence.{has_page, AgreesWithCore, IsPager};
 ghost use Rattle.m36_page.specs.Changes.{IsBrought};
 ghost use Rattle.m36_super.specs.BootedRun.{IsStepTurn};
 ghost use Rattle.m36_super.specs.SuperFields.{run_of, IsManaged, IsRunning, RunningUntilLdbr, NoServiceAfterLdbr};
-ghost use Rattle.m36_super.specs.Stepping.{LackedSays, AttemptSays, IsStepped, StepSays};
+ghost use Rattle.m36_super.specs.Stepping.{AbsentWordResult, AttemptResult, IsStepped, StepContract};
 
-use crate::coming::{NextEvent, coming_after, loaded_after};
+use crate::coming::{NextEvent, event_after_outcome, loaded_after};
 use m36_model::{At, Fault, Outcome, Refs, StepRecord};
 use m36_page::{Pager, Pinned};
 use m36_step::{Machine, Turn};
@@ -24,8 +24,8 @@ const PAGE_FAULT: u8 = 17;
 const PAGE: u32 = 1024;
 
 // The address of the word whose page was absent, if this fault is a page fault.
-fn lacked_by(fault: Fault) -> Option<At>
-    ensures { LackedSays (Outcome.Faulted fault) result }
+fn absent_word_of_fault(fault: Fault) -> Option<At>
+    ensures { AbsentWordResult (Outcome.Faulted fault) result }
 {
     if fault.number == PAGE_FAULT {
         Some(fault.at)
@@ -36,10 +36,10 @@ fn lacked_by(fault: Fault) -> Option<At>
 
 // The address of the word whose page was absent, if a step with this outcome lacked a page.
 fn lacked(outcome: Outcome) -> Option<At>
-    ensures { LackedSays outcome result }
+    ensures { AbsentWordResult outcome result }
 {
     match outcome {
-        Outcome::Faulted(fault) => lacked_by(fault),
+        Outcome::Faulted(fault) => absent_word_of_fault(fault),
         Outcome::Next => None,
         Outcome::Stopped(_) => None,
     }
@@ -47,14 +47,14 @@ fn lacked(outcome: Outcome) -> Option<At>
 
 // Brings the page of a word into a frame that holds no page of these references.
 #[tactic(auto, using(crate::proofs::PagedContents::has_frames))]
-fn bring_in(machine: &mut Machine, pager: &mut Pager, at: At, refs: &Refs)
+fn bring_page_in(machine: &mut Machine, pager: &mut Pager, at: At, refs: &Refs)
     requires managed { IsManaged (length pager.old.holders) machine.old.state.store pager.old }
     requires page { has_page pager.old at.seg (at.word / 1024) ≡ true }
     requires few { length refs.now.items ≤ references_of_a_step }
     ensures regs { machine.new.state.regs ≡ machine.old.state.regs }
     ensures brought { IsBrought pager.old machine.old.state.store pager.new
         machine.new.state.store at.seg (at.word / 1024) refs.now.items }
-    ensures reads { Reads pager.new machine.new.state.store }
+    ensures reads { AgreesWithCore pager.new machine.new.state.store }
     ensures pager { IsPager pager.new }
 {
     match pager.bring(machine.core_mut(), at.seg, (at.word / PAGE) as u16, refs) {
@@ -66,15 +66,15 @@ fn bring_in(machine: &mut Machine, pager: &mut Pager, at: At, refs: &Refs)
 // Takes a step. If it lacks a page, brings the page in and returns true: the step has to be
 // retried.
 #[tactic(auto, using(crate::proofs::PageTurns::attempts))]
-fn attempt(machine: &mut Machine, pager: &mut Pager, told: &mut StepRecord) -> bool
+fn try_step(machine: &mut Machine, pager: &mut Pager, told: &mut StepRecord) -> bool
     requires { IsRunning (length pager.old.holders) machine.old.state.regs machine.old.state.store
         pager.old }
-    ensures { AttemptSays result machine.old.state pager.old machine.new.state pager.new told.new }
+    ensures { AttemptResult result machine.old.state pager.old machine.new.state pager.new told.new }
 {
     machine.step_into(told);
     match lacked(told.outcome) {
         Some(at) => {
-            bring_in(machine, pager, at, &told.refs);
+            bring_page_in(machine, pager, at, &told.refs);
             true
         }
         None => false,
@@ -91,7 +91,7 @@ fn step_with_pages(machine: &mut Machine, pager: &mut Pager, told: &mut StepReco
 {
     let mut left = MOST_PAGES;
     while left > 0 {
-        if !attempt(machine, pager, told) {
+        if !try_step(machine, pager, told) {
             return;
         }
         left -= 1;
@@ -104,7 +104,7 @@ fn step_with_pages(machine: &mut Machine, pager: &mut Pager, told: &mut StepReco
 fn step_into(machine: &mut Machine, pager: &mut Pager, loaded: bool, told: &mut StepRecord)
     requires { RunningUntilLdbr loaded (length pager.old.holders) machine.old.state.regs
         machine.old.state.store pager.old }
-    ensures { StepSays loaded machine.old.state pager.old machine.new.state pager.new told.new }
+    ensures { StepContract loaded machine.old.state pager.old machine.new.state pager.new told.new }
 {
     if loaded {
         machine.step_into(told);
@@ -134,6 +134,6 @@ pub(crate) fn step_told(
 {
     step_into(machine, pager, *loaded, told);
     let now = loaded_after(*loaded, told);
-    *coming = coming_after(now, told.ppr.prr, told.outcome);
+    *coming = event_after_outcome(now, told.ppr.prr, told.outcome);
     *loaded = now;
 }

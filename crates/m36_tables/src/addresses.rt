@@ -1,8 +1,8 @@
 //! Addresses of table words, and the lengths of tables and segments.
 
 ghost use Rattle.std.specs.Prelude.{◌≡◌, ◌<◌, ◌^◌};
-ghost use Rattle.m36_model.specs.Place.{wrapped, directory_at, page_at};
-ghost use Rattle.m36_model.specs.Store.{within};
+ghost use Rattle.m36_model.specs.Place.{wrapped_address, directory_at, page_at};
+ghost use Rattle.m36_model.specs.Store.{is_within_bound};
 ghost use Rattle.m36_tables.specs.Tables.{IsSegmentCount};
 
 use m36_desc::{Dbr, Sdw};
@@ -12,8 +12,8 @@ pub const SEGMENTS: u16 = 1 << 15;
 
 /// An address modulo 2^24, since sums of addresses wrap.
 #[inline(always)]
-pub fn wrapped(a: u32) -> u32
-    ensures value { result ≡ wrapped a }
+pub fn wrapped_address(a: u32) -> u32
+    ensures value { result ≡ wrapped_address a }
     ensures bound { result < 2 ^ 24 }
 {
     a % (1 << 24)
@@ -40,7 +40,7 @@ pub fn directory_at(dbr: Dbr, seg: u16) -> u32
     ensures value { result ≡ directory_at dbr seg }
     ensures bound { result < 2 ^ 24 }
 {
-    wrapped(dbr.addr + 2 * seg as u32 / 1024)
+    wrapped_address(dbr.addr + 2 * seg as u32 / 1024)
 }
 
 /// The address of a segment's page table word for page `page`.
@@ -50,13 +50,13 @@ pub fn page_at(sdw: &Sdw, page: u32) -> u32
     ensures value { result ≡ page_at sdw.now page }
     ensures bound { result < 2 ^ 24 }
 {
-    wrapped(sdw.addr + page)
+    wrapped_address(sdw.addr + page)
 }
 
 /// Whether word `word` is within the bound of its segment.
 #[inline(always)]
-pub fn within(sdw: &Sdw, word: u32) -> bool
-    ensures { result ≡ within sdw.now word }
+pub fn is_within_bound(sdw: &Sdw, word: u32) -> bool
+    ensures { result ≡ is_within_bound sdw.now word }
 {
     word / 16 <= sdw.bound as u32
 }

@@ -2,12 +2,12 @@
 
 ghost use Rattle.std.specs.Prelude.{◌≡◌, ◌<◌, ◌^◌, IfOk, OnOk, Ok, length};
 ghost use Rattle.m36_desc.specs.Descriptors.{sdw_of};
-ghost use Rattle.m36_model.specs.Place.{directory_at, in_bounds, sdw_place, live_by, sdw_at, core_sdw};
-ghost use Rattle.m36_tables.specs.Tables.{TableIn};
+ghost use Rattle.m36_model.specs.Place.{directory_at, has_descriptor_in_bounds, sdw_place, live_by, sdw_at, core_sdw};
+ghost use Rattle.m36_tables.specs.Tables.{TableWordIsInCore};
 
-use crate::addresses::{directory_at, wrapped};
-use crate::pages::{in_frame, page_table_word};
-use crate::refusals::{directed, store_fault, violation};
+use crate::addresses::{directory_at, wrapped_address};
+use crate::pages::{address_in_frame, page_table_word};
+use crate::refusals::{directed_refusal, store_fault, violation};
 use m36_core::Core;
 use m36_desc::{Dbr, Sdw};
 use m36_model::Refusal;
@@ -15,9 +15,9 @@ use m36_word::Pair;
 
 /// Whether the descriptor of segment `seg` is within the bound of the descriptor segment.
 #[inline(always)]
-fn in_bounds(dbr: Dbr, seg: u16) -> bool
+fn has_descriptor_in_bounds(dbr: Dbr, seg: u16) -> bool
     requires { seg < 2 ^ 15 }
-    ensures { result ≡ in_bounds dbr seg }
+    ensures { result ≡ has_descriptor_in_bounds dbr seg }
 {
     2 * (seg as u32) < 16 * (dbr.bnd as u32 + 1)
 }
@@ -28,16 +28,16 @@ fn in_bounds(dbr: Dbr, seg: u16) -> bool
 pub fn descriptor_place(core: &Core, dbr: Dbr, seg: u16) -> Result<u32, Refusal>
     requires { seg < 2 ^ 15 }
     ensures value { result ≡ sdw_place core.now dbr seg }
-    ensures directory { OnOk result (TableIn (length core.now) dbr.unpaged (directory_at dbr seg)) }
+    ensures directory { OnOk result (TableWordIsInCore (length core.now) dbr.unpaged (directory_at dbr seg)) }
     ensures bound { IfOk result (λ a. a < 2 ^ 24) }
 {
-    if !in_bounds(dbr, seg) {
+    if !has_descriptor_in_bounds(dbr, seg) {
         return Err(violation(15));
     }
     if dbr.unpaged {
-        return Ok(wrapped(dbr.addr + 2 * seg as u32));
+        return Ok(wrapped_address(dbr.addr + 2 * seg as u32));
     }
-    in_frame(
+    address_in_frame(
         page_table_word(core, directory_at(dbr, seg)),
         2 * seg as u32 % 1024,
     )
@@ -52,7 +52,7 @@ fn live(pair: Pair) -> Result<Sdw, Refusal>
     if sdw.f {
         Ok(sdw)
     } else {
-        Err(directed(sdw.fc))
+        Err(directed_refusal(sdw.fc))
     }
 }
 
@@ -63,7 +63,7 @@ fn descriptor_at(core: &Core, even: u32) -> Result<Sdw, Refusal>
     requires { even < 2 ^ 24 }
     ensures { result ≡ sdw_at core.now (Ok even) }
 {
-    let odd = wrapped(even + 1);
+    let odd = wrapped_address(even + 1);
     if even >= core.len() || odd >= core.len() {
         return Err(store_fault());
     }
@@ -79,7 +79,7 @@ fn descriptor_at(core: &Core, even: u32) -> Result<Sdw, Refusal>
 pub fn descriptor(core: &Core, dbr: Dbr, seg: u16) -> Result<Sdw, Refusal>
     requires { seg < 2 ^ 15 }
     ensures value { result ≡ core_sdw core.now dbr seg }
-    ensures directory { OnOk result (TableIn (length core.now) dbr.unpaged (directory_at dbr seg)) }
+    ensures directory { OnOk result (TableWordIsInCore (length core.now) dbr.unpaged (directory_at dbr seg)) }
 {
     descriptor_at(core, descriptor_place(core, dbr, seg)?)
 }

@@ -9,7 +9,7 @@
 //!   `descriptor_place` is the address of its two words, and `directory_at` that of the page table
 //!   word of the descriptor segment through which they are found.
 //! - `page_table_word` reads a page table word that is in core. `page_at` is the address of the
-//!   word for a page, and `page_frame` the address at which the page begins. `in_frame` is the
+//!   word for a page, and `page_frame` the address at which the page begins. `address_in_frame` is the
 //!   address of a word of a page, by a page table word that was read before.
 //! - `word_place` is the address of a word by the descriptor of its segment. `word_in_core` also
 //!   checks that this address is in core.
@@ -32,8 +32,8 @@ pub mod pages;
 pub mod places;
 pub mod refusals;
 
-pub use addresses::{SEGMENTS, directory_at, page_at, segment_count, within, wrapped};
+pub use addresses::{SEGMENTS, directory_at, page_at, segment_count, is_within_bound, wrapped_address};
 pub use descriptors::{descriptor, descriptor_place};
-pub use pages::{in_frame, page_frame, page_table_word};
-pub use places::{content, in_order, place, word_in_core, word_place};
-pub use refusals::{directed, store_fault, violation};
+pub use pages::{address_in_frame, page_frame, page_table_word};
+pub use places::{content, has_ordered_brackets, place, word_in_core, word_place};
+pub use refusals::{directed_refusal, store_fault, violation};

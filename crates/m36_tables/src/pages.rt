@@ -1,10 +1,10 @@
 //! Page table words, and the frames of pages.
 
 ghost use Rattle.std.specs.Prelude.{◌≡◌, ◌<◌, ◌^◌, IfOk, OnOk, OnSome, IsSome, length};
-ghost use Rattle.m36_model.specs.Place.{ptw_at, in_frame, page_at, page_frame};
+ghost use Rattle.m36_model.specs.Place.{ptw_at, address_in_frame, page_at, page_frame};
 
 use crate::addresses::page_at;
-use crate::refusals::{directed, store_fault};
+use crate::refusals::{directed_refusal, store_fault};
 use m36_core::Core;
 use m36_desc::{Ptw, Sdw};
 use m36_model::Refusal;
@@ -25,9 +25,9 @@ pub fn page_table_word(core: &Core, a: u32) -> Option<Ptw>
 /// The address of a word of a page by its page table word. A store fault if there is no such word,
 /// and its directed fault if its F is off.
 #[inline(always)]
-pub fn in_frame(ptw: Option<Ptw>, offset: u32) -> Result<u32, Refusal>
+pub fn address_in_frame(ptw: Option<Ptw>, offset: u32) -> Result<u32, Refusal>
     requires { offset < 1024 }
-    ensures value { result ≡ in_frame ptw offset }
+    ensures value { result ≡ address_in_frame ptw offset }
     ensures known { OnOk result (IsSome ptw) }
     ensures bound { IfOk result (λ a. a < 2 ^ 24) }
 {
@@ -37,7 +37,7 @@ pub fn in_frame(ptw: Option<Ptw>, offset: u32) -> Result<u32, Refusal>
             if p.f {
                 Ok(p.addr / 16 * 1024 + offset)
             } else {
-                Err(directed(p.fc))
+                Err(directed_refusal(p.fc))
             }
         }
     }
@@ -50,5 +50,5 @@ pub fn page_frame(core: &Core, sdw: &Sdw, page: u32) -> Result<u32, Refusal>
     ensures table { OnOk result (page_at sdw.now page < length core.now) }
     ensures bound { IfOk result (λ a. a < 2 ^ 24) }
 {
-    in_frame(page_table_word(core, page_at(sdw, page)), 0)
+    address_in_frame(page_table_word(core, page_at(sdw, page)), 0)
 }

@@ -1,17 +1,17 @@
 //! Where the words of a segment are in core, and their values.
 
 ghost use Rattle.std.specs.Prelude.{ℕ, ◌≡◌, ◌/◌, ◌<◌, ◌^◌, IfOk, OnOk, length};
-ghost use Rattle.m36_desc.specs.Access.{in_order};
+ghost use Rattle.m36_desc.specs.Access.{has_ordered_brackets};
 ghost use Rattle.m36_desc.specs.Fields.{DbrFields};
 ghost use Rattle.m36_model.specs.Core.{core_store};
 ghost use Rattle.m36_model.specs.Place.{page_at, word_place, core_spot};
 ghost use Rattle.m36_model.specs.Sight.{content_in};
 ghost use Rattle.m36_model.specs.Store.{place};
-ghost use Rattle.m36_tables.specs.Tables.{TableIn, spot_of};
+ghost use Rattle.m36_tables.specs.Tables.{TableWordIsInCore, spot_of};
 
-use crate::addresses::{page_at, within, wrapped};
+use crate::addresses::{page_at, is_within_bound, wrapped_address};
 use crate::descriptors::descriptor;
-use crate::pages::{in_frame, page_table_word};
+use crate::pages::{address_in_frame, page_table_word};
 use crate::refusals::{store_fault, violation};
 use m36_core::Core;
 use m36_desc::{Dbr, Sdw};
@@ -19,8 +19,8 @@ use m36_model::Refusal;
 use m36_word::Word;
 
 /// Whether the ring brackets of a segment are in order: R1 <= R2 <= R3.
-pub fn in_order(sdw: &Sdw) -> bool
-    ensures { result ≡ in_order sdw.now }
+pub fn has_ordered_brackets(sdw: &Sdw) -> bool
+    ensures { result ≡ has_ordered_brackets sdw.now }
 {
     sdw.r1 <= sdw.r2 && sdw.r2 <= sdw.r3
 }
@@ -30,14 +30,14 @@ pub fn in_order(sdw: &Sdw) -> bool
 pub fn word_place(core: &Core, sdw: &Sdw, word: u32) -> Result<u32, Refusal>
     requires { word < 2 ^ 18 }
     ensures value { result ≡ word_place core.now sdw.now word }
-    ensures page { OnOk result (TableIn (length core.now) sdw.now.unpaged
+    ensures page { OnOk result (TableWordIsInCore (length core.now) sdw.now.unpaged
         (page_at sdw.now (word / 1024))) }
     ensures bound { IfOk result (λ a. a < 2 ^ 24) }
 {
     if sdw.unpaged {
-        return Ok(wrapped(sdw.addr + word));
+        return Ok(wrapped_address(sdw.addr + word));
     }
-    in_frame(
+    address_in_frame(
         page_table_word(core, page_at(sdw, word / 1024)),
         word % 1024,
     )
@@ -69,10 +69,10 @@ pub fn place(core: &Core, dbr: Dbr, seg: u16, word: u32) -> Result<u32, Refusal>
     ensures inside { IfOk result (λ a. a < length core.now) }
 {
     let sdw = descriptor(core, dbr, seg)?;
-    if !in_order(&sdw) {
+    if !has_ordered_brackets(&sdw) {
         return Err(violation(0));
     }
-    if !within(&sdw, word) {
+    if !is_within_bound(&sdw, word) {
         return Err(violation(15));
     }
     word_in_core(core, &sdw, word)

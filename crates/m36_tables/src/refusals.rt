@@ -1,7 +1,7 @@
 //! The faults with which the lookup of a word is refused.
 
 ghost use Rattle.std.specs.Prelude.{◌≡◌, ◌<◌, ◌^◌};
-ghost use Rattle.m36_model.specs.Place.{store_fault, directed};
+ghost use Rattle.m36_model.specs.Place.{store_fault, directed_refusal};
 ghost use Rattle.m36_model.specs.Store.{violation};
 
 use m36_model::Refusal;
@@ -24,9 +24,9 @@ pub fn violation(acv: u8) -> Refusal
 
 /// The directed fault with the number in FC, of a descriptor or page table word whose F is off.
 #[inline(always)]
-pub fn directed(fc: u8) -> Refusal
+pub fn directed_refusal(fc: u8) -> Refusal
     requires { fc < 2 ^ 2 }
-    ensures { result ≡ directed fc }
+    ensures { result ≡ directed_refusal fc }
 {
     Refusal {
         number: 16 + fc,

@@ -7,7 +7,7 @@ use Rattle.std.proofs.lemmas.Int.Digits.{number_lt}
 use Rattle.std.proofs.lemmas.List.{length-append, length-drop, take_at, drop_at, take_all, take-append-drop, length-take-le, get_or-append_right, get_or-drop}
 use Rattle.std.proofs.lemmas.List.Elements.{recursion_from_All, All-from_recursion}
 use Rattle.m36_text.specs.Digits.{digits}
-use Rattle.m36_text.specs.Packing.{packed, bits_of, words_of, last_word, unpacked, UnpacksWhatWasPacked, PacksWhatWasUnpacked, UnpacksIntoWords}
+use Rattle.m36_text.specs.Packing.{packed, number_of_bytes, words_of, last_word, unpacked, UnpacksWhatWasPacked, PacksWhatWasUnpacked, UnpacksIntoWords}
 use Rattle.m36_text.proofs.DigitLaws.{length_digits}
 use Rattle.m36_text.proofs.DigitNumbers.{number_of_digits, digits_of_number}
 use Rattle.m36_text.proofs.PackingLaws.{bits_more, words_more}
@@ -55,12 +55,12 @@ is_packed bytes words e =
 
 -- unpacking what was packed
 
-last_word_is : (bytes : List ℕ) → 0 < length bytes → last_word bytes ≡ bits_of bytes / 2 ^ 4 ∷ []
+last_word_is : (bytes : List ℕ) → 0 < length bytes → last_word bytes ≡ number_of_bytes bytes / 2 ^ 4 ∷ []
 last_word_is [] some = absurd (omega arith)
 last_word_is (byte ∷ bytes) some = refl
 
-bits_of_digits : (places v : ℕ) → v < 256 ^ places → bits_of (digits 256 places v) ≡ v
-unfolding bits_of
+bits_of_digits : (places v : ℕ) → v < 256 ^ places → number_of_bytes (digits 256 places v) ≡ v
+unfolding number_of_bytes
 bits_of_digits places v fits = number_of_digits 256 places v (omega arith) fits
 
 packed_alone : (word : ℕ) → word < 2 ^ 36 → IsPacked (digits 256 5 (word * 16)) (word ∷ [])
@@ -77,7 +77,7 @@ joined n bytes words below p =
     let group : List ℕ = digits 256 9 n in
     let nine : length group ≡ 9 = length_digits 256 9 n in
     let long : length (group ++ bytes) ≡ 9 + length bytes = length-append group bytes ∙ ap (λ k. k + length bytes) nine in
-    let bits : bits_of (take 9 (group ++ bytes)) ≡ n = ap bits_of (take_at group bytes 9 nine) ∙ bits_of_digits 9 n below in
+    let bits : number_of_bytes (take 9 (group ++ bytes)) ≡ n = ap number_of_bytes (take_at group bytes 9 nine) ∙ bits_of_digits 9 n below in
     let rest : drop 9 (group ++ bytes) ≡ bytes = drop_at group bytes 9 nine in
     record {
       whole = elim p.whole [
@@ -128,19 +128,19 @@ below_take zero bytes below = tt
 below_take (suc n) [] below = tt
 below_take (suc n) (byte ∷ bytes) below = (below.0, below_take n bytes below.1)
 
-bits_below : (bytes : List ℕ) (n : ℕ) → length bytes ≡ n → AllBelowBase 256 bytes → bits_of bytes < 256 ^ n
-unfolding bits_of
+bits_below : (bytes : List ℕ) (n : ℕ) → length bytes ≡ n → AllBelowBase 256 bytes → number_of_bytes bytes < 256 ^ n
+unfolding number_of_bytes
 bits_below bytes n long below = subst (λ (k : ℕ). number_from_digits 256 bytes < 256 ^ k) long (number_lt 256 bytes below)
 
-digits_of_bits : (bytes : List ℕ) (n : ℕ) → length bytes ≡ n → AllBelowBase 256 bytes → digits 256 n (bits_of bytes) ≡ bytes
-unfolding bits_of
+digits_of_bits : (bytes : List ℕ) (n : ℕ) → length bytes ≡ n → AllBelowBase 256 bytes → digits 256 n (number_of_bytes bytes) ≡ bytes
+unfolding number_of_bytes
 digits_of_bits bytes n long below = ap (λ k. digits 256 k (number_from_digits 256 bytes)) (sym long) ∙ digits_of_number 256 bytes below
 
 -- the spare bits are the last four bits of the number
-spare_bits : (bytes : List ℕ) → length bytes ≡ 5 → bits_of bytes % 16 ≡ get_or bytes 4 0 % 16
+spare_bits : (bytes : List ℕ) → length bytes ≡ 5 → number_of_bytes bytes % 16 ≡ get_or bytes 4 0 % 16
 spare_bits bytes five =
-    let split : bits_of bytes ≡ bits_of (take 4 bytes) * 256 + get_or bytes 4 0 =
-    ap bits_of (sym (take_all 5 bytes (omega arith))) ∙ bits_more bytes 4 (omega arith) in
+    let split : number_of_bytes bytes ≡ number_of_bytes (take 4 bytes) * 256 + get_or bytes 4 0 =
+    ap number_of_bytes (sym (take_all 5 bytes (omega arith))) ∙ bits_more bytes 4 (omega arith) in
     omega arith
 
 packed_last : (bytes : List ℕ) → length bytes < 9 → IsWhole bytes → AllBelowBase 256 bytes → packed (last_word bytes) ≡ bytes
@@ -152,8 +152,8 @@ packed_last (byte ∷ bytes) short whole below =
       | inr one ↦
           let five : length (byte ∷ bytes) ≡ 5 = let left = one.0 in omega arith in
           let place : length (byte ∷ bytes) - 1 ≡ 4 = omega arith in
-          let spare : bits_of (byte ∷ bytes) % 16 ≡ 0 = spare_bits (byte ∷ bytes) five ∙ (ap (λ k. get_or (byte ∷ bytes) k 0 % 16) (sym place) ∙ one.1) in
-          let exact : bits_of (byte ∷ bytes) / 2 ^ 4 * 2 ^ 4 ≡ bits_of (byte ∷ bytes) = omega arith in
+          let spare : number_of_bytes (byte ∷ bytes) % 16 ≡ 0 = spare_bits (byte ∷ bytes) five ∙ (ap (λ k. get_or (byte ∷ bytes) k 0 % 16) (sym place) ∙ one.1) in
+          let exact : number_of_bytes (byte ∷ bytes) / 2 ^ 4 * 2 ^ 4 ≡ number_of_bytes (byte ∷ bytes) = omega arith in
           ap (digits 256 5) exact ∙ digits_of_bits (byte ∷ bytes) 5 five below
     ]
 
@@ -163,7 +163,7 @@ back zero bytes count whole below = packed_last bytes (omega arith) whole below
 back (suc groups) bytes count whole below =
     let long : 9 ≤ length bytes = omega arith in
     let nine : length (take 9 bytes) ≡ 9 = length-take-le 9 bytes long in
-    let joined : bits_of (take 9 bytes) / 2 ^ 36 * 2 ^ 36 + bits_of (take 9 bytes) % 2 ^ 36 ≡ bits_of (take 9 bytes) = omega arith in
+    let joined : number_of_bytes (take 9 bytes) / 2 ^ 36 * 2 ^ 36 + number_of_bytes (take 9 bytes) % 2 ^ 36 ≡ number_of_bytes (take 9 bytes) = omega arith in
     let rest = back groups (drop 9 bytes) (omega (arith, length-drop 9 bytes)) (rest_whole bytes long whole) (below_drop 9 bytes below) in
     ap (λ n. digits 256 9 n ++ packed (words_of groups (drop 9 bytes))) joined
     ∙ (ap (λ group. group ++ packed (words_of groups (drop 9 bytes))) (digits_of_bits (take 9 bytes) 9 nine (below_take 9 bytes below))

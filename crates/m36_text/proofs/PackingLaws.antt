@@ -4,7 +4,7 @@ use Rattle.std.proofs.lemmas.Int.Digits.{number_more}
 use Rattle.std.proofs.lemmas.List.{length-drop, append-nil, append_assoc}
 use Rattle.std.proofs.Math.Nat.{pow-suc, pow-le-pow_right}
 use Rattle.m36_text.specs.Digits.{digits}
-use Rattle.m36_text.specs.Packing.{packed, bits_of, words_of, last_word}
+use Rattle.m36_text.specs.Packing.{packed, number_of_bytes, words_of, last_word}
 
 -- two words more
 pub packed_pair : (words : List ℕ) → 2 ≤ length words
@@ -27,23 +27,23 @@ nothing_packed text [] none = append-nil text
 nothing_packed text (word ∷ words) none = absurd (omega arith)
 
 -- one byte more
-pub bits_none : bits_of [] ≡ 0
-unfolding bits_of
+pub bits_none : number_of_bytes [] ≡ 0
+unfolding number_of_bytes
 bits_none = refl
 
-pub bits_more : (bytes : List ℕ) (i : ℕ) → i < length bytes → bits_of (take (i + 1) bytes) ≡ bits_of (take i bytes) * 256 + get_or bytes i 0
-unfolding bits_of
+pub bits_more : (bytes : List ℕ) (i : ℕ) → i < length bytes → number_of_bytes (take (i + 1) bytes) ≡ number_of_bytes (take i bytes) * 256 + get_or bytes i 0
+unfolding number_of_bytes
 bits_more bytes i within = number_more 256 bytes i within
 
 -- one group more
 pub words_more : (bytes : List ℕ) → 9 ≤ length bytes
-    → words_of (length bytes / 9) bytes ≡ bits_of (take 9 bytes) / 2 ^ 36 ∷ bits_of (take 9 bytes) % 2 ^ 36 ∷ words_of (length (drop 9 bytes) / 9) (drop 9 bytes)
+    → words_of (length bytes / 9) bytes ≡ number_of_bytes (take 9 bytes) / 2 ^ 36 ∷ number_of_bytes (take 9 bytes) % 2 ^ 36 ∷ words_of (length (drop 9 bytes) / 9) (drop 9 bytes)
 unfolding words_of
 words_more bytes long =
     let groups : length bytes / 9 ≡ suc (length (drop 9 bytes) / 9) = omega (arith, length-drop 9 bytes) in
     rw groups
 
-pub group_pushed : (bytes old new : List ℕ) (bits : ℕ) → 9 ≤ length bytes → bits ≡ bits_of (take 9 bytes)
+pub group_pushed : (bytes old new : List ℕ) (bits : ℕ) → 9 ≤ length bytes → bits ≡ number_of_bytes (take 9 bytes)
     → new ≡ old ++ bits / 2 ^ 36 ∷ bits % 2 ^ 36 ∷ []
     → new ++ words_of (length (drop 9 bytes) / 9) (drop 9 bytes) ≡ old ++ words_of (length bytes / 9) bytes
 group_pushed bytes old new bits long read pushed =

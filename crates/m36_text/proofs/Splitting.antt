@@ -7,7 +7,7 @@ use Rattle.std.proofs.lemmas.List.Splits.{slice_split_first, slice_split_none, l
 use Rattle.std.proofs.lemmas.List.Sums.{fails_before_first}
 use Rattle.std.proofs.Math.Seq.{take-length}
 use Rattle.std.proofs.Math.Dec.{ltb}
-use Rattle.m36_text.specs.Lines.{unended_line, ended, lines_of, open_rest, open_lines_of_parts, open_lines_of, words_of, HasMore}
+use Rattle.m36_text.specs.Lines.{unended_line, lines_of_parts, lines_of, open_last_line, open_lines_of_parts, open_lines_of, words_of, HasMore}
 
 -- a slice up to the end is what `drop` leaves
 pub rest_whole : (xs : List ℕ) (i : ℕ) → take (length xs - i) (drop i xs) ≡ drop i xs
@@ -35,7 +35,7 @@ split_nowhere p xs none =
 pub ruleset splitting = (split_there, split_nowhere)
 
 -- there is at least one part
-pub ended_line : (line : List ℕ) (parts : List (List ℕ)) → 0 < length parts → ended (line ∷ parts) ≡ Some line ∷ ended parts
+pub ended_line : (line : List ℕ) (parts : List (List ℕ)) → 0 < length parts → lines_of_parts (line ∷ parts) ≡ Some line ∷ lines_of_parts parts
 ended_line line [] some = absurd (omega arith)
 ended_line line (next ∷ parts) some = refl
 
@@ -46,12 +46,12 @@ pub lines_first :
     → lines_of text ≡ Some line ∷ lines_of rest
 unfolding lines_of
 lines_first text line rest e =
-    ap ended e ∙ ended_line line (slice_split (λ b. b == 10) rest) (omega (arith, length-slice_split (λ b. b == 10) rest))
+    ap lines_of_parts e ∙ ended_line line (slice_split (λ b. b == 10) rest) (omega (arith, length-slice_split (λ b. b == 10) rest))
 
 -- a text without a line feed
 pub lines_cut : (text : List ℕ) → slice_split (λ b. b == 10) text ≡ text ∷ [] → lines_of text ≡ unended_line text
 unfolding lines_of
-lines_cut text e = ap ended e
+lines_cut text e = ap lines_of_parts e
 
 pub ruleset lining = (lines_first, lines_cut)
 
@@ -74,7 +74,7 @@ unfolding open_lines_of
 open_lines_none [] e = refl
 open_lines_none (b ∷ text) e = absurd (omega (arith, e))
 
-open_rest_some : (text : List ℕ) → 0 < length text → open_rest text ≡ text ∷ []
+open_rest_some : (text : List ℕ) → 0 < length text → open_last_line text ≡ text ∷ []
 open_rest_some [] some = absurd (omega arith)
 open_rest_some (b ∷ rest) some = refl
 

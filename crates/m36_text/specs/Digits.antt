@@ -13,8 +13,8 @@ abbrev pub zero_character : ℕ
 zero_character = 48
 
 -- the character of a digit from 0 to 9
-abbrev pub character : ℕ → ℕ
-character digit = zero_character + digit
+abbrev pub digit_character : ℕ → ℕ
+digit_character digit = zero_character + digit
 
 -- whether a character is one of the first `base` digits, for a base of at most ten
 abbrev pub is_digit : ℕ → ℕ → Bool
@@ -26,7 +26,7 @@ digit_of c = c - zero_character
 
 -- a number in octal, as its last `places` digits
 unfoldable pub octal_text : ℕ → ℕ → List ℕ
-octal_text places v = map character (digits 8 places v)
+octal_text places v = map digit_character (digits 8 places v)
 
 -- the number of octal digits of a word
 abbrev pub word_digits : ℕ
@@ -54,5 +54,5 @@ half_text h = octal_text half_digits h
 
 -- a number in decimal, without leading zeros; the number zero is one digit
 unfoldable pub decimal_text : ℕ → List ℕ
-decimal_text zero = character 0 ∷ []
-decimal_text (suc v) = map character (digits_of 10 (suc v))
+decimal_text zero = digit_character 0 ∷ []
+decimal_text (suc v) = map digit_character (digits_of 10 (suc v))

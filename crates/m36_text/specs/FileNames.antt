@@ -14,8 +14,8 @@ abbrev pub object_of_source : List ℕ → List ℕ
 object_of_source source = take (length source - length source_suffix) source
 
 -- Removing the suffix from the name of an object's source yields the name of the object.
-abbrev pub SourceNames : Type 0
-SourceNames = (object : List ℕ) → object_of_source (source_of_object object) ≡ object
+abbrev pub SourceNameRoundTrip : Type 0
+SourceNameRoundTrip = (object : List ℕ) → object_of_source (source_of_object object) ≡ object
 
 -- the suffix that the name of a bind file adds to that of its object
 abbrev pub bindfile_suffix : List ℕ

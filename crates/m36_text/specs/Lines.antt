@@ -15,29 +15,29 @@ unended_line (b ∷ rest) = None ∷ []
 
 -- The lines of a text, given the parts of the text that line feeds separate. The last part is no
 -- line if it is empty, and otherwise a line without its line feed.
-abbrev pub ended : List (List ℕ) → List (Option (List ℕ))
-ended [] = []
-ended (rest ∷ []) = unended_line rest
-ended (line ∷ next ∷ parts) = Some line ∷ ended (next ∷ parts)
+abbrev pub lines_of_parts : List (List ℕ) → List (Option (List ℕ))
+lines_of_parts [] = []
+lines_of_parts (rest ∷ []) = unended_line rest
+lines_of_parts (line ∷ next ∷ parts) = Some line ∷ lines_of_parts (next ∷ parts)
 
 -- the lines of a text, without their line feeds; the last is None if it lacks its line feed
 unfoldable pub lines_of : List ℕ → List (Option (List ℕ))
-lines_of text = ended (slice_split (λ b. b == 10) text)
+lines_of text = lines_of_parts (slice_split (λ b. b == 10) text)
 
 -- line n, counted from 1; None if it is missing or lacks its line feed
 abbrev pub line_at : List (Option (List ℕ)) → ℕ → Option (List ℕ)
 line_at lines n = unwrap_or (slice_get lines (n - 1)) None
 
 -- the text after the last line feed as a list of lines: one line, or none if the text is empty
-abbrev pub open_rest : List ℕ → List (List ℕ)
-open_rest [] = []
-open_rest (b ∷ rest) = (b ∷ rest) ∷ []
+abbrev pub open_last_line : List ℕ → List (List ℕ)
+open_last_line [] = []
+open_last_line (b ∷ rest) = (b ∷ rest) ∷ []
 
 -- The lines of a text, given the parts of the text that line feeds separate. The last line may lack
 -- its line feed.
 abbrev pub open_lines_of_parts : List (List ℕ) → List (List ℕ)
 open_lines_of_parts [] = []
-open_lines_of_parts (rest ∷ []) = open_rest rest
+open_lines_of_parts (rest ∷ []) = open_last_line rest
 open_lines_of_parts (line ∷ next ∷ parts) = line ∷ open_lines_of_parts (next ∷ parts)
 
 -- The lines of a text, without their line feeds. The last one may lack its line feed.
@@ -55,15 +55,15 @@ joined_by_spaces words = join_with_byte 32 words
 
 -- What `says` makes of the words of a line. A line that lacks its line feed (None) has the meaning
 -- `of_no_form`.
-abbrev pub by_words : {A : Type 0} → (List (List ℕ) → A) → A → Option (List ℕ) → A
-by_words says of_no_form (Some line) = says (words_of line)
-by_words says of_no_form None = of_no_form
+abbrev pub line_meaning : {A : Type 0} → (List (List ℕ) → A) → A → Option (List ℕ) → A
+line_meaning says of_no_form (Some line) = says (words_of line)
+line_meaning says of_no_form None = of_no_form
 
 -- what `says` makes of the first word and of the words after it; None if there is no word
-abbrev pub by_first_word : {A : Type 0} → (List ℕ → List (List ℕ) → Option A) → List (List ℕ)
+abbrev pub words_meaning : {A : Type 0} → (List ℕ → List (List ℕ) → Option A) → List (List ℕ)
     → Option A
-by_first_word says [] = None
-by_first_word says (word ∷ given) = says word given
+words_meaning says [] = None
+words_meaning says (word ∷ given) = says word given
 
 -- There are at least two words.
 pub record HasMore (words : List (List ℕ)) : Type 0 where
@@ -73,8 +73,8 @@ pub record HasMore (words : List (List ℕ)) : Type 0 where
   pub are : words ≡ first ∷ second ∷ others
 
 -- the results that are not None, in order
-abbrev pub those_read : {A : Type 0} → List (Option A) → List A
-those_read lines = filter_map (λ next. next) lines
+abbrev pub present_values : {A : Type 0} → List (Option A) → List A
+present_values lines = filter_map (λ next. next) lines
 
 -- the last item of a list; None if the list is empty
 abbrev pub last_of : {A : Type 0} → List A → Option A
@@ -82,12 +82,12 @@ last_of lines = slice_get lines (length lines - 1)
 
 -- The first result of a list that is not None, with the number of its line; None if there is none.
 -- The lines are numbered from n.
-unfoldable pub first_reported : {A : Type 0} → ℕ → List (Option A) → Option (ℕ × A)
-first_reported n [] = None
-first_reported n (Some told ∷ lines) = Some (n, told)
-first_reported n (None ∷ lines) = first_reported (n + 1) lines
+unfoldable pub first_present : {A : Type 0} → ℕ → List (Option A) → Option (ℕ × A)
+first_present n [] = None
+first_present n (Some told ∷ lines) = Some (n, told)
+first_present n (None ∷ lines) = first_present (n + 1) lines
 
 -- the value beside the first condition that holds; None if no condition holds
-unfoldable pub first_met : {A : Type 0} → List (Bool × A) → Option A
-first_met [] = None
-first_met (test ∷ tests) = if test.0 then Some test.1 else first_met tests
+unfoldable pub first_true_case : {A : Type 0} → List (Bool × A) → Option A
+first_true_case [] = None
+first_true_case (test ∷ tests) = if test.0 then Some test.1 else first_true_case tests

@@ -18,19 +18,19 @@ packed (even ∷ odd ∷ words) =
     digits 256 9 (number_of (record { even = even; odd = odd })) ++ packed words
 
 -- the number that bytes represent, the most significant first
-unfoldable pub bits_of : List ℕ → ℕ
-bits_of bytes = number_from_digits 256 bytes
+unfoldable pub number_of_bytes : List ℕ → ℕ
+number_of_bytes bytes = number_from_digits 256 bytes
 
 -- The word that is packed alone in the bytes after the whole groups of nine, as a list of one; no
 -- word if there are no such bytes. The low four bits of the bytes are no part of it.
 abbrev pub last_word : List ℕ → List ℕ
 last_word [] = []
-last_word (byte ∷ bytes) = bits_of (byte ∷ bytes) / 2 ^ 4 ∷ []
+last_word (byte ∷ bytes) = number_of_bytes (byte ∷ bytes) / 2 ^ 4 ∷ []
 
 -- the words of this many groups of nine bytes, two each, and of the bytes that are left
 unfoldable pub words_of : ℕ → List ℕ → List ℕ
 words_of zero bytes = last_word bytes
-words_of (suc groups) bytes = bits_of (take 9 bytes) / 2 ^ 36 ∷ bits_of (take 9 bytes) % 2 ^ 36
+words_of (suc groups) bytes = number_of_bytes (take 9 bytes) / 2 ^ 36 ∷ number_of_bytes (take 9 bytes) % 2 ^ 36
     ∷ words_of groups (drop 9 bytes)
 
 -- Bytes unpacked into words. T3 with the number of bytes if no words are packed into that many. T4
@@ -53,10 +53,10 @@ UnpackResult (Err NoMemory) definition = Unit {0}
 
 -- What a fault holds, if it is about `count` bytes: T3 holds their number, T4 the index of the last
 -- one.
-abbrev pub IsOfCount : ℕ → PackFault → Type 0
-IsOfCount count (T3 given) = given ≡ count
-IsOfCount count (T4 place) = place + 1 ≡ count
-IsOfCount count NoMemory = Unit {0}
+abbrev pub IsFaultOfCount : ℕ → PackFault → Type 0
+IsFaultOfCount count (T3 given) = given ≡ count
+IsFaultOfCount count (T4 place) = place + 1 ≡ count
+IsFaultOfCount count NoMemory = Unit {0}
 
 -- Unpacking packed words yields the same words.
 abbrev pub UnpacksWhatWasPacked : Type 0

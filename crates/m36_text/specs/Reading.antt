@@ -30,9 +30,9 @@ number_read base (byte ∷ text) max =
     parsed_number (first_non_digit base (byte ∷ text)) (number_of base (byte ∷ text)) max
 
 -- the index that T1 holds is at most `count`; T2 holds none
-abbrev pub IsWithin : ℕ → NumberFault → Type 0
-IsWithin count (T1 place) = place ≤ count
-IsWithin count T2 = Unit {0}
+abbrev pub IndexIsWithin : ℕ → NumberFault → Type 0
+IndexIsWithin count (T1 place) = place ≤ count
+IndexIsWithin count T2 = Unit {0}
 
 -- The octal text of a number, with enough places for it, is parsed as that number.
 abbrev pub ReadsOctal : Type 0
@@ -44,9 +44,9 @@ abbrev pub ReadsDecimal : Type 0
 ReadsDecimal = (v max : ℕ) → v ≤ max → number_read 10 (decimal_text v) max ≡ Ok v
 
 -- An octal text has `places` digits.
-abbrev pub HasPlaces : Type 0
-HasPlaces = (places v : ℕ) → length (octal_text places v) ≡ places
+abbrev pub OctalTextHasPlaces : Type 0
+OctalTextHasPlaces = (places v : ℕ) → length (octal_text places v) ≡ places
 
 -- The decimal text of a number other than zero does not begin with a zero.
-abbrev pub HasNoLeadingZero : Type 0
-HasNoLeadingZero = (v : ℕ) → 1 ≤ v → slice_index (decimal_text v) 0 ≢ zero_character
+abbrev pub DecimalTextHasNoLeadingZero : Type 0
+DecimalTextHasNoLeadingZero = (v : ℕ) → 1 ≤ v → slice_index (decimal_text v) 0 ≢ zero_character

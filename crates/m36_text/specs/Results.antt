@@ -7,6 +7,6 @@ and_then (Ok a) next = next a
 and_then (Err told) next = Err told
 
 -- the value as Ok, or the error if one is given
-abbrev pub unless : {A E : Type 0} → Option E → A → Result A E
-unless None value = Ok value
-unless (Some told) value = Err told
+abbrev pub value_unless : {A E : Type 0} → Option E → A → Result A E
+value_unless None value = Ok value
+value_unless (Some told) value = Err told

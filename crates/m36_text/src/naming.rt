@@ -5,7 +5,7 @@ ghost use Rattle.std.specs.Option.{SomeIff};
 ghost use Rattle.std.specs.List.{fold};
 ghost use Rattle.std.specs.Cmp.Rules.{hashing};
 ghost use Rattle.std.proofs.Common.{rules};
-ghost use Rattle.m36_text.specs.FileNames.{SourceNames};
+ghost use Rattle.m36_text.specs.FileNames.{SourceNameRoundTrip};
 ghost use Rattle.m36_text.specs.Texts.{name_limit};
 ghost use Rattle.m36_text.specs.Seeds.{with_low_byte, name_writes};
 
@@ -135,5 +135,5 @@ impl Names {
 /// object's source, the result is the name of the object.
 #[tactic(auto, using(crate::proofs::NameLaws::source_names))]
 pub fn name_laws()
-    ensures { SourceNames }
+    ensures { SourceNameRoundTrip }
 {}

@@ -2,7 +2,7 @@
 
 ghost use Rattle.std.specs.Prelude.{ℕ, ◌≡◌, ◌+◌, ◌-◌, ◌*◌, ◌/◌, ◌%◌, ◌^◌, ◌<◌, ◌≤◌, ◌⊎◌, List, [], ◌∷◌, ◌++◌, length, drop, IfOk, IfErr, OnOk};
 ghost use Rattle.m36_text.specs.Digits.{digits};
-ghost use Rattle.m36_text.specs.Packing.{packed, bits_of, last_word, words_of, unpacked, UnpackResult, IsOfCount, UnpacksWhatWasPacked, PacksWhatWasUnpacked, UnpacksIntoWords};
+ghost use Rattle.m36_text.specs.Packing.{packed, number_of_bytes, last_word, words_of, unpacked, UnpackResult, IsFaultOfCount, UnpacksWhatWasPacked, PacksWhatWasUnpacked, UnpacksIntoWords};
 ghost use Rattle.m36_text.specs.declared.packing.PackFault.TheVariants as fault;
 
 use m36_outside::Text;
@@ -107,7 +107,7 @@ fn five_bytes(bits: u64) -> [u8; 5]
 #[tactic(auto, unfolding(crate::specs::Packing::unpacked))]
 pub fn unpack(alloc: Global, t: &[u8]) -> Result<Words, PackFault>
     ensures says { UnpackResult result (unpacked t.now) }
-    ensures place { IfErr result (IsOfCount (length t.now)) }
+    ensures place { IfErr result (IsFaultOfCount (length t.now)) }
 {
     match t.len() % 9 {
         0 => {}
@@ -119,11 +119,11 @@ pub fn unpack(alloc: Global, t: &[u8]) -> Result<Words, PackFault>
         }
         _ => return Err(PackFault::T3(t.len())),
     }
-    Ok(whole_words(alloc, t)?)
+    Ok(unpack_words(alloc, t)?)
 }
 
 // The words of bytes whose number is that of packed words.
-fn whole_words(alloc: Global, t: &[u8]) -> Result<Words, NoMemory>
+fn unpack_words(alloc: Global, t: &[u8]) -> Result<Words, NoMemory>
     requires { (length t.now % 9 ≡ 0) ⊎ (length t.now % 9 ≡ 5) }
     ensures { IfOk result (λ words. words ≡ words_of (length t.now / 9) t.now) }
 {
@@ -174,7 +174,7 @@ fn push_pair(words: &mut Words, bits: u128) -> Result<(), NoMemory>
 #[tactic(auto, using(crate::proofs::PackingLaws::bits_none, crate::proofs::PackingLaws::bits_more, crate::proofs::PackingLaws::fits_more))]
 fn number(bytes: &[u8]) -> u128
     requires { length bytes.now ≤ 9 }
-    ensures value { result ≡ bits_of bytes.now }
+    ensures value { result ≡ number_of_bytes bytes.now }
     ensures bound { result < 256 ^ length bytes.now }
 {
     let mut value = 0;

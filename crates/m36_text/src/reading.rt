@@ -2,7 +2,7 @@
 
 ghost use Rattle.std.specs.Prelude.{ℕ, ◌≡◌, ◌+◌, ◌-◌, ◌^◌, ◌<◌, ◌≤◌, length, min, None, IfOk, IfErr, IfSome};
 ghost use Rattle.m36_text.specs.Digits.{is_digit};
-ghost use Rattle.m36_text.specs.Reading.{first_non_digit, number_of, number_read, IsWithin, ReadsOctal, ReadsDecimal, HasPlaces, HasNoLeadingZero};
+ghost use Rattle.m36_text.specs.Reading.{first_non_digit, number_of, number_read, IndexIsWithin, ReadsOctal, ReadsDecimal, OctalTextHasPlaces, DecimalTextHasNoLeadingZero};
 
 /// Why a text could not be parsed as a number.
 #[derive(Clone, Copy, PartialEq, Eq)]
@@ -26,7 +26,7 @@ pub fn is_digit(base: u8, byte: u8) -> bool
 pub fn read_octal(t: &[u8], max: u64) -> Result<u64, NumberFault>
     ensures value { result ≡ number_read 8 t.now max }
     ensures bound { IfOk result (λ v. v ≤ max) }
-    ensures place { IfErr result (IsWithin (length t.now)) }
+    ensures place { IfErr result (IndexIsWithin (length t.now)) }
 {
     read_number(8, t, max)
 }
@@ -35,7 +35,7 @@ pub fn read_octal(t: &[u8], max: u64) -> Result<u64, NumberFault>
 pub fn read_decimal(t: &[u8], max: u64) -> Result<u64, NumberFault>
     ensures value { result ≡ number_read 10 t.now max }
     ensures bound { IfOk result (λ v. v ≤ max) }
-    ensures place { IfErr result (IsWithin (length t.now)) }
+    ensures place { IfErr result (IndexIsWithin (length t.now)) }
 {
     read_number(10, t, max)
 }
@@ -47,12 +47,12 @@ fn read_number(base: u8, t: &[u8], max: u64) -> Result<u64, NumberFault>
     requires { (1 ≤ base) × (base ≤ 10) }
     ensures value { result ≡ number_read base t.now max }
     ensures bound { IfOk result (λ v. v ≤ max) }
-    ensures place { IfErr result (IsWithin (length t.now)) }
+    ensures place { IfErr result (IndexIsWithin (length t.now)) }
 {
     if t.is_empty() {
         return Err(NumberFault::T1(0));
     }
-    if let Some(place) = place_of_other(base, t) {
+    if let Some(place) = find_non_digit(base, t) {
         return Err(NumberFault::T1(place));
     }
     let over = max as u128 + 1;
@@ -66,7 +66,7 @@ fn read_number(base: u8, t: &[u8], max: u64) -> Result<u64, NumberFault>
 
 // The index of the first byte that is not a digit. A loop takes less time to prove than a call of
 // `position`.
-fn place_of_other(base: u8, t: &[u8]) -> Option<usize>
+fn find_non_digit(base: u8, t: &[u8]) -> Option<usize>
     requires { (1 ≤ base) × (base ≤ 10) }
     ensures value { result ≡ first_non_digit base t.now }
     ensures within { IfSome result (λ place. place < length t.now) }
@@ -100,6 +100,6 @@ fn capped_value(base: u8, t: &[u8], cap: u128) -> u128
 pub fn numeral_laws()
     ensures octal { ReadsOctal }
     ensures decimal { ReadsDecimal }
-    ensures places { HasPlaces }
-    ensures leading { HasNoLeadingZero }
+    ensures places { OctalTextHasPlaces }
+    ensures leading { DecimalTextHasNoLeadingZero }
 {}

@@ -9,7 +9,7 @@ use Rattle.m36_program.specs.Alike.{IsEnd}
 use Rattle.m36_program.specs.Goes.{Goes}
 use Rattle.m36_program.specs.Performs.{Performs}
 use Rattle.m36_program.specs.Program.{May, Program, then_with}
-use Rattle.m36_program.specs.Reader.{IsReader, outcome_in}
+use Rattle.m36_program.specs.Reader.{IsReader, reader_result}
 use Rattle.m36_program.proofs.ReaderLaws.{reader_split, reader_outcome, reader_pieces}
 use Rattle.cmd_folder.proofs.OneRunLaws.{booted_law}
 use Rattle.cmd_image.proofs.ImageEnded.{image_end_law}
@@ -40,14 +40,14 @@ not_value a status is = absurd (cc)
 err_end :
     (A : Type 0) (result : Result (Unit {0}) Status) (status : Status)
     → result ≡ Err status → IsEnd result → IsEnd {A = A} (Err status)
-err_end A result status is ended =
-    let end : IsEnd {A = Unit {0}} (Err status) = subst (IsEnd {A = Unit {0}}) is ended in end
+err_end A result status is complete_given =
+    let end : IsEnd {A = Unit {0}} (Err status) = subst (IsEnd {A = Unit {0}}) is complete_given in end
 
 -- The events and the result of a program that begins with a reader, if the files are refused.
 refused_by :
     {may : May} {A : Type 0} (p : Program may A) (next : A → Program may (Unit {0})) (files : Files) (status : Status)
     (result : Result (Unit {0}) Status) (old new : Seen)
-    → IsReader p → old.files ≡ Some files → outcome_in files p ≡ Some (Err status)
+    → IsReader p → old.files ≡ Some files → reader_result files p ≡ Some (Err status)
     → (performs : Performs (then_with p next) result old new) → IsRefused status performs.events result
 refused_by {A = A} p next files status result old new is told refused performs =
     elim (reader_split p next performs.events result is performs.goes) [
@@ -59,18 +59,18 @@ refused_by {A = A} p next files status result old new is told refused performs =
           (record { events = both.first; follow = passed.begins; goes = both.begins })) ∙ refused)
       | inr ends ↦ record {
         none_put = reader_pieces p performs.events (Err ends.status) is ends.goes;
-        refuses = λ ended.
+        refuses = λ complete_given.
             ends.result_is
             ∙ ap (λ s. Err s) (same_end A ends.status status
             (sym (reader_outcome p files (Err ends.status) old new is told
-            (err_end A result ends.status ends.result_is ended)
+            (err_end A result ends.status ends.result_is complete_given)
             (record { events = performs.events; follow = performs.follow; goes = ends.goes })) ∙ refused));
       }
     ]
 
 command_refused :
     (command : Command) (files : Files) (status : Status) (result : Result (Unit {0}) Status) (old new : Seen)
-    → old.files ≡ Some files → outcome_in files (reader_of command) ≡ Some (Err status)
+    → old.files ≡ Some files → reader_result files (reader_of command) ≡ Some (Err status)
     → (performs : Performs (program command) result old new) → IsRefused status performs.events result
 command_refused command files status result old new told refused performs =
     refused_by (reader_of command) (work_of command) files status result old new (reads_only command) told refused

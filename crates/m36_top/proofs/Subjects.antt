@@ -12,11 +12,11 @@ use Rattle.m36_program.specs.Goes.{Goes}
 use Rattle.m36_program.specs.Performs.{Performs}
 use Rattle.m36_program.specs.Program.{quiet, Program, then_with}
 use Rattle.m36_program.specs.Reader.{IsReader}
-use Rattle.m36_program.specs.Trail.{pieces_of}
+use Rattle.m36_program.specs.MayHappen.{pieces_of}
 use Rattle.cmd_image.specs.declared.command.ImageCommand.TheVariants as image
 use Rattle.cmd_image.specs.AuditText.{yes_line}
-use Rattle.m36_files.specs.Deciding.{decides}
-use Rattle.m36_files.specs.Writing.{writing}
+use Rattle.m36_files.specs.Deciding.{rule_program}
+use Rattle.m36_files.specs.Writing.{may_write_files}
 use Rattle.m36_files.proofs.AreReaders.{reader_decides}
 use Rattle.cmd_image.specs.ImageProgram.{on_image, image_program}
 use Rattle.cmd_image.proofs.ImageReads.{image_reader}
@@ -31,8 +31,8 @@ use Rattle.cmd_folder.proofs.FolderEnds.{folder_done, folder_yes}
 use Rattle.cmd_procs.specs.ProcsProgram.{on_procs, procs_program}
 use Rattle.cmd_procs.proofs.ProcsReads.{procs_reader}
 use Rattle.cmd_procs.proofs.ProcsEnded.{procs_done, procs_yes}
-use Rattle.cmd_make.specs.Making.{sets_of}
-use Rattle.cmd_make.specs.Made.{head_of}
+use Rattle.cmd_make.specs.Making.{files_of_seed}
+use Rattle.cmd_make.specs.Made.{head_line_of_files}
 use Rattle.cmd_make.specs.MakeProgram.{write_and_boot, make_program}
 use Rattle.cmd_make.proofs.MadeDone.{ends_done}
 use Rattle.cmd_make.proofs.MadeYes.{seed_yes}
@@ -44,7 +44,7 @@ use Rattle.cmd_debug.proofs.DebugCalls.{image_done as image_talk_done, folder_do
 use Rattle.m36_top.specs.declared.command.Command.{Command}
 use Rattle.m36_top.specs.declared.command.Command.TheVariants.{Bare, Audit, Booted, Procs, Access, Print}
 use Rattle.m36_top.specs.declared.command.Command.TheVariants.{Alm, Bind, DebugFolder, DebugImage, Make}
-use Rattle.m36_top.specs.Commands.{may_of, Subject, reader_of, Needs, Promised, yes_by, yes_of}
+use Rattle.m36_top.specs.Commands.{may_of, Subject, reader_of, Needs, Promised, make_yes_text, yes_text}
 use Rattle.m36_top.specs.Programs.{program}
 
 -- what each command does with its subject
@@ -88,7 +88,7 @@ reads_only (Alm files) = (tool_laws.alm files).reads
 reads_only (Bind files) = (tool_laws.bind files).reads
 reads_only DebugFolder = folder_reader talking None
 reads_only (DebugImage file) = image_reader talking file
-reads_only (Make seed) = reader_decides writing (sets_of seed)
+reads_only (Make seed) = reader_decides may_write_files (files_of_seed seed)
 
 -- ---- the end with Done
 
@@ -130,12 +130,12 @@ append_filled (x ∷ before) after filled none = absurd (cc)
 line_filled : yes_line ≡ [] → ⊥
 line_filled none = cc
 
-made_filled : (given : Result (List Set) Refusal) → yes_by given ≡ [] → ⊥
-made_filled (Ok sets) none = append_filled (head_of sets) yes_line line_filled none
+made_filled : (given : Result (List Set) Refusal) → make_yes_text given ≡ [] → ⊥
+made_filled (Ok sets) none = append_filled (head_line_of_files sets) yes_line line_filled none
 made_filled (Err refused) none = line_filled none
 
-pub yes_filled : (command : Command) → yes_of command ≡ [] → ⊥
-yes_filled (Make seed) none = made_filled (sets_of seed) none
+pub yes_filled : (command : Command) → yes_text command ≡ [] → ⊥
+yes_filled (Make seed) none = made_filled (files_of_seed seed) none
 yes_filled _ none = line_filled none
 
 same_sets :
@@ -146,9 +146,9 @@ same_sets one other is = cc
 -- the value of a rule is what was computed
 pub decides_value :
     (given : Result (List Set) Refusal) (events : List Event) (sets : List Set)
-    → Goes {may = writing} (decides given) events (Ok sets)
+    → Goes {may = may_write_files} (rule_program given) events (Ok sets)
     → given ≡ Ok sets
-unfolding Goes decides
+unfolding Goes rule_program
 decides_value (Ok a) events sets (inl goes) = same_sets a sets goes.result_is
 decides_value (Ok a) events sets (inr goes) = let e = goes.result_is in absurd (cc)
 decides_value (Err (refusal.BadFile bad)) events sets (inl goes) = let e = goes.result_is in absurd (cc)
@@ -158,12 +158,12 @@ decides_value (Err refusal.NoMemory) events sets (inr goes) = let e = goes.resul
 
 -- The subject is that of the command; for `make`, the files of its seed.
 abbrev pub IsSubject : (command : Command) → Subject command → Type 0
-IsSubject (Make seed) sets = sets_of seed ≡ Ok sets
+IsSubject (Make seed) sets = files_of_seed seed ≡ Ok sets
 IsSubject _ subject = Unit {0}
 
 pub yes_promised :
     (command : Command) (subject : Subject command) (events : List Event) (result : Result (Unit {0}) Status)
-    → Goes (work_of command subject) events result → StartsWith (yes_of command) (pieces_of events)
+    → Goes (work_of command subject) events result → StartsWith (yes_text command) (pieces_of events)
     → IsSubject command subject → Promised command subject
 yes_promised (Bare file run) state events result goes starts is =
     image_yes (image.Bare run) state events result goes starts
@@ -174,5 +174,5 @@ yes_promised (Booted command user) given events result goes starts is =
 yes_promised (Procs file unaudited) procs events result goes starts is =
     procs_yes unaudited procs events result goes starts
 yes_promised (Make seed) sets events result goes starts is =
-    seed_yes sets events result (subst (λ given. StartsWith (yes_by given) (pieces_of events)) is starts) (inl goes)
+    seed_yes sets events result (subst (λ given. StartsWith (make_yes_text given) (pieces_of events)) is starts) (inl goes)
 yes_promised _ subject events result goes starts is = tt

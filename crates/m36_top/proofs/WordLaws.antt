@@ -2,7 +2,7 @@
 use Rattle.std.proofs.Common.{◌≡◌, ℕ, ◌+◌, ◌<◌, ◌≤◌, List, [], ◌∷◌, length, drop, get_or, Option, Some, None, refl, sym, ap, ◌∙◌}
 use Rattle.std.specs.Option.{option_and_then}
 use Rattle.std.proofs.lemmas.List.{at_drop_more, at_drop_all}
-use Rattle.m36_top.specs.Words.{with_word, with_words, ended_by}
+use Rattle.m36_top.specs.Words.{with_word, with_words, complete_given}
 use Rattle.m36_top.specs.declared.words.Given.{Given}
 
 words_begin :
@@ -11,7 +11,7 @@ words_begin :
 unfolding with_words
 words_begin g word words o e = ap (λ o. option_and_then (λ h. with_words h words) o) e
 
-words_none : (g : Given) → with_words g [] ≡ ended_by g.expects g
+words_none : (g : Given) → with_words g [] ≡ complete_given g.expects g
 unfolding with_words
 words_none g = refl
 
@@ -34,7 +34,7 @@ words_fail words i g all word inside so_far at read =
 -- all words were read
 pub words_end :
     (words : List (List ℕ)) (i : ℕ) (g : Given) (all : Option Given)
-    → length words ≤ i → with_words g (drop i words) ≡ all → ended_by g.expects g ≡ all
+    → length words ≤ i → with_words g (drop i words) ≡ all → complete_given g.expects g ≡ all
 words_end words i g all past so_far = sym (words_none g) ∙ sym (at_drop_all (with_words g) words i past) ∙ so_far
 
 pub ruleset words_in_turn = (words_more, words_fail, words_end)

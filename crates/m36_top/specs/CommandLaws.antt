@@ -7,8 +7,8 @@ use Rattle.m36_world.specs.Seen.{Seen}
 use Rattle.m36_status.specs.declared.status.Status.{Status}
 use Rattle.m36_program.specs.Alike.{IsEnd}
 use Rattle.m36_program.specs.Performs.{Performs}
-use Rattle.m36_program.specs.Reader.{outcome_in}
-use Rattle.m36_program.specs.Trail.{pieces_of}
+use Rattle.m36_program.specs.Reader.{reader_result}
+use Rattle.m36_program.specs.MayHappen.{pieces_of}
 use Rattle.cmd_folder.specs.BootedLaw.{BootedLaw}
 use Rattle.cmd_image.specs.ImageEnds.{ImageEndLaw}
 use Rattle.cmd_image.specs.OneText.{ImageTextLaw}
@@ -35,7 +35,7 @@ pub record CommandLaws : Type 0 where
   pub refused :
       (command : Command) (files : Files) (status : Status) (result : Result (Unit {0}) Status)
       (old new : Seen)
-      → old.files ≡ Some files → outcome_in files (reader_of command) ≡ Some (Err status)
+      → old.files ≡ Some files → reader_result files (reader_of command) ≡ Some (Err status)
       → (performs : Performs (program command) result old new)
       → IsRefused status performs.events result
   -- `bare FILE` and `audit FILE`

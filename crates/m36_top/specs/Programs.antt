@@ -2,7 +2,7 @@
 use Rattle.std.specs.Prelude.{⊤, Option, Some, None}
 use Rattle.m36_world.specs.Seen.{Seen}
 use Rattle.m36_status.specs.declared.status.Status.{Status}
-use Rattle.m36_program.specs.Early.{early}
+use Rattle.m36_program.specs.Early.{result_of_status}
 use Rattle.m36_program.specs.Objects.{PerformsOver}
 use Rattle.m36_program.specs.Program.{Program}
 use Rattle.cmd_image.specs.declared.command.ImageCommand.TheVariants as image
@@ -36,7 +36,7 @@ program (Make seed) = make_program seed
 -- program goes to the status.
 abbrev pub CommandPerforms : Command → Status → Seen → Seen → Type 0
 CommandPerforms command result old new =
-    PerformsOver (program command) (early result) old new
+    PerformsOver (program command) (result_of_status result) old new
 
 -- The call performs the program of the command that its words ask for. If they ask for none,
 -- nothing is required.

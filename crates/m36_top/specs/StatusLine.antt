@@ -10,27 +10,27 @@ use Rattle.m36_status.specs.declared.status.Status.TheVariants.{BadFile, AuditNo
 use Rattle.m36_status.specs.declared.status.Status.TheVariants.{Steps, NoMemory}
 
 -- the name of the file, the code, the place and the column, each after a blank
-abbrev pub bad_place : Bad → List ℕ
-bad_place bad =
+abbrev pub bad_file_details : Bad → List ℕ
+bad_file_details bad =
     ((((((codes " " ++ bad.name) ++ codes " ") ++ code_name bad.code) ++ codes " ")
     ++ decimal_text bad.at) ++ codes " ")
     ++ decimal_text bad.column
 
 -- what follows the name of a status in its line: the refusal after BadFile, otherwise nothing
-abbrev pub details : Status → List ℕ
-details (BadFile bad) = bad_place bad
-details Done = []
-details Usage = []
-details ReadFault = []
-details WriteFault = []
-details AuditNo = []
-details (MachineStop end) = []
-details Steps = []
-details NoMemory = []
+abbrev pub status_details : Status → List ℕ
+status_details (BadFile bad) = bad_file_details bad
+status_details Done = []
+status_details Usage = []
+status_details ReadFault = []
+status_details WriteFault = []
+status_details AuditNo = []
+status_details (MachineStop end) = []
+status_details Steps = []
+status_details NoMemory = []
 
 -- `m36: `, the name of the status, and after BadFile its details
 abbrev pub status_line : Status → List ℕ
-status_line status = as_line ((codes "m36: " ++ status_name status) ++ details status)
+status_line status = as_line ((codes "m36: " ++ status_name status) ++ status_details status)
 
 -- what is printed to standard error: the line of the status, or nothing after Done
 abbrev pub report_of : Status → List ℕ

@@ -6,26 +6,26 @@ use Rattle.m36_world.specs.Seen.{Seen}
 use Rattle.m36_status.specs.declared.status.Status.{Status}
 use Rattle.m36_status.specs.declared.status.Status.TheVariants.{Done, ReadFault, WriteFault}
 use Rattle.m36_status.specs.declared.status.Status.TheVariants.{NoMemory}
-use Rattle.m36_program.specs.Early.{early}
-use Rattle.m36_program.specs.Ended.{NoneRose, SaysYes, Audited}
+use Rattle.m36_program.specs.Early.{result_of_status}
+use Rattle.m36_program.specs.Ended.{NoneRose, OutputStartsWith, HasAuditedValue}
 use Rattle.m36_program.specs.Performs.{Performs}
 use Rattle.m36_program.specs.Program.{May, quiet}
-use Rattle.m36_program.specs.Reader.{outcome_in}
-use Rattle.m36_program.specs.Trail.{HasCause, FilesKept, InputKept}
+use Rattle.m36_program.specs.Reader.{reader_result}
+use Rattle.m36_program.specs.MayHappen.{HasCause, FilesKept, InputKept}
 use Rattle.cmd_image.specs.AuditText.{yes_line}
 use Rattle.m36_top.specs.declared.command.Command.{Command}
-use Rattle.m36_top.specs.Commands.{may_of, Subject, reader_of, Needs, Promised, yes_of}
+use Rattle.m36_top.specs.Commands.{may_of, Subject, reader_of, Needs, Promised, yes_text}
 use Rattle.m36_top.specs.Programs.{program, TopPerforms}
 
 -- what the command may do; without one, nothing
-abbrev pub may_by : Option Command → May
-may_by None = quiet
-may_by (Some command) = may_of command
+abbrev pub may_of_any : Option Command → May
+may_of_any None = quiet
+may_of_any (Some command) = may_of command
 
 -- A call over a world performs the program of the command. Without a command nothing happens.
 abbrev pub WorldPerforms : Option Command → Status → Seen → Seen → Type 0
 WorldPerforms None result old new = new ≡ old
-WorldPerforms (Some command) result old new = Performs (program command) (early result) old new
+WorldPerforms (Some command) result old new = Performs (program command) (result_of_status result) old new
 
 -- If the folder shows its files, the command accepts them, what it needs holds, and nothing fails
 -- outside, then the status is Done, or memory ran out.
@@ -33,7 +33,7 @@ abbrev pub EndsDone : Option Command → Status → Seen → Seen → Type 0
 EndsDone None result old new = ⊤
 EndsDone (Some command) result old new =
     (files : Files) (subject : Subject command)
-    → old.files ≡ Some files → outcome_in files (reader_of command) ≡ Some (Ok subject)
+    → old.files ≡ Some files → reader_result files (reader_of command) ≡ Some (Ok subject)
     → Needs command old.left subject → NoneRose old new
     → (result ≡ Done) ⊎ (result ≡ NoMemory)
 
@@ -41,10 +41,10 @@ EndsDone (Some command) result old new =
 -- read its subject in this call, and what it audits of it passes. Without a command there is no
 -- such output.
 abbrev pub YesPasses : Option Command → Seen → Seen → Type 0
-YesPasses None old new = ¬ SaysYes yes_line old.written new.written
+YesPasses None old new = ¬ OutputStartsWith yes_line old.written new.written
 YesPasses (Some command) old new =
-    SaysYes (yes_of command) old.written new.written
-    → Audited (reader_of command) (Promised command) old new
+    OutputStartsWith (yes_text command) old.written new.written
+    → HasAuditedValue (reader_of command) (Promised command) old new
 
 -- What the top call promises, in six parts. `command` is what the words ask for, `result` the
 -- status of the call, `old` and `new` what was recorded before the call and after it.
@@ -54,15 +54,15 @@ pub record TopCall (command : Option Command) (result : Status) (old new : Seen)
   pub performs : TopPerforms command result old new
   -- With ReadFault a read of a file or of the input failed, and with WriteFault a write of a file
   -- or of the output: the count of exactly one of the four rose. With any other status none rose.
-  pub cause : HasCause (early result) old new
+  pub cause : HasCause (result_of_status result) old new
   -- Accepted files and met needs lead to Done, if nothing fails outside and memory suffices.
   pub done : EndsDone command result old new
   -- `audit yes` is only printed if all conditions of the audit hold.
   pub isolated : YesPasses command old new
   -- Only `alm`, `bind` and `make` write files.
-  pub files : (may_by command).writes ≡ false → FilesKept old new
+  pub files : (may_of_any command).writes ≡ false → FilesKept old new
   -- Only a session takes input.
-  pub input : (may_by command).takes ≡ false → InputKept old new
+  pub input : (may_of_any command).takes ≡ false → InputKept old new
 
 -- ---- objects that never fail
 

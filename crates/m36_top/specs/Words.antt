@@ -46,13 +46,13 @@ use Rattle.m36_top.specs.declared.command.Command.TheVariants.{DebugFolder, Debu
 
 -- the operand that a word can be: the name of a file, a user, or both; None if it is neither. A
 -- seed has the form of a name of a file.
-abbrev pub operand_by : Option (List ℕ) → Option (List ℕ) → Option Operand
-operand_by file user =
+abbrev pub operand_or_none : Option (List ℕ) → Option (List ℕ) → Option Operand
+operand_or_none file user =
     if is_none file && is_none user then None else Some (record { file = file; user = user })
 
 -- a word as an operand; None if it is neither the name of a file nor a user
 abbrev pub operand_of : List ℕ → Option Operand
-operand_of word = operand_by (name_of word) (user_of word)
+operand_of word = operand_or_none (name_of word) (user_of word)
 
 -- the greatest value of `--steps`
 abbrev pub steps_limit : ℕ
@@ -94,12 +94,12 @@ abbrev pub expecting : Given → Expects → Given
 expecting g e = record g { expects = e }
 
 -- the beginning of a word with the option `--steps` and its value
-abbrev pub steps_before : List ℕ
-steps_before = codes "--steps="
+abbrev pub steps_prefix : List ℕ
+steps_prefix = codes "--steps="
 
 -- the beginning of a word with the option `--user` and its value
-abbrev pub user_before : List ℕ
-user_before = codes "--user="
+abbrev pub user_prefix : List ℕ
+user_prefix = codes "--user="
 
 -- Does a word begin with a text?
 abbrev pub begins_with : List ℕ → List ℕ → Bool
@@ -107,49 +107,49 @@ begins_with text word = nat_le (length text) (length word) && is_text text (take
 
 -- Is a word `--steps=` and a value?
 abbrev pub is_steps_with_value : List ℕ → Bool
-is_steps_with_value word = begins_with steps_before word
+is_steps_with_value word = begins_with steps_prefix word
 
 -- Is a word `--user=` and a value?
 abbrev pub is_user_with_value : List ℕ → Bool
-is_user_with_value word = begins_with user_before word
+is_user_with_value word = begins_with user_prefix word
 
 -- adds one word where an option or the operand may follow
-abbrev pub with_any : Given → List ℕ → Option Given
-with_any g word =
+abbrev pub with_option_or_operand : Given → List ℕ → Option Given
+with_option_or_operand g word =
     if is_text (codes "--") word then Some (expecting g expects.Operand)
     else if is_text (codes "--steps") word then Some (expecting g expects.Steps)
     else if is_text (codes "--user") word then Some (expecting g expects.User)
     else if is_text (codes "--unaudited") word then with_unaudited g
-    else if is_steps_with_value word then with_steps g (drop (length steps_before) word)
-    else if is_user_with_value word then with_user g (drop (length user_before) word)
+    else if is_steps_with_value word then with_steps g (drop (length steps_prefix) word)
+    else if is_user_with_value word then with_user g (drop (length user_prefix) word)
     else with_operand g word
 
 -- adds one word, which is read as what is expected
-abbrev pub word_by : Expects → Given → List ℕ → Option Given
-word_by expects.Any g word = with_any g word
-word_by expects.Steps g word = with_steps (expecting g expects.Any) word
-word_by expects.User g word = with_user (expecting g expects.Any) word
-word_by expects.Operand g word = with_operand g word
+abbrev pub with_expected_word : Expects → Given → List ℕ → Option Given
+with_expected_word expects.Any g word = with_option_or_operand g word
+with_expected_word expects.Steps g word = with_steps (expecting g expects.Any) word
+with_expected_word expects.User g word = with_user (expecting g expects.Any) word
+with_expected_word expects.Operand g word = with_operand g word
 
 -- adds one word to the operand and options so far; None if with this word the list is no command
 unfoldable pub with_word : Given → List ℕ → Option Given
-with_word g word = word_by g.expects g word
+with_word g word = with_expected_word g.expects g word
 
 -- the operand and options at the end of the words; None if the value of an option is missing
-abbrev pub ended_by : Expects → Given → Option Given
-ended_by expects.Any g = Some g
-ended_by expects.Steps g = None
-ended_by expects.User g = None
-ended_by expects.Operand g = Some g
+abbrev pub complete_given : Expects → Given → Option Given
+complete_given expects.Any g = Some g
+complete_given expects.Steps g = None
+complete_given expects.User g = None
+complete_given expects.Operand g = Some g
 
 -- the operand and options after all these words; None if the list is no command
 unfoldable pub with_words : Given → List (List ℕ) → Option Given
-with_words g [] = ended_by g.expects g
+with_words g [] = complete_given g.expects g
 with_words g (word ∷ words) = option_and_then (λ h. with_words h words) (with_word g word)
 
 -- before the first word: no operand and no option
-abbrev pub nothing : Given
-nothing =
+abbrev pub nothing_given : Given
+nothing_given =
     record {
       operand = None;
       user = None;
@@ -184,22 +184,22 @@ bare g =
     (file_given g) else None
 
 -- Is neither `--steps` nor `--unaudited` given?
-abbrev pub runs_nothing : Given → Bool
-runs_nothing g = is_none g.steps && not g.unaudited
+abbrev pub has_no_run_option : Given → Bool
+has_no_run_option g = is_none g.steps && not g.unaudited
 
 -- Is no option given?
 abbrev pub has_no_option : Given → Bool
-has_no_option g = runs_nothing g && is_none g.user
+has_no_option g = has_no_run_option g && is_none g.user
 
 -- `audit` of a file, which takes no user, or of the folder; by its operand and user
-abbrev pub audit_of : Option Operand → Option (List ℕ) → Option Command
-audit_of None user = Some (Booted folder.Audit user)
-audit_of (Some o) None = option_map Audit o.file
-audit_of (Some o) (Some user) = None
+abbrev pub audit_command : Option Operand → Option (List ℕ) → Option Command
+audit_command None user = Some (Booted folder.Audit user)
+audit_command (Some o) None = option_map Audit o.file
+audit_command (Some o) (Some user) = None
 
 -- `audit` and `audit FILE`
 abbrev pub audit : Given → Option Command
-audit g = if runs_nothing g then audit_of g.operand g.user else None
+audit g = if has_no_run_option g then audit_command g.operand g.user else None
 
 -- the limit of steps, and whether the audit may fail, of `run` and `trace`
 abbrev pub folder_run : Given → FolderRun
@@ -233,37 +233,37 @@ abbrev pub made_name_limit : ℕ
 made_name_limit = name_limit - length bindfile_suffix
 
 -- May a suffix be added to this name?
-abbrev pub may_be_longer : List ℕ → Bool
-may_be_longer name = nat_le (length name) made_name_limit
+abbrev pub has_room_for_suffix : List ℕ → Bool
+has_room_for_suffix name = nat_le (length name) made_name_limit
 
 -- the command `alm` for an object of this name; None if the name is too long for a suffix
-abbrev pub alm_of : List ℕ → Option Command
-alm_of name =
-    if may_be_longer name
+abbrev pub alm_command : List ℕ → Option Command
+alm_command name =
+    if has_room_for_suffix name
     then Some (Alm (record { source = source_of_object name; object = name })) else None
 
 -- `alm NAME`
 abbrev pub alm : Given → Option Command
-alm g = if has_no_option g then option_and_then alm_of (file_given g) else None
+alm g = if has_no_option g then option_and_then alm_command (file_given g) else None
 
 -- the command `bind` for an object of this name; None if the name is too long for `.bind`
-abbrev pub bind_of : List ℕ → Option Command
-bind_of name =
-    if may_be_longer name
+abbrev pub bind_command : List ℕ → Option Command
+bind_command name =
+    if has_room_for_suffix name
     then Some (Bind (record { bindfile = bindfile_of_object name; object = name })) else None
 
 -- `bind NAME`
 abbrev pub bind : Given → Option Command
-bind g = if has_no_option g then option_and_then bind_of (file_given g) else None
+bind g = if has_no_option g then option_and_then bind_command (file_given g) else None
 
 -- `debug` of a file, or of the folder, by its operand
-abbrev pub debug_of : Option Operand → Option Command
-debug_of None = Some DebugFolder
-debug_of (Some o) = option_map DebugImage o.file
+abbrev pub debug_command : Option Operand → Option Command
+debug_command None = Some DebugFolder
+debug_command (Some o) = option_map DebugImage o.file
 
 -- `debug` and `debug FILE`
 abbrev pub debug : Given → Option Command
-debug g = if has_no_option g then debug_of g.operand else None
+debug g = if has_no_option g then debug_command g.operand else None
 
 -- a seed: one to 18 decimal digits; None for other texts
 abbrev pub seed_of : List ℕ → Option ℕ
@@ -295,4 +295,4 @@ command_in (entry ∷ entries) word g =
 -- the command that a list of words asks for; None if it is no command
 unfoldable pub command_of : List (List ℕ) → Option Command
 command_of [] = None
-command_of (word ∷ words) = option_and_then (command_in commands word) (with_words nothing words)
+command_of (word ∷ words) = option_and_then (command_in commands word) (with_words nothing_given words)

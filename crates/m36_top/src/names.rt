@@ -2,7 +2,7 @@
 
 ghost use Rattle.std.specs.Prelude.{◌≡◌, ◌≤◌, ◌++◌, length, Some};
 ghost use Rattle.m36_text.specs.FileNames.{source_of_object, bindfile_of_object};
-ghost use Rattle.m36_top.specs.Words.{operand_by, operand_of, made_name_limit};
+ghost use Rattle.m36_top.specs.Words.{operand_or_none, operand_of, made_name_limit};
 
 use arrayvec::ArrayVec;
 use m36_acl::User;
@@ -18,8 +18,8 @@ pub struct Operand {
 }
 
 // An operand that is the name of a file, a user, or both; None if it is neither.
-fn operand_by(file: Option<Name>, user: Option<User>) -> Option<Operand>
-    ensures { result ≡ operand_by file user }
+fn operand_or_none(file: Option<Name>, user: Option<User>) -> Option<Operand>
+    ensures { result ≡ operand_or_none file user }
 {
     if file.is_none() && user.is_none() {
         return None;
@@ -31,7 +31,7 @@ fn operand_by(file: Option<Name>, user: Option<User>) -> Option<Operand>
 pub fn operand_of(word: &[u8]) -> Option<Operand>
     ensures { result ≡ operand_of word.now }
 {
-    operand_by(name_of(word), User::read(word))
+    operand_or_none(name_of(word), User::read(word))
 }
 
 /// The name of the source of an object: NAME.alm. The name of the object has at most 27 characters.

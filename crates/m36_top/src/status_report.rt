@@ -1,7 +1,7 @@
 //! The line that reports how a call ended.
 
 ghost use Rattle.std.specs.Prelude.{◌≡◌, IfOk};
-ghost use Rattle.m36_top.specs.StatusLine.{bad_place, details, status_line, report_of};
+ghost use Rattle.m36_top.specs.StatusLine.{bad_file_details, status_details, status_line, report_of};
 
 use m36_outside::Text;
 use m36_status::{Bad, Status};
@@ -10,8 +10,8 @@ use m36_word::NoMemory;
 use std::alloc::Global;
 
 // The name of the file, the code, the place and the column, each after a blank.
-fn bad_place(alloc: Global, bad: &Bad) -> Result<Text, NoMemory>
-    ensures { IfOk result (λ text. text ≡ bad_place bad.now) }
+fn bad_file_details(alloc: Global, bad: &Bad) -> Result<Text, NoMemory>
+    ensures { IfOk result (λ text. text ≡ bad_file_details bad.now) }
 {
     let mut text = Text::from_bytes(alloc, b" ")?;
     text.append(bad.name.bytes())?;
@@ -25,11 +25,11 @@ fn bad_place(alloc: Global, bad: &Bad) -> Result<Text, NoMemory>
 }
 
 // What follows the name of a status in its line: of BadFile the refusal, of the others nothing.
-fn details(alloc: Global, status: &Status) -> Result<Text, NoMemory>
-    ensures { IfOk result (λ text. text ≡ details status.now) }
+fn status_details(alloc: Global, status: &Status) -> Result<Text, NoMemory>
+    ensures { IfOk result (λ text. text ≡ status_details status.now) }
 {
     match status {
-        Status::BadFile(bad) => bad_place(alloc, bad),
+        Status::BadFile(bad) => bad_file_details(alloc, bad),
         Status::Done
         | Status::Usage
         | Status::ReadFault
@@ -46,10 +46,10 @@ fn details(alloc: Global, status: &Status) -> Result<Text, NoMemory>
 fn status_line(alloc: Global, status: &Status) -> Result<Text, NoMemory>
     ensures { IfOk result (λ line. line ≡ status_line status.now) }
 {
-    let details = details(alloc, status)?;
+    let status_details = status_details(alloc, status)?;
     let mut line = Text::from_bytes(alloc, b"m36: ")?;
     line.append(status.name().as_bytes())?;
-    line.append(details.bytes())?;
+    line.append(status_details.bytes())?;
     line.append(b"\n")?;
     Ok(line)
 }

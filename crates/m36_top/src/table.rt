@@ -1,7 +1,7 @@
 //! The table of commands: what each command word makes of the operand and the options.
 
 ghost use Rattle.std.specs.Prelude.{◌≡◌};
-ghost use Rattle.m36_top.specs.Words.{file_given, user_given, bare, runs_nothing, has_no_option, audit_of, audit, folder_run, run, trace, procs, access, print, alm_of, alm, bind_of, bind, debug_of, debug, seed_of, make, commands, command_in};
+ghost use Rattle.m36_top.specs.Words.{file_given, user_given, bare, has_no_run_option, has_no_option, audit_command, audit, folder_run, run, trace, procs, access, print, alm_command, alm, bind_command, bind, debug_command, debug, seed_of, make, commands, command_in};
 
 use crate::command::Command;
 use crate::names::{Operand, bindfile_of, source_of};
@@ -53,8 +53,8 @@ fn bare(given: Given) -> Option<Command>
 }
 
 // Whether neither `--steps` nor `--unaudited` is given.
-fn runs_nothing(given: &Given) -> bool
-    ensures { result ≡ runs_nothing given.now }
+fn has_no_run_option(given: &Given) -> bool
+    ensures { result ≡ has_no_run_option given.now }
 {
     given.steps.is_none() && !given.unaudited
 }
@@ -63,12 +63,12 @@ fn runs_nothing(given: &Given) -> bool
 fn has_no_option(given: &Given) -> bool
     ensures { result ≡ has_no_option given.now }
 {
-    runs_nothing(given) && given.user.is_none()
+    has_no_run_option(given) && given.user.is_none()
 }
 
 // `audit FILE`, which takes no user, or `audit` of the folder.
-fn audit_of(operand: Option<Operand>, user: Option<User>) -> Option<Command>
-    ensures { result ≡ audit_of operand user }
+fn audit_command(operand: Option<Operand>, user: Option<User>) -> Option<Command>
+    ensures { result ≡ audit_command operand user }
 {
     match operand {
         None => Some(Command::Booted(FolderCommand::Audit, user)),
@@ -85,8 +85,8 @@ fn audit_of(operand: Option<Operand>, user: Option<User>) -> Option<Command>
 fn audit(given: Given) -> Option<Command>
     ensures { result ≡ audit given }
 {
-    if runs_nothing(&given) {
-        audit_of(given.operand, given.user)
+    if has_no_run_option(&given) {
+        audit_command(given.operand, given.user)
     } else {
         None
     }
@@ -161,8 +161,8 @@ fn print(given: Given) -> Option<Command>
 }
 
 // The command `alm` for an object of this name; None if the name is too long for a suffix.
-fn alm_of(object: Name) -> Option<Command>
-    ensures { result ≡ alm_of object }
+fn alm_command(object: Name) -> Option<Command>
+    ensures { result ≡ alm_command object }
 {
     if object.bytes().len() > LONGEST_MADE_NAME {
         return None;
@@ -176,15 +176,15 @@ fn alm(given: Given) -> Option<Command>
     ensures { result ≡ alm given }
 {
     if has_no_option(&given) {
-        alm_of(file_given(given)?)
+        alm_command(file_given(given)?)
     } else {
         None
     }
 }
 
 // The command `bind` for an object of this name; None if the name is too long for `.bind`.
-fn bind_of(object: Name) -> Option<Command>
-    ensures { result ≡ bind_of object }
+fn bind_command(object: Name) -> Option<Command>
+    ensures { result ≡ bind_command object }
 {
     if object.bytes().len() > LONGEST_MADE_NAME {
         return None;
@@ -198,15 +198,15 @@ fn bind(given: Given) -> Option<Command>
     ensures { result ≡ bind given }
 {
     if has_no_option(&given) {
-        bind_of(file_given(given)?)
+        bind_command(file_given(given)?)
     } else {
         None
     }
 }
 
 // `debug FILE`, or `debug` of the folder.
-fn debug_of(operand: Option<Operand>) -> Option<Command>
-    ensures { result ≡ debug_of operand }
+fn debug_command(operand: Option<Operand>) -> Option<Command>
+    ensures { result ≡ debug_command operand }
 {
     match operand {
         None => Some(Command::DebugFolder),
@@ -219,7 +219,7 @@ fn debug(given: Given) -> Option<Command>
     ensures { result ≡ debug given }
 {
     if has_no_option(&given) {
-        debug_of(given.operand)
+        debug_command(given.operand)
     } else {
         None
     }

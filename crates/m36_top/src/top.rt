@@ -1,7 +1,7 @@
 //! The top call.
 
 ghost use Rattle.std.specs.Prelude.{◌≡◌, ◌↔◌, None};
-ghost use Rattle.m36_program.specs.Objects.{objects};
+ghost use Rattle.m36_program.specs.Objects.{objects_as_world};
 ghost use Rattle.m36_program.specs.Performs.{Performs};
 ghost use Rattle.m36_top.specs.Words.{command_of};
 ghost use Rattle.m36_top.specs.Programs.{program};
@@ -10,13 +10,13 @@ ghost use Rattle.m36_top.specs.TopCall.{WorldPerforms, TopCall, NeverFail, IsNoF
 use crate::command::Command;
 use crate::words::command_of;
 use cmd_debug::{debug_folder, debug_image};
-use cmd_folder::folder_booted;
-use cmd_image::{ImageCommand, image_file};
-use cmd_make::make_files;
-use cmd_procs::procs_file;
+use cmd_folder::perform_folder_command;
+use cmd_image::{ImageCommand, perform_image_command};
+use cmd_make::perform_make;
+use cmd_procs::perform_procs_command;
 use cmd_tools::{assemble_file, bind_objects, print_access, print_object};
 use m36_outside::{Folder, Lines, Sink, Text};
-use m36_program::status_by;
+use m36_program::status_of_result;
 use m36_status::Status;
 use m36_world::{Borrowed, World};
 use std::alloc::Global;
@@ -27,18 +27,18 @@ pub fn perform<W: World>(alloc: Global, command: &Command, world: &mut W) -> Res
 {
     match command {
         Command::Bare(file, run) => {
-            image_file(alloc, file.bytes(), ImageCommand::Bare(*run), world)
+            perform_image_command(alloc, file.bytes(), ImageCommand::Bare(*run), world)
         }
-        Command::Audit(file) => image_file(alloc, file.bytes(), ImageCommand::Audit, world),
-        Command::Booted(command, user) => folder_booted(alloc, *command, user, world),
-        Command::Procs(file, unaudited) => procs_file(alloc, file.bytes(), *unaudited, world),
+        Command::Audit(file) => perform_image_command(alloc, file.bytes(), ImageCommand::Audit, world),
+        Command::Booted(command, user) => perform_folder_command(alloc, *command, user, world),
+        Command::Procs(file, unaudited) => perform_procs_command(alloc, file.bytes(), *unaudited, world),
         Command::Access(user) => print_access(alloc, user, world),
         Command::Print(name) => print_object(alloc, name.bytes(), world),
         Command::Alm(files) => assemble_file(alloc, files, world),
         Command::Bind(files) => bind_objects(alloc, files, world),
         Command::DebugFolder => debug_folder(alloc, world),
         Command::DebugImage(file) => debug_image(alloc, file.bytes(), world),
-        Command::Make(seed) => make_files(alloc, *seed, world),
+        Command::Make(seed) => perform_make(alloc, *seed, world),
     }
 }
 
@@ -58,7 +58,7 @@ pub fn m36_in<W: World>(alloc: Global, words: &[Text], world: &mut W) -> Status
     match command_of(words) {
         Some(command) => {
             let outcome = perform(alloc, &command, world);
-            status_by(outcome)
+            status_of_result(outcome)
         }
         None => Status::Usage,
     }
@@ -88,9 +88,9 @@ pub fn m36<F: Folder, L: Lines, S: Sink>(
     // promises, and that only some commands write files or take input: the parts of `TopCall`, each
     // by what the three objects record of the call.
     ensures call { TopCall (command_of words.now) result
-        (objects F.asked F.wrote F.files F.read_faults F.write_faults L.given L.left L.faults
+        (objects_as_world F.asked F.wrote F.files F.read_faults F.write_faults L.given L.left L.faults
         S.taken S.written S.faults folder.old lines.old out.old)
-        (objects F.asked F.wrote F.files F.read_faults F.write_faults L.given L.left L.faults
+        (objects_as_world F.asked F.wrote F.files F.read_faults F.write_faults L.given L.left L.faults
         S.taken S.written S.faults folder.new lines.new out.new) }
 
     // Over a folder, an input and an output that never fail, ReadFault and WriteFault never occur.

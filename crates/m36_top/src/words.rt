@@ -1,7 +1,7 @@
 //! The words of the command line.
 
 ghost use Rattle.std.specs.Prelude.{◌≡◌, ◌≤◌, true, length, drop, IfSome};
-ghost use Rattle.m36_top.specs.Words.{steps_limit, steps_of, with_operand, with_steps, with_user, with_unaudited, expecting, steps_before, user_before, is_steps_with_value, is_user_with_value, with_any, with_word, ended_by, with_words, nothing, command_of};
+ghost use Rattle.m36_top.specs.Words.{steps_limit, steps_of, with_operand, with_steps, with_user, with_unaudited, expecting, steps_prefix, user_prefix, is_steps_with_value, is_user_with_value, with_option_or_operand, with_word, complete_given, with_words, nothing_given, command_of};
 
 use crate::command::Command;
 use crate::names::{Operand, operand_of};
@@ -55,8 +55,8 @@ pub fn steps_of(text: &[u8]) -> Option<u32>
 }
 
 // Before the first word: no operand and no option.
-fn nothing() -> Given
-    ensures { result ≡ nothing }
+fn nothing_given() -> Given
+    ensures { result ≡ nothing_given }
 {
     Given {
         operand: None,
@@ -131,7 +131,7 @@ fn expecting(mut given: Given, expects: Expects) -> Given
 // Whether a word is `--steps=` and a value.
 fn is_steps_with_value(word: &[u8]) -> bool
     ensures value { result ≡ is_steps_with_value word.now }
-    ensures long { result ≡ true → length steps_before ≤ length word.now }
+    ensures long { result ≡ true → length steps_prefix ≤ length word.now }
 {
     word.len() >= 8 && &word[..8] == b"--steps=".as_slice()
 }
@@ -139,8 +139,8 @@ fn is_steps_with_value(word: &[u8]) -> bool
 // What follows `--steps=`.
 #[tactic(auto, using(m36_text::proofs::Splitting::rest_whole))]
 fn value_of_steps(word: &[u8]) -> &[u8]
-    requires { length steps_before ≤ length word.now }
-    ensures { result.now ≡ drop (length steps_before) word.now }
+    requires { length steps_prefix ≤ length word.now }
+    ensures { result.now ≡ drop (length steps_prefix) word.now }
 {
     &word[8..]
 }
@@ -148,7 +148,7 @@ fn value_of_steps(word: &[u8]) -> &[u8]
 // Whether a word is `--user=` and a value.
 fn is_user_with_value(word: &[u8]) -> bool
     ensures value { result ≡ is_user_with_value word.now }
-    ensures long { result ≡ true → length user_before ≤ length word.now }
+    ensures long { result ≡ true → length user_prefix ≤ length word.now }
 {
     word.len() >= 7 && &word[..7] == b"--user=".as_slice()
 }
@@ -156,15 +156,15 @@ fn is_user_with_value(word: &[u8]) -> bool
 // What follows `--user=`.
 #[tactic(auto, using(m36_text::proofs::Splitting::rest_whole))]
 fn value_of_user(word: &[u8]) -> &[u8]
-    requires { length user_before ≤ length word.now }
-    ensures { result.now ≡ drop (length user_before) word.now }
+    requires { length user_prefix ≤ length word.now }
+    ensures { result.now ≡ drop (length user_prefix) word.now }
 {
     &word[7..]
 }
 
 // Adds a word where an option or the operand may follow.
-fn with_any(given: Given, word: &[u8]) -> Option<Given>
-    ensures { result ≡ with_any given word.now }
+fn with_option_or_operand(given: Given, word: &[u8]) -> Option<Given>
+    ensures { result ≡ with_option_or_operand given word.now }
 {
     if word == b"--".as_slice() {
         return Some(expecting(given, Expects::Operand));
@@ -193,7 +193,7 @@ fn with_word(given: Given, word: &[u8]) -> Option<Given>
     ensures { result ≡ with_word given word.now }
 {
     match given.expects {
-        Expects::Any => with_any(given, word),
+        Expects::Any => with_option_or_operand(given, word),
         Expects::Steps => with_steps(expecting(given, Expects::Any), word),
         Expects::User => with_user(expecting(given, Expects::Any), word),
         Expects::Operand => with_operand(given, word),
@@ -201,8 +201,8 @@ fn with_word(given: Given, word: &[u8]) -> Option<Given>
 }
 
 // The operand and options at the end of the words; None if the value of an option is missing.
-fn ended(given: Given) -> Option<Given>
-    ensures { result ≡ ended_by given.expects given }
+fn complete_given(given: Given) -> Option<Given>
+    ensures { result ≡ complete_given given.expects given }
 {
     match given.expects {
         Expects::Any | Expects::Operand => Some(given),
@@ -214,13 +214,13 @@ fn ended(given: Given) -> Option<Given>
 // command.
 #[tactic(auto, using(crate::proofs::WordLaws::words_in_turn))]
 fn read_given(words: &[Text]) -> Option<Given>
-    ensures { result ≡ with_words nothing words.now }
+    ensures { result ≡ with_words nothing_given words.now }
 {
-    let mut given = nothing();
+    let mut given = nothing_given();
     for word in words {
         given = with_word(given, word.bytes())?;
     }
-    ended(given)
+    complete_given(given)
 }
 
 /// The command that the words ask for; None exactly if they are no command.

@@ -5,7 +5,7 @@ use Rattle.std.proofs.lemmas.List.FromFn.{get_or-map-range_with_len}
 use Rattle.std.proofs.lemmas.List.{append_assoc, take_at, take_all}
 use Rattle.m36_text.specs.Digits.{digits, octal_text, word_text, half_text}
 use Rattle.m36_text.proofs.DigitLaws.{length_octal}
-use Rattle.m36_trace.specs.Spaced.{spaced, all_triples}
+use Rattle.m36_trace.specs.Spaced.{with_space, all_triples}
 use Rattle.m36_trace.specs.declared.triples.TheConstants.{TRIPLES}
 
 -- the table has its defined values
@@ -15,11 +15,11 @@ triples = refl
 
 pub triple_of :
     (rows : List (List ℕ)) (v : ℕ) (d : List ℕ)
-    → rows ≡ all_triples → v < 512 → slice_index_or rows v d ≡ spaced (octal_text 3 v)
+    → rows ≡ all_triples → v < 512 → slice_index_or rows v d ≡ with_space (octal_text 3 v)
 unfolding all_triples
 triple_of rows v d are below =
     ap (λ (l : List (List ℕ)). slice_index_or l v d) are
-    ∙ get_or-map-range_with_len (λ v. spaced (octal_text 3 v)) 0 512 v v d below (omega arith)
+    ∙ get_or-map-range_with_len (λ v. with_space (octal_text 3 v)) 0 512 v v d below (omega arith)
 
 -- the last three digits are those of nine bits
 triple_low : (v : ℕ) → octal_text 3 (v % 512) ≡ octal_text 3 v
@@ -58,7 +58,7 @@ half_by_threes h =
 pub digits_put :
     (place v : ℕ) (old new triple : List ℕ)
     → ((count : ℕ) → count ≤ 4 → take (place + count) new ≡ take place old ++ take count triple)
-    → triple ≡ spaced (octal_text 3 (v % 512))
+    → triple ≡ with_space (octal_text 3 (v % 512))
     → take (place + 3) new ≡ take place old ++ octal_text 3 v
 digits_put place v old new triple put is =
     put 3 (omega arith)
@@ -68,17 +68,17 @@ digits_put place v old new triple put is =
 pub space_put :
     (place v : ℕ) (old new triple : List ℕ)
     → ((count : ℕ) → count ≤ 4 → take (place + count) new ≡ take place old ++ take count triple)
-    → triple ≡ spaced (octal_text 3 (v % 512))
-    → take (place + 4) new ≡ take place old ++ spaced (octal_text 3 v)
+    → triple ≡ with_space (octal_text 3 (v % 512))
+    → take (place + 4) new ≡ take place old ++ with_space (octal_text 3 v)
 space_put place v old new triple put is =
     let three = length_octal 3 (v % 512) in
     let four : length triple ≤ 4 = omega (arith, ap length is, length-append (octal_text 3 (v % 512)) (32 ∷ [])) in
     put 4 (omega arith)
-    ∙ ap (λ l. take place old ++ l) (take_all 4 triple four ∙ is ∙ ap spaced (triple_low v))
+    ∙ ap (λ l. take place old ++ l) (take_all 4 triple four ∙ is ∙ ap with_space (triple_low v))
 
 joined_threes :
     (before a b c d : List ℕ)
-    → (((before ++ a) ++ b) ++ c) ++ spaced d ≡ before ++ spaced (((a ++ b) ++ c) ++ d)
+    → (((before ++ a) ++ b) ++ c) ++ with_space d ≡ before ++ with_space (((a ++ b) ++ c) ++ d)
 joined_threes before a b c d = simp append_assoc
 
 -- three digits after three digits
@@ -87,8 +87,8 @@ pub word_put :
     → take (place + 3) first ≡ take place start ++ octal_text 3 (w / 2 ^ 27)
     → take (place + 3 + 3) second ≡ take (place + 3) first ++ octal_text 3 (w / 2 ^ 18)
     → take (place + 6 + 3) third ≡ take (place + 6) second ++ octal_text 3 (w / 2 ^ 9)
-    → take (place + 9 + 4) last ≡ take (place + 9) third ++ spaced (octal_text 3 w)
-    → take (place + 13) last ≡ take place start ++ spaced (word_text w)
+    → take (place + 9 + 4) last ≡ take (place + 9) third ++ with_space (octal_text 3 w)
+    → take (place + 13) last ≡ take place start ++ with_space (word_text w)
 word_put place w start first second third last a b c d =
     let six : place + 3 + 3 ≡ place + 6 = omega arith in
     let nine : place + 6 + 3 ≡ place + 9 = omega arith in
@@ -97,22 +97,22 @@ word_put place w start first second third last a b c d =
     let c' : take (place + 9) third ≡ take (place + 6) second ++ octal_text 3 (w / 2 ^ 9) = ap (λ n. take n third) (sym nine) ∙ c in
     ap (λ n. take n last) (sym all)
     ∙ d
-    ∙ ap (λ l. l ++ spaced (octal_text 3 w)) (c' ∙ ap (λ l. l ++ octal_text 3 (w / 2 ^ 9)) (b' ∙ ap (λ l. l ++ octal_text 3 (w / 2 ^ 18)) a))
+    ∙ ap (λ l. l ++ with_space (octal_text 3 w)) (c' ∙ ap (λ l. l ++ octal_text 3 (w / 2 ^ 9)) (b' ∙ ap (λ l. l ++ octal_text 3 (w / 2 ^ 18)) a))
     ∙ joined_threes (take place start) (octal_text 3 (w / 2 ^ 27)) (octal_text 3 (w / 2 ^ 18)) (octal_text 3 (w / 2 ^ 9)) (octal_text 3 w)
-    ∙ ap (λ l. take place start ++ spaced l) (sym (word_by_threes w))
+    ∙ ap (λ l. take place start ++ with_space l) (sym (word_by_threes w))
 
-joined_two : (before a b : List ℕ) → (before ++ a) ++ spaced b ≡ before ++ spaced (a ++ b)
+joined_two : (before a b : List ℕ) → (before ++ a) ++ with_space b ≡ before ++ with_space (a ++ b)
 joined_two before a b = simp append_assoc
 
 pub half_put :
     (place h : ℕ) (start first last : List ℕ)
     → take (place + 3) first ≡ take place start ++ octal_text 3 (h / 2 ^ 9)
-    → take (place + 3 + 4) last ≡ take (place + 3) first ++ spaced (octal_text 3 h)
-    → take (place + 7) last ≡ take place start ++ spaced (half_text h)
+    → take (place + 3 + 4) last ≡ take (place + 3) first ++ with_space (octal_text 3 h)
+    → take (place + 7) last ≡ take place start ++ with_space (half_text h)
 half_put place h start first last a b =
     let all : place + 3 + 4 ≡ place + 7 = omega arith in
     ap (λ n. take n last) (sym all)
     ∙ b
-    ∙ ap (λ l. l ++ spaced (octal_text 3 h)) a
+    ∙ ap (λ l. l ++ with_space (octal_text 3 h)) a
     ∙ joined_two (take place start) (octal_text 3 (h / 2 ^ 9)) (octal_text 3 h)
-    ∙ ap (λ l. take place start ++ spaced l) (sym (half_by_threes h))
+    ∙ ap (λ l. take place start ++ with_space l) (sym (half_by_threes h))

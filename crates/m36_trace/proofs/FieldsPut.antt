@@ -15,13 +15,13 @@ use Rattle.m36_model.specs.declared.outcome.Outcome.TheVariants.{Next}
 use Rattle.m36_model.specs.declared.record.StepRecord.{StepRecord}
 use Rattle.m36_model.specs.declared.record.Shown.{Shown}
 use Rattle.m36_model.specs.declared.registers.Ind.{Ind}
-use Rattle.m36_trace.specs.Spaced.{spaced, ring_segment_text, kept_place, kept_operand, kept_final, HasRingSegment}
-use Rattle.m36_trace.specs.Kept.{kept_by, kept_line, CanBeUsed}
+use Rattle.m36_trace.specs.Spaced.{with_space, ring_segment_text, kept_place, kept_operand, kept_final, HasRingSegment}
+use Rattle.m36_trace.specs.Kept.{kept_line_of_values, kept_line, CanBeUsed}
 use Rattle.m36_trace.specs.declared.text.TraceText.{TraceText}
 use Rattle.m36_trace.proofs.Lines.{put_in_turn}
-use Rattle.m36_trace.specs.TraceLine.{fields_by, line_of, shown_line, word_of_segment, instruction_text, operand_text, letter, final_text, indicators_text, outcome_text}
+use Rattle.m36_trace.specs.TraceLine.{fields_of_values, line_of, shown_line, segment_word_text, instruction_text, operand_text, letter, final_text, indicators_text, outcome_text}
 
-two_put : (before a b : List ℕ) → (before ++ a) ++ spaced b ≡ before ++ spaced (a ++ b)
+two_put : (before a b : List ℕ) → (before ++ a) ++ with_space b ≡ before ++ with_space (a ++ b)
 two_put before a b = simp append_assoc
 
 -- a front part of eight bytes, and a word number
@@ -29,22 +29,22 @@ pub place_put :
     (place ring mark seg word end : ℕ) (front start first last : List ℕ)
     → ((count : ℕ) → count ≤ 8 → take (place + count) first ≡ take place start ++ take count front)
     → length front ≡ 8 → front ≡ ring_segment_text ring mark seg
-    → take end last ≡ take (place + 8) first ++ spaced (half_text word)
-    → take end last ≡ take place start ++ spaced (kept_place ring mark seg word)
+    → take end last ≡ take (place + 8) first ++ with_space (half_text word)
+    → take end last ≡ take place start ++ with_space (kept_place ring mark seg word)
 place_put place ring mark seg word end front start first last put eight is half =
     half
-    ∙ ap (λ l. l ++ spaced (half_text word)) (put 8 (omega arith) ∙ ap (λ l. take place start ++ l) (take_all 8 front (omega arith) ∙ is))
+    ∙ ap (λ l. l ++ with_space (half_text word)) (put 8 (omega arith) ∙ ap (λ l. take place start ++ l) (take_all 8 front (omega arith) ∙ is))
     ∙ two_put (take place start) (ring_segment_text ring mark seg) (half_text word)
 
 -- an equals sign, and a word
 pub operand_put :
     (place word end : ℕ) (start first last : List ℕ)
     → ((count : ℕ) → count ≤ 1 → take (place + count) first ≡ take place start ++ take count (codes "="))
-    → take end last ≡ take (place + 1) first ++ spaced (word_text word)
-    → take end last ≡ take place start ++ spaced (codes "=" ++ word_text word)
+    → take end last ≡ take (place + 1) first ++ with_space (word_text word)
+    → take end last ≡ take place start ++ with_space (codes "=" ++ word_text word)
 operand_put place word end start first last put after =
     after
-    ∙ ap (λ l. l ++ spaced (word_text word)) (put 1 (omega arith))
+    ∙ ap (λ l. l ++ with_space (word_text word)) (put 1 (omega arith))
     ∙ two_put (take place start) (codes "=") (word_text word)
 
 -- six letters, and the outcome
@@ -92,32 +92,32 @@ final_is : (ring seg : ℕ) (end : Option FinalFields) → HasRingSegment ring s
 final_is ring seg (Some end) front = operand_is ring seg end.at end.direct front.0 front.1
 final_is ring seg None front = refl
 
-front_place : (ring seg word : ℕ) → kept_place ring 32 seg word ≡ octal_text 1 ring ++ 32 ∷ word_of_segment seg word
+front_place : (ring seg word : ℕ) → kept_place ring 32 seg word ≡ octal_text 1 ring ++ 32 ∷ segment_word_text seg word
 front_place ring seg word = simp append_assoc
 
 -- the kept parts of a step whose outcome is Next, with its other values, give its line
 kept_is :
     (n address_ring address_seg : ℕ) (ppr : PprFields) (word : Option ℕ) (at : Option FinalFields) (after : RegsFields)
     → HasRingSegment address_ring address_seg at
-    → kept_by n ppr.prr ppr.psr address_ring address_seg after.a after.q ppr.ic word at after.ind
-    ≡ as_line (joined_by_spaces (fields_by n ppr word at Next after))
-unfolding kept_by
+    → kept_line_of_values n ppr.prr ppr.psr address_ring address_seg after.a after.q ppr.ic word at after.ind
+    ≡ as_line (joined_by_spaces (fields_of_values n ppr word at Next after))
+unfolding kept_line_of_values
 kept_is n address_ring address_seg ppr word at after front =
     let place = front_place ppr.prr ppr.psr ppr.ic in
     let final = final_is address_ring address_seg at front in
-    (λ i. ((((((spaced (decimal_text n) ++ spaced (place i)) ++ spaced (instruction_text word)) ++ spaced (final i)) ++ spaced (word_text after.a)) ++ spaced (word_text after.q)) ++ as_line (indicators_text after.ind ++ codes " next")))
-    ∙ joined_nine (decimal_text n) (octal_text 1 ppr.prr) (word_of_segment ppr.psr ppr.ic) (instruction_text word) (final_text at) (word_text after.a) (word_text after.q) (indicators_text after.ind) (codes "next")
+    (λ i. ((((((with_space (decimal_text n) ++ with_space (place i)) ++ with_space (instruction_text word)) ++ with_space (final i)) ++ with_space (word_text after.a)) ++ with_space (word_text after.q)) ++ as_line (indicators_text after.ind ++ codes " next")))
+    ∙ joined_nine (decimal_text n) (octal_text 1 ppr.prr) (segment_word_text ppr.psr ppr.ic) (instruction_text word) (final_text at) (word_text after.a) (word_text after.q) (indicators_text after.ind) (codes "next")
 
 serves_line :
     (text : TraceText) (n : ℕ) (ppr : PprFields) (word : Option ℕ) (at : Option FinalFields) (outcome : Outcome) (after : RegsFields)
     → CanBeUsed text n ppr at outcome after
-    → kept_line text ppr word at after ≡ as_line (joined_by_spaces (fields_by n ppr word at outcome after))
+    → kept_line text ppr word at after ≡ as_line (joined_by_spaces (fields_of_values n ppr word at outcome after))
 serves_line text n ppr word at outcome after serves =
     let number = serves.number in
     let n_is : text.number.next - 1 ≡ n = omega arith in
-    (λ i. kept_by (n_is i) (serves.ring i) (serves.seg i) text.address.ring text.address.seg (serves.a i) (serves.q i) ppr.ic word at after.ind)
+    (λ i. kept_line_of_values (n_is i) (serves.ring i) (serves.seg i) text.address.ring text.address.seg (serves.a i) (serves.q i) ppr.ic word at after.ind)
     ∙ kept_is n text.address.ring text.address.seg ppr word at after serves.front
-    ∙ ap (λ o. as_line (joined_by_spaces (fields_by n ppr word at o after))) (sym serves.next)
+    ∙ ap (λ o. as_line (joined_by_spaces (fields_of_values n ppr word at o after))) (sym serves.next)
 
 pub step_adds :
     (answer : Put) (written written' : Option (List ℕ)) (taken taken' old new : List (List ℕ)) (text : TraceText) (n : ℕ) (told : StepRecord)

@@ -5,19 +5,19 @@ use Rattle.std.proofs.lemmas.Int.Digits.{length-digits_of-le}
 use Rattle.std.proofs.lemmas.List.{append_assoc, length-set, length-map, length-take-le, take_at, take_more_set, get_or-take, get_or_at, set_at, take-take, take-set, take-append-drop, drop_at, drop-set, drop-set-lt}
 use Rattle.std.proofs.Math.Seq.{take-set-lt}
 use borrow.Rule.Slice.PartMut.{put_mid, post_of, same_len_mid}
-use Rattle.m36_text.specs.Digits.{character, decimal_text}
+use Rattle.m36_text.specs.Digits.{digit_character, decimal_text}
 use Rattle.m36_text.proofs.DigitLaws.{decimal_last}
-use Rattle.m36_trace.specs.Spaced.{spaced}
+use Rattle.m36_trace.specs.Spaced.{with_space}
 
 -- all digits but the last
 abbrev front : ℕ → List ℕ
-front n = map character (digits_of 10 (n / 10))
+front n = map digit_character (digits_of 10 (n / 10))
 
 length_decimal : (n : ℕ) → length (decimal_text n) ≡ length (digits_of 10 (n / 10)) + 1
 length_decimal n =
     ap length (decimal_last n)
     ∙ length-append (front n) ((48 + n % 10) ∷ [])
-    ∙ ap (λ k. k + 1) (length-map (digits_of 10 (n / 10)) character)
+    ∙ ap (λ k. k + 1) (length-map (digits_of 10 (n / 10)) digit_character)
 
 pub decimal_short : (n : ℕ) → n < 10 ^ 15 → length (decimal_text n) ≤ 15
 decimal_short n below =
@@ -31,7 +31,7 @@ decimal_some n = omega (arith, length_decimal n)
 pub digits_put :
     (bytes digits copied : List ℕ) (size : ℕ)
     → copied ≡ digits → size ≡ length digits → 0 < size → size < length bytes
-    → take (size - 1 + 2) (set (put_mid 0 size bytes copied) size 32) ≡ spaced digits
+    → take (size - 1 + 2) (set (put_mid 0 size bytes copied) size 32) ≡ with_space digits
 digits_put bytes digits copied size is many some within =
     let end : size - 1 + 2 ≡ size + 1 = omega arith in
     let same : size ≡ length copied = many ∙ ap length (sym is) in
@@ -48,10 +48,10 @@ record LiesAt (bytes : List ℕ) (last n : ℕ) : Type 0 where
 
 lies_at :
     (bytes : List ℕ) (last n : ℕ)
-    → last + 2 ≤ length bytes → take (last + 2) bytes ≡ spaced (decimal_text n) → LiesAt bytes last n
+    → last + 2 ≤ length bytes → take (last + 2) bytes ≡ with_space (decimal_text n) → LiesAt bytes last n
 lies_at bytes last n within spelled =
     let text : take (last + 2) bytes ≡ (front n ++ (48 + n % 10) ∷ []) ++ 32 ∷ [] =
-    spelled ∙ ap spaced (decimal_last n) in
+    spelled ∙ ap with_space (decimal_last n) in
     let size : last + 2 ≡ length ((front n ++ (48 + n % 10) ∷ []) ++ 32 ∷ []) =
     sym (length-take-le (last + 2) bytes within) ∙ ap length text in
     record {
@@ -71,9 +71,9 @@ last_digit_is bytes last n within lies =
 pub counted :
     (bytes : List ℕ) (last next digit : ℕ)
     → last + 2 ≤ length bytes → 0 < next
-    → take (last + 2) bytes ≡ spaced (decimal_text (next - 1))
+    → take (last + 2) bytes ≡ with_space (decimal_text (next - 1))
     → digit ≡ get_or bytes last 0 → digit < 57
-    → take (last + 2) (set bytes last (digit + 1)) ≡ spaced (decimal_text (next + 1 - 1))
+    → take (last + 2) (set bytes last (digit + 1)) ≡ with_space (decimal_text (next + 1 - 1))
 counted bytes last next digit within some spelled is below =
     let n = next - 1 in
     let lies = lies_at bytes last n within spelled in
@@ -86,14 +86,14 @@ counted bytes last next digit within some spelled is below =
     ∙ set_at (front n) (48 + n % 10) (32 ∷ []) (digit + 1) last (sym place)
     ∙ sym (append_assoc (front n) ((digit + 1) ∷ []) (32 ∷ []))
     ∙ ap (λ d. (front n ++ d ∷ []) ++ 32 ∷ []) last_is
-    ∙ ap (λ (q : ℕ). (map character (digits_of 10 q) ++ (48 + (next + 1 - 1) % 10) ∷ []) ++ 32 ∷ []) tens
-    ∙ ap spaced (sym (decimal_last (next + 1 - 1)))
+    ∙ ap (λ (q : ℕ). (map digit_character (digits_of 10 q) ++ (48 + (next + 1 - 1) % 10) ∷ []) ++ 32 ∷ []) tens
+    ∙ ap with_space (sym (decimal_last (next + 1 - 1)))
 
 -- and that number has as many digits
 pub few_digits :
     (bytes : List ℕ) (last next digit : ℕ)
     → last + 2 ≤ length bytes → 0 < next → next ≤ 10 ^ 15
-    → take (last + 2) bytes ≡ spaced (decimal_text (next - 1))
+    → take (last + 2) bytes ≡ with_space (decimal_text (next - 1))
     → digit ≡ get_or bytes last 0 → digit < 57
     → next + 1 ≤ 10 ^ 15
 few_digits bytes last next digit within some few spelled is below =
@@ -103,7 +103,7 @@ few_digits bytes last next digit within some few spelled is below =
 
 -- ---- a carry
 
-decimal_all : (v : ℕ) → 0 < v → decimal_text v ≡ map character (digits_of 10 v)
+decimal_all : (v : ℕ) → 0 < v → decimal_text v ≡ map digit_character (digits_of 10 v)
 unfolding decimal_text
 decimal_all zero some = absurd (omega arith)
 decimal_all (suc v) some = refl
@@ -114,11 +114,11 @@ pub record Carries (all : List ℕ) (place n : ℕ) : Type 0 where
   pub left : ℕ
   pub inside : place + 1 < length all
   pub digits : take (place + 1) all ≡ decimal_text left
-  pub rest : decimal_text (left + 1) ++ drop (place + 1) all ≡ spaced (decimal_text (n + 1))
+  pub rest : decimal_text (left + 1) ++ drop (place + 1) all ≡ with_space (decimal_text (n + 1))
 
 pub carry_start :
     (all : List ℕ) (last n : ℕ)
-    → all ≡ spaced (decimal_text n) → length all ≡ last + 2 → Carries all last n
+    → all ≡ with_space (decimal_text n) → length all ≡ last + 2 → Carries all last n
 carry_start all last n is size =
     let d = decimal_text n in
     let end : length d ≡ last + 1 = omega (arith, ap length is, length-append d (32 ∷ [])) in
@@ -169,15 +169,15 @@ carry_more all place n c some nine =
     let ends = ends_at all place n c in
     let digit = ends.digit in
     let size = ends.size in
-    let many : length (digits_of 10 (m / 10)) ≡ place = sym (length-map (digits_of 10 (m / 10)) character) ∙ size in
+    let many : length (digits_of 10 (m / 10)) ≡ place = sym (length-map (digits_of 10 (m / 10)) digit_character) ∙ size in
     let tens : 0 < m / 10 = some_tens (m / 10) place many some in
     let back : place - 1 + 1 ≡ place = omega arith in
     let tens_next : (m + 1) / 10 ≡ m / 10 + 1 = omega arith in
     let zero_next : 48 + (m + 1) % 10 ≡ 48 = omega arith in
     let next : decimal_text (m + 1) ≡ decimal_text (m / 10 + 1) ++ 48 ∷ [] =
     decimal_last (m + 1)
-    ∙ ap (λ d. map character (digits_of 10 ((m + 1) / 10)) ++ d ∷ []) zero_next
-    ∙ ap (λ v. map character (digits_of 10 v) ++ 48 ∷ []) tens_next
+    ∙ ap (λ d. map digit_character (digits_of 10 ((m + 1) / 10)) ++ d ∷ []) zero_next
+    ∙ ap (λ v. map digit_character (digits_of 10 v) ++ 48 ∷ []) tens_next
     ∙ ap (λ l. l ++ 48 ∷ []) (sym (decimal_all (m / 10 + 1) (omega arith))) in
     record {
       left = m / 10;
@@ -197,7 +197,7 @@ carry_more all place n c some nine =
 pub carry_end :
     (all : List ℕ) (place n digit : ℕ)
     → Carries all place n → digit ≡ get_or all place 0 → digit < 57
-    → set all place (digit + 1) ≡ spaced (decimal_text (n + 1))
+    → set all place (digit + 1) ≡ with_space (decimal_text (n + 1))
 carry_end all place n digit c is below =
     let m = c.left in
     let inside = c.inside in
@@ -209,6 +209,6 @@ carry_end all place n digit c is below =
     ∙ ap (λ l. l ++ drop (place + 1) (set all place (digit + 1))) (take_more_set all place (digit + 1) (omega arith) ∙ ap (λ l. l ++ (digit + 1) ∷ []) ends.before)
     ∙ ap (λ l. (front m ++ (digit + 1) ∷ []) ++ l) (drop-set-lt (place + 1) all place (digit + 1) (omega arith))
     ∙ ap (λ d. (front m ++ d ∷ []) ++ drop (place + 1) all) last_is
-    ∙ ap (λ (q : ℕ). (map character (digits_of 10 q) ++ (48 + (m + 1) % 10) ∷ []) ++ drop (place + 1) all) tens
+    ∙ ap (λ (q : ℕ). (map digit_character (digits_of 10 q) ++ (48 + (m + 1) % 10) ∷ []) ++ drop (place + 1) all) tens
     ∙ ap (λ l. l ++ drop (place + 1) all) (sym (decimal_last (m + 1)))
     ∙ c.rest

@@ -5,12 +5,12 @@ use Rattle.m36_text.specs.Digits.{octal_text, segment_digits, word_text, half_te
 use Rattle.m36_model.specs.Fields.{FinalFields}
 
 -- a field and a space
-abbrev pub spaced : List ℕ → List ℕ
-spaced field = field ++ 32 ∷ []
+abbrev pub with_space : List ℕ → List ℕ
+with_space field = field ++ 32 ∷ []
 
 -- the numbers below 512, each in three octal digits and a space
 unfoldable pub all_triples : List (List ℕ)
-all_triples = map (λ v. spaced (octal_text 3 v)) (range_with_len 0 512)
+all_triples = map (λ v. with_space (octal_text 3 v)) (range_with_len 0 512)
 
 -- a ring and a segment number with a character between them, and the bar before the word number
 abbrev pub ring_segment_text : ℕ → ℕ → ℕ → List ℕ

@@ -16,8 +16,8 @@ use Rattle.m36_model.specs.declared.record.StepRecord.{StepRecord}
 use Rattle.m36_model.specs.declared.record.Shown.{Shown}
 
 -- a segment number, a bar and a word number
-abbrev pub word_of_segment : ℕ → ℕ → List ℕ
-word_of_segment seg word = octal_text segment_digits seg ++ codes "|" ++ half_text word
+abbrev pub segment_word_text : ℕ → ℕ → List ℕ
+segment_word_text seg word = octal_text segment_digits seg ++ codes "|" ++ half_text word
 
 -- the instruction's word, or a dash if the fetch was refused
 abbrev pub instruction_text : Option ℕ → List ℕ
@@ -26,7 +26,7 @@ instruction_text None = codes "-"
 
 -- the ring, a colon and the address
 abbrev pub address_text : AtFields → List ℕ
-address_text at = octal_text 1 at.ring ++ codes ":" ++ word_of_segment at.seg at.word
+address_text at = octal_text 1 at.ring ++ codes ":" ++ segment_word_text at.seg at.word
 
 -- an address, or an equals sign and the direct operand
 abbrev pub operand_text : AtFields → Option ℕ → List ℕ
@@ -73,12 +73,12 @@ outcome_text outcome = outcome_with (codes "next") outcome
 
 -- The fields of step n: its number, the place of the instruction, its word, the final address, A,
 -- Q and the indicators after the step, and the outcome.
-abbrev pub fields_by : ℕ → PprFields → Option ℕ → Option FinalFields → Outcome → RegsFields
+abbrev pub fields_of_values : ℕ → PprFields → Option ℕ → Option FinalFields → Outcome → RegsFields
     → List (List ℕ)
-fields_by n ppr word at outcome after =
+fields_of_values n ppr word at outcome after =
     decimal_text n
     ∷ octal_text 1 ppr.prr
-    ∷ word_of_segment ppr.psr ppr.ic
+    ∷ segment_word_text ppr.psr ppr.ic
     ∷ instruction_text word
     ∷ final_text at
     ∷ word_text after.a
@@ -89,7 +89,7 @@ fields_by n ppr word at outcome after =
 
 -- the fields of step n, from its record
 abbrev pub fields : ℕ → StepRecord → List (List ℕ)
-fields n r = fields_by n r.ppr r.word r.at r.outcome r.after
+fields n r = fields_of_values n r.ppr r.word r.at r.outcome r.after
 
 -- the trace line of step n, without its line feed
 unfoldable pub line_of : ℕ → StepRecord → List ℕ
@@ -98,4 +98,4 @@ line_of n r = joined_by_spaces (fields n r)
 -- the line of step n, from what a trace line shows and the registers after the step
 unfoldable pub shown_line : ℕ → Shown → RegsFields → List ℕ
 shown_line n shown after =
-    joined_by_spaces (fields_by n shown.ppr shown.word shown.at shown.outcome after)
+    joined_by_spaces (fields_of_values n shown.ppr shown.word shown.at shown.outcome after)

@@ -53,7 +53,7 @@ pub fn add_shown<S: Sink>(
     if text.set(n, &shown.ppr, &shown.at, &shown.outcome, after) {
         block.add_line(&ShownLine { text, shown, after }, out)
     } else {
-        add_other_shown(n, shown, after, block, out)
+        add_shown_without_kept(n, shown, after, block, out)
     }
 }
 
@@ -91,7 +91,7 @@ fn add_without_kept<S: Sink>(n: u64, told: &StepRecord, block: &mut Block, out: 
 
 // As `add_without_kept`, given what a trace line shows of the step, and the registers after it.
 #[inline(never)]
-fn add_other_shown<S: Sink>(
+fn add_shown_without_kept<S: Sink>(
     n: u64,
     shown: &Shown,
     after: &Regs,

@@ -4,8 +4,8 @@
 //! and is made for every step.
 
 ghost use Rattle.std.specs.Prelude.{◌≡◌, ◌+◌, ◌≤◌, ◌<◌, ◌%◌, ◌^◌, ◌++◌, length, IsAscii};
-ghost use Rattle.m36_text.specs.Digits.{octal_text, word_text, character};
-ghost use Rattle.m36_trace.specs.TraceLine.{word_of_segment};
+ghost use Rattle.m36_text.specs.Digits.{octal_text, word_text, digit_character};
+ghost use Rattle.m36_trace.specs.TraceLine.{segment_word_text};
 
 use arrayvec::ArrayString;
 use m36_word::Word;
@@ -14,7 +14,7 @@ use std::str;
 /// The character of the last octal digit.
 #[inline]
 pub fn last_digit(v: u64) -> u8
-    ensures { result ≡ character (v % 8) }
+    ensures { result ≡ digit_character (v % 8) }
 {
     b'0' + (v % 8) as u8
 }
@@ -53,7 +53,7 @@ pub fn word_digits(word: Word) -> [u8; 12]
 /// A segment number in five digits, a bar, and a word number in six.
 #[tactic(auto, unfolding(m36_text::specs::Digits::octal_text, m36_text::specs::Digits::digits))]
 pub fn place_digits(seg: u16, word: u32) -> [u8; 12]
-    ensures { result ≡ word_of_segment seg word }
+    ensures { result ≡ segment_word_text seg word }
 {
     let s = seg as u64;
     let w = word as u64;

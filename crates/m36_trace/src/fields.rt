@@ -2,7 +2,7 @@
 
 ghost use Rattle.std.specs.Prelude.{◌≡◌, ◌+◌, ◌≤◌, ◌<◌, ◌^◌, ◌++◌, length};
 ghost use Rattle.m36_text.specs.Digits.{octal_text, decimal_text, word_text};
-ghost use Rattle.m36_trace.specs.TraceLine.{word_of_segment, instruction_text, address_text};
+ghost use Rattle.m36_trace.specs.TraceLine.{segment_word_text, instruction_text, address_text};
 ghost use Rattle.m36_trace.specs.TraceLine.{operand_text, final_text, letter, indicators_text, fault_text};
 ghost use Rattle.m36_trace.specs.TraceLine.{stop_text, outcome_text};
 
@@ -42,7 +42,7 @@ pub fn put_place<const CAP: usize>(line: &mut ArrayString<CAP>, seg: u16, word: 
     requires seg { seg < 2 ^ 15 }
     requires word { word < 2 ^ 18 }
     requires room { length line.old.bytes + 12 ≤ CAP }
-    ensures text { line.new.bytes ≡ line.old.bytes ++ word_of_segment seg word }
+    ensures text { line.new.bytes ≡ line.old.bytes ++ segment_word_text seg word }
     ensures len { length line.new.bytes ≡ length line.old.bytes + 12 }
 {
     put_characters(line, &place_digits(seg, word));

@@ -4,7 +4,7 @@
 ghost use Rattle.std.specs.Prelude.{◌≡◌, ◌+◌, ◌-◌, ◌≤◌, ◌<◌, ◌^◌, ◌++◌, length, take, get_or};
 ghost use Rattle.std.specs.Bool.{OnTrue, OnFalse};
 ghost use Rattle.m36_text.specs.Digits.{decimal_text, word_text};
-ghost use Rattle.m36_trace.specs.Spaced.{spaced, ring_segment_text};
+ghost use Rattle.m36_trace.specs.Spaced.{with_space, ring_segment_text};
 
 use crate::digits::last_digit;
 use crate::triples::put_word;
@@ -25,7 +25,7 @@ pub struct NumberPart {
     ghost short: { last < 15 },
     ghost some: { 0 < next },
     ghost small: { next ≤ 10 ^ 15 },
-    ghost spelled: { take (last + 2) bytes ≡ spaced (decimal_text (next - 1)) },
+    ghost spelled: { take (last + 2) bytes ≡ with_space (decimal_text (next - 1)) },
 }
 
 impl NumberPart {
@@ -49,12 +49,12 @@ impl NumberPart {
             self.count();
             return true;
         }
-        self.set_else(n)
+        self.set_other_number(n)
     }
 
     // Spells a number that is not the next one, or that differs in more than the last digit.
     #[inline(never)]
-    fn set_else(&mut self, n: u64) -> bool
+    fn set_other_number(&mut self, n: u64) -> bool
         ensures { OnTrue result (self.new.next ≡ n + 1) }
     {
         if n >= TOO_LONG {
@@ -74,7 +74,7 @@ impl NumberPart {
         ensures same { OnFalse result (self.new.next ≡ self.old.next) }
     {
         let mut bytes = self.bytes;
-        if !raise(&mut bytes, self.last, self.next - 1) {
+        if !increment_digits(&mut bytes, self.last, self.next - 1) {
             return false;
         }
         self.bytes = bytes;
@@ -107,10 +107,10 @@ impl NumberPart {
 
 // Replaces the digits of a number, with the last at index `last`, by those of the next number, if
 // it has as many.
-fn raise(bytes: &mut [u8; 16], last: usize, _n: u64) -> bool
+fn increment_digits(bytes: &mut [u8; 16], last: usize, _n: u64) -> bool
     requires last { last < 15 }
-    requires spelled { take (last + 2) bytes.old ≡ spaced (decimal_text _n) }
-    ensures { OnTrue result (take (last + 2) bytes.new ≡ spaced (decimal_text (_n + 1))) }
+    requires spelled { take (last + 2) bytes.old ≡ with_space (decimal_text _n) }
+    ensures { OnTrue result (take (last + 2) bytes.new ≡ with_space (decimal_text (_n + 1))) }
 {
     let mut place = last;
     'nines: while place > 0 && bytes[place] == b'9' {
@@ -129,7 +129,7 @@ fn put_digits(bytes: &mut [u8; 16], digits: &[u8]) -> usize
     requires some { 0 < length digits.now }
     requires short { length digits.now ≤ 15 }
     ensures last { result + 1 ≡ length digits.now }
-    ensures text { take (result + 2) bytes.new ≡ spaced digits.now }
+    ensures text { take (result + 2) bytes.new ≡ with_space digits.now }
 {
     let count = digits.len();
     bytes[..count].copy_from_slice(digits);
@@ -205,7 +205,7 @@ fn front<const MARK: u8>(seg: u16, ring: u8) -> [u8; 8]
 pub struct WordPart {
     pub bytes: [u8; 16],
     pub of: Word,
-    ghost spelled: { take 13 bytes ≡ spaced (word_text of) },
+    ghost spelled: { take 13 bytes ≡ with_space (word_text of) },
 }
 
 impl WordPart {

@@ -6,7 +6,7 @@ ghost use Rattle.std.specs.Prelude.{◌≡◌, ◌+◌, ◌-◌, ◌≤◌, ◌+
 ghost use Rattle.m36_text.specs.Digits.{decimal_text, word_text};
 ghost use Rattle.m36_text.specs.Lines.{as_line};
 ghost use Rattle.m36_trace.specs.TraceLine.{instruction_text, letter, indicators_text};
-ghost use Rattle.m36_trace.specs.Spaced.{spaced, kept_place, kept_final};
+ghost use Rattle.m36_trace.specs.Spaced.{with_space, kept_place, kept_final};
 
 use crate::parts::{NumberPart, RingSegmentPart, WordPart};
 use crate::triples::{put_half, put_word};
@@ -25,7 +25,7 @@ pub const COLON: u8 = b':';
 pub fn put_number(into: &mut [u8], number: &NumberPart) -> usize
     requires { 16 ≤ length into.old }
     ensures bound { result ≤ 16 }
-    ensures text { take result into.new ≡ spaced (decimal_text (number.now.next - 1)) }
+    ensures text { take result into.new ≡ with_space (decimal_text (number.now.next - 1)) }
 {
     put_at(into, 0, &number.bytes);
     number.last + 2
@@ -43,7 +43,7 @@ pub fn put_place<const MARK: u8>(
     requires { place + 15 ≤ length into.old }
     ensures end { result ≡ place + 15 }
     ensures text { take result into.new
-        ≡ take place into.old ++ spaced (kept_place front.now.ring MARK front.now.seg word) }
+        ≡ take place into.old ++ with_space (kept_place front.now.ring MARK front.now.seg word) }
 {
     put_at(into, place, &front.bytes);
     put_half(into, place + 8, word)
@@ -54,7 +54,7 @@ pub fn put_place<const MARK: u8>(
 fn put_dash(into: &mut [u8], place: usize) -> usize
     requires { place + 2 ≤ length into.old }
     ensures end { result ≡ place + 2 }
-    ensures text { take result into.new ≡ take place into.old ++ spaced (codes "-") }
+    ensures text { take result into.new ≡ take place into.old ++ with_space (codes "-") }
 {
     put_at(into, place, b"- ");
     place + 2
@@ -65,7 +65,7 @@ fn put_dash(into: &mut [u8], place: usize) -> usize
 pub fn put_instruction(into: &mut [u8], place: usize, word: Option<Word>) -> usize
     requires { place + 13 ≤ length into.old }
     ensures bound { result ≤ place + 13 }
-    ensures text { take result into.new ≡ take place into.old ++ spaced (instruction_text word) }
+    ensures text { take result into.new ≡ take place into.old ++ with_space (instruction_text word) }
 {
     match word {
         Some(word) => put_word(into, place, word),
@@ -80,7 +80,7 @@ fn put_operand(into: &mut [u8], place: usize, word: Word) -> usize
     requires { place + 14 ≤ length into.old }
     ensures end { result ≡ place + 14 }
     ensures text { take result into.new
-        ≡ take place into.old ++ spaced (codes "=" ++ word_text word) }
+        ≡ take place into.old ++ with_space (codes "=" ++ word_text word) }
 {
     put_at(into, place, b"=");
     put_word(into, place + 1, word)
@@ -98,7 +98,7 @@ pub fn put_final(
     requires { place + 15 ≤ length into.old }
     ensures bound { result ≤ place + 15 }
     ensures text { take result into.new
-        ≡ take place into.old ++ spaced (kept_final front.now.ring front.now.seg end.now) }
+        ≡ take place into.old ++ with_space (kept_final front.now.ring front.now.seg end.now) }
 {
     match end {
         Some(end) => match end.direct {
@@ -111,10 +111,10 @@ pub fn put_final(
 
 /// Writes a kept word.
 #[inline(always)]
-pub fn put_kept(into: &mut [u8], place: usize, part: &WordPart) -> usize
+pub fn put_word_part(into: &mut [u8], place: usize, part: &WordPart) -> usize
     requires { place + 16 ≤ length into.old }
     ensures end { result ≡ place + 13 }
-    ensures text { take result into.new ≡ take place into.old ++ spaced (word_text part.now.of) }
+    ensures text { take result into.new ≡ take place into.old ++ with_space (word_text part.now.of) }
 {
     put_at(into, place, &part.bytes);
     place + 13
@@ -130,7 +130,7 @@ fn letter(name: u8, on: bool) -> u8
 
 /// Writes the indicators, the outcome `next` and the line feed.
 #[inline(always)]
-pub fn put_last(into: &mut [u8], place: usize, ind: &Ind) -> usize
+pub fn put_line_end(into: &mut [u8], place: usize, ind: &Ind) -> usize
     requires { place + 12 ≤ length into.old }
     ensures end { result ≡ place + 12 }
     ensures text { take result into.new

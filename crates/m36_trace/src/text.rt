@@ -7,7 +7,7 @@ ghost use Rattle.m36_trace.specs.Kept.{kept_line, CanBeUsed};
 
 use crate::parts::{NumberPart, RingSegmentPart, WordPart};
 use crate::spelling::{
-    COLON, SPACE, put_final, put_instruction, put_kept, put_last, put_number, put_place,
+    COLON, SPACE, put_final, put_instruction, put_word_part, put_line_end, put_number, put_place,
 };
 use m36_model::{Final, Outcome, Ppr, Regs, Shown, StepRecord};
 use m36_outside::Spelled;
@@ -77,7 +77,7 @@ fn set_address(front: &mut RingSegmentPart<COLON>, end: &Option<Final>)
 
 // Writes a line, given its kept parts and the other values of the step.
 #[inline(always)]
-#[tactic(auto, unfolding(crate::specs::Kept::kept_by))]
+#[tactic(auto, unfolding(crate::specs::Kept::kept_line_of_values))]
 fn put_line(
     into: &mut [u8],
     text: &TraceText,
@@ -94,9 +94,9 @@ fn put_line(
     let place = put_place(into, place, &text.place, ppr.ic);
     let place = put_instruction(into, place, word);
     let place = put_final(into, place, &text.address, at);
-    let place = put_kept(into, place, &text.a);
-    let place = put_kept(into, place, &text.q);
-    put_last(into, place, &after.ind)
+    let place = put_word_part(into, place, &text.a);
+    let place = put_word_part(into, place, &text.q);
+    put_line_end(into, place, &after.ind)
 }
 
 /// The line of a step, given its record.

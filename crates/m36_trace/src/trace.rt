@@ -2,7 +2,7 @@
 
 ghost use Rattle.std.specs.Prelude.{◌≡◌, ◌≤◌, length};
 ghost use Rattle.m36_text.specs.Lines.{joined_by_spaces};
-ghost use Rattle.m36_trace.specs.TraceLine.{fields_by, line_of, shown_line};
+ghost use Rattle.m36_trace.specs.TraceLine.{fields_of_values, line_of, shown_line};
 
 use crate::fields::{
     put_decimal, put_final, put_indicators, put_instruction, put_outcome, put_place, put_ring,
@@ -14,7 +14,7 @@ use m36_word::Word;
 
 // The trace line of step `n`, given the values that it shows.
 #[tactic(auto, using(crate::proofs::Lines::put_in_turn))]
-fn line_by(
+fn line_of_values(
     n: u64,
     ppr: &Ppr,
     word: Option<Word>,
@@ -22,7 +22,7 @@ fn line_by(
     outcome: Outcome,
     after: &Regs,
 ) -> ArrayString<160>
-    ensures text { result.bytes ≡ joined_by_spaces (fields_by n ppr.now word at outcome after.now) }
+    ensures text { result.bytes ≡ joined_by_spaces (fields_of_values n ppr.now word at outcome after.now) }
     ensures len { length result.bytes ≤ 144 }
 {
     let mut line = ArrayString::new();
@@ -52,7 +52,7 @@ pub fn line(n: u64, r: &StepRecord) -> ArrayString<160>
     ensures text { result.bytes ≡ line_of n r.now }
     ensures len { length result.bytes ≤ 144 }
 {
-    line_by(n, &r.ppr, r.word, r.at, r.outcome, &r.after)
+    line_of_values(n, &r.ppr, r.word, r.at, r.outcome, &r.after)
 }
 
 /// As `line`, given what a trace line shows of the step, and the registers after it.
@@ -61,5 +61,5 @@ pub fn shown_line(n: u64, shown: &Shown, after: &Regs) -> ArrayString<160>
     ensures text { result.bytes ≡ shown_line n shown.now after.now }
     ensures len { length result.bytes ≤ 144 }
 {
-    line_by(n, &shown.ppr, shown.word, shown.at, shown.outcome, after)
+    line_of_values(n, &shown.ppr, shown.word, shown.at, shown.outcome, after)
 }

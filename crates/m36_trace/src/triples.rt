@@ -2,7 +2,7 @@
 
 ghost use Rattle.std.specs.Prelude.{◌≡◌, ◌+◌, ◌≤◌, ◌<◌, ◌++◌, length, take};
 ghost use Rattle.m36_text.specs.Digits.{octal_text, word_text, half_text};
-ghost use Rattle.m36_trace.specs.Spaced.{spaced, all_triples};
+ghost use Rattle.m36_trace.specs.Spaced.{with_space, all_triples};
 
 use m36_outside::spelled::put_at;
 use m36_word::Word;
@@ -83,7 +83,7 @@ fn triples() -> &'static [Triple; 512]
 #[tactic(auto, using(crate::proofs::ByThrees::triple_of))]
 fn triple(v: u64) -> &'static Triple
     requires { v < 512 }
-    ensures { result.now ≡ spaced (octal_text 3 v) }
+    ensures { result.now ≡ with_space (octal_text 3 v) }
 {
     &triples()[v as usize]
 }
@@ -93,7 +93,7 @@ fn triple(v: u64) -> &'static Triple
 fn put_triple(into: &mut [u8], place: usize, v: u64)
     requires { place + 4 ≤ length into.old }
     ensures digits { take (place + 3) into.new ≡ take place into.old ++ octal_text 3 v }
-    ensures space { take (place + 4) into.new ≡ take place into.old ++ spaced (octal_text 3 v) }
+    ensures space { take (place + 4) into.new ≡ take place into.old ++ with_space (octal_text 3 v) }
 {
     put_at(into, place, triple(v % 512));
 }
@@ -104,7 +104,7 @@ fn put_triple(into: &mut [u8], place: usize, v: u64)
 pub fn put_word(into: &mut [u8], place: usize, word: Word) -> usize
     requires { place + 13 ≤ length into.old }
     ensures end { result ≡ place + 13 }
-    ensures text { take result into.new ≡ take place into.old ++ spaced (word_text word) }
+    ensures text { take result into.new ≡ take place into.old ++ with_space (word_text word) }
 {
     let v = word.value();
     put_triple(into, place, v >> 27);
@@ -120,7 +120,7 @@ pub fn put_word(into: &mut [u8], place: usize, word: Word) -> usize
 pub fn put_half(into: &mut [u8], place: usize, half: u32) -> usize
     requires { place + 7 ≤ length into.old }
     ensures end { result ≡ place + 7 }
-    ensures text { take result into.new ≡ take place into.old ++ spaced (half_text half) }
+    ensures text { take result into.new ≡ take place into.old ++ with_space (half_text half) }
 {
     let v = half as u64;
     put_triple(into, place, v >> 9);

@@ -16,7 +16,7 @@ use Rattle.m36_step.specs.declared.turns.Turn.{Turn}
 use Rattle.m36_step.specs.declared.turns.Turn.TheVariants.{Stepped, Linked, Console, Ended, Full}
 use Rattle.m36_step.specs.declared.turns.Turn.TheVariants.{NoMemory}
 use Rattle.m36_trace.specs.EndLine.{ending_text, end_line_with}
-use Rattle.m36_trace.specs.TraceLine.{line_of, word_of_segment}
+use Rattle.m36_trace.specs.TraceLine.{line_of, segment_word_text}
 
 -- ---- a link service: the ring, the address of the link word, the link, and the pair or the code
 
@@ -42,7 +42,7 @@ link_answer_text (Err code) = link_code_text code
 unfoldable pub link_line_of : LinkNoteFields → List ℕ
 link_line_of n =
     joined_by_spaces
-    (codes "link" ∷ octal_text 1 n.ring ∷ word_of_segment n.at.seg n.at.word ∷ n.name
+    (codes "link" ∷ octal_text 1 n.ring ∷ segment_word_text n.at.seg n.at.word ∷ n.name
     ∷ link_answer_text n.answer ∷ [])
 
 -- ---- a console service: the characters

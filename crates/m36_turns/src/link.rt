@@ -2,7 +2,7 @@
 
 ghost use Rattle.std.specs.Prelude.{◌≡◌, ◌+◌, ◌≤◌, ◌<◌, ◌^◌, ◌++◌, length};
 ghost use Rattle.m36_text.specs.Digits.{word_text};
-ghost use Rattle.m36_trace.specs.TraceLine.{word_of_segment};
+ghost use Rattle.m36_trace.specs.TraceLine.{segment_word_text};
 ghost use Rattle.m36_turns.specs.TurnLines.{link_code_text, pair_text, link_answer_text, link_line_of};
 
 use crate::put::put;
@@ -31,7 +31,7 @@ pub(crate) fn link_code_name(code: LinkCode) -> &'static str
 // Appends a segment number and a word number.
 fn put_place(line: &mut ArrayVec<u8, 160>, at: At)
     requires { length line.old.items + 12 ≤ 160 }
-    ensures text { line.new.items ≡ line.old.items ++ word_of_segment at.seg at.word }
+    ensures text { line.new.items ≡ line.old.items ++ segment_word_text at.seg at.word }
     ensures len { length line.new.items ≡ length line.old.items + 12 }
 {
     let digits = place_digits(at.seg, at.word);

@@ -5,7 +5,7 @@ use Rattle.std.proofs.Math.ListN.{drop_of_length-le}
 use Rattle.std.proofs.Math.Seq.{drop-cons}
 use Rattle.m36_word.specs.declared.pair.Pair.{Pair}
 use Rattle.m36_model.specs.Core.{core_put}
-use Rattle.m36_model.specs.Place.{wrapped}
+use Rattle.m36_model.specs.Place.{wrapped_address}
 use Rattle.m36_model.specs.Results.{words_of_pairs}
 use Rattle.m36_model.proofs.StepLaw.{core_quiet}
 use Rattle.m36_walk.specs.Runs.{IsInCore, words_from}
@@ -14,7 +14,7 @@ use Rattle.m36_walk.specs.Words.{run_changes}
 
 -- the address of the next pair
 abbrev pub pair_after : ℕ → ℕ
-pair_after a = wrapped (wrapped (a + 1) + 1)
+pair_after a = wrapped_address (wrapped_address (a + 1) + 1)
 
 pub first_pair_lies : (size a n : ℕ) → 2 ≤ n → IsInCore size a n → IsInCore size a 2
 unfolding IsInCore

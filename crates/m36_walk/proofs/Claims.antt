@@ -5,12 +5,12 @@ use Rattle.m36_model.specs.Fields.{AtFields}
 use Rattle.m36_model.specs.Act.{Whole, Write}
 use Rattle.m36_model.specs.Store.{Spot, Core_word, Served, changes}
 use Rattle.m36_model.specs.Core.{core_put}
-use Rattle.m36_model.specs.Place.{wrapped}
+use Rattle.m36_model.specs.Place.{wrapped_address}
 use Rattle.m36_model.specs.Step.{puts_from}
 use Rattle.m36_model.specs.declared.outcome.Fault.{Fault}
 use Rattle.m36_model.proofs.StepLaw.{core_quiet}
 use Rattle.m36_walk.specs.Runs.{run_from}
-use Rattle.m36_walk.specs.Served.{request, served_by, at_place, IsServedWrite}
+use Rattle.m36_walk.specs.Served.{request, served_with_result, result_at_place, IsServedWrite}
 use Rattle.m36_walk.specs.Words.{run_changes}
 
 -- the claim after a list of others
@@ -23,8 +23,8 @@ pub changes_of_run : (before : List Spot) (a : ℕ) (words : List ℕ) → chang
 unfolding changes run_from
 changes_of_run before a [] = refl
 changes_of_run before a (w ∷ words) =
-    let claim = slice_get-append before (run_from (wrapped (a + 1)) (length words)) (Core_word a) in
-    let rest = changes_of_run (before ++ Core_word a ∷ []) (wrapped (a + 1)) words in
+    let claim = slice_get-append before (run_from (wrapped_address (a + 1)) (length words)) (Core_word a) in
+    let rest = changes_of_run (before ++ Core_word a ∷ []) (wrapped_address (a + 1)) words in
     let same = rw (append_assoc, length-append) at rest in
     rw claim (ap (λ cs. record { spot = Core_word a; part = Whole; value = w } ∷ cs) same)
 
@@ -36,13 +36,13 @@ unclaimed first (w ∷ words) = unclaimed (first + 1) words
 
 module _ (at : AtFields) (count : ℕ) (d : SdwFields) (words : List ℕ) where
   -- a Write that was refused
-  pub written_refused : (s : Served (List ℕ)) (new : List ℕ) (f : Fault) → s ≡ served_by (request Write at count []) new [] [] (at_place d count (Err f)) → IsServedWrite s new words (Err f)
+  pub written_refused : (s : Served (List ℕ)) (new : List ℕ) (f : Fault) → s ≡ served_with_result (request Write at count []) new [] [] (result_at_place d count (Err f)) → IsServedWrite s new words (Err f)
   written_refused s new f e =
-      let nothing : core_put new (changes [] (puts_from Whole 0 words)) ≡ new = rw (unclaimed 0 words) (core_quiet new) in
-      subst (λ (t : Served (List ℕ)). IsServedWrite t new words (Err f)) (sym e) (record { told = refl; core = sym nothing })
+      let empty_orders : core_put new (changes [] (puts_from Whole 0 words)) ≡ new = rw (unclaimed 0 words) (core_quiet new) in
+      subst (λ (t : Served (List ℕ)). IsServedWrite t new words (Err f)) (sym e) (record { told = refl; core = sym empty_orders })
 
   -- a Write that was answered, and whose words were written from its first address on
-  pub written_answered : (s : Served (List ℕ)) (marked new : List ℕ) (a : ℕ) → s ≡ served_by (request Write at count []) marked [] [] (at_place d count (Ok a)) → length words ≡ count → new ≡ core_put marked (run_changes a words)
+  pub written_answered : (s : Served (List ℕ)) (marked new : List ℕ) (a : ℕ) → s ≡ served_with_result (request Write at count []) marked [] [] (result_at_place d count (Ok a)) → length words ≡ count → new ≡ core_put marked (run_changes a words)
       → IsServedWrite s new words (Ok tt)
   written_answered s marked new a e n h =
       let put : changes (run_from a count) (puts_from Whole 0 words) ≡ run_changes a words = rw (← n) (changes_of_run [] a words) in

@@ -27,41 +27,41 @@ pub record ReferenceResult : Type 0 where
   pub spots : List Spot
 
 -- the result of a reference that has its rights, by the spots of its words or their fault
-abbrev pub reached_places : SdwFields → Result (List Spot) Fault → Result ReferenceResult Fault
-reached_places d (Ok spots) = Ok (record { sdw = d; spots = spots })
-reached_places d (Err f) = Err f
+abbrev pub result_with_places : SdwFields → Result (List Spot) Fault → Result ReferenceResult Fault
+result_with_places d (Ok spots) = Ok (record { sdw = d; spots = spots })
+result_with_places d (Err f) = Err f
 
 -- the result of a reference, by the check of its rights: a refused right is its fault; otherwise
 -- the spots of the words decide
-abbrev pub reached_rights : SdwFields → Result Unit Fault → Result (List Spot) Fault
+abbrev pub result_after_rights : SdwFields → Result Unit Fault → Result (List Spot) Fault
     → Result ReferenceResult Fault
-reached_rights d (Ok u) places = reached_places d places
-reached_rights d (Err f) places = Err f
+result_after_rights d (Ok u) first_place = result_with_places d first_place
+result_after_rights d (Err f) first_place = Err f
 
 -- the result of a reference, by the lookup of its descriptor: the first fault of descriptor, rights
 -- and places, in this order
-abbrev pub reached_sdw : (SdwFields → Result Unit Acv)
+abbrev pub result_after_descriptor : (SdwFields → Result Unit Acv)
     → (SdwFields → Result (List Spot) (ℕ × Refusal)) → AtFields → Result SdwFields Fault
     → Result ReferenceResult Fault
-reached_sdw rights places at (Ok d) = reached_rights d (violation_as_fault at (rights d))
-    (places_as_fault at (places d))
-reached_sdw rights places at (Err f) = Err f
+result_after_descriptor rights first_place at (Ok d) = result_after_rights d (violation_as_fault at (rights d))
+    (places_as_fault at (first_place d))
+result_after_descriptor rights first_place at (Err f) = Err f
 
 -- a reference from its parts: the descriptor of the segment, the rights that it gives, and the
 -- places of the words
-unfoldable pub reached : (SdwFields → Result Unit Acv)
+unfoldable pub reference_result : (SdwFields → Result Unit Acv)
     → (SdwFields → Result (List Spot) (ℕ × Refusal)) → Result SdwFields Refusal → AtFields
     → Result ReferenceResult Fault
-reached rights places sdw at = reached_sdw rights places at (told at sdw)
+reference_result rights first_place sdw at = result_after_descriptor rights first_place at (told at sdw)
 
 -- the result of the code as that of the definitions: the spots are a run of `count` words from the
 -- place that it has found
-abbrev pub found_run : ℕ → Result LookupResult Fault → Result ReferenceResult Fault
-found_run count (Ok f) = Ok (record { sdw = f.sdw; spots = run_from f.place count })
-found_run count (Err f) = Err f
+abbrev pub result_of_lookup : ℕ → Result LookupResult Fault → Result ReferenceResult Fault
+result_of_lookup count (Ok f) = Ok (record { sdw = f.sdw; spots = run_from f.place count })
+result_of_lookup count (Err f) = Err f
 
 -- an answered reference has set its marks, and a refused one has changed nothing
-abbrev pub Marked : DbrFields → AtFields → Bool → List ℕ → List ℕ → Result LookupResult Fault → Type 0
-Marked dbr at write old new (Ok f) =
+abbrev pub MarksAreSet : DbrFields → AtFields → Bool → List ℕ → List ℕ → Result LookupResult Fault → Type 0
+MarksAreSet dbr at write old new (Ok f) =
     new ≡ with_marks old (marks_by dbr at.seg write at.word (Ok f.sdw))
-Marked dbr at write old new (Err f) = new ≡ old
+MarksAreSet dbr at write old new (Err f) = new ≡ old

@@ -26,38 +26,38 @@ ok_map f (Ok a) = Ok (f a)
 ok_map f (Err e) = Err e
 
 -- the state within a step: core, what its Writes have claimed, and its completed references
-abbrev pub standing : List ℕ → List Spot → List Reference → Midstep (List ℕ)
-standing core claims refs = record { store = core; claims = claims; refs = refs }
+abbrev pub midstep_with : List ℕ → List Spot → List Reference → Midstep (List ℕ)
+midstep_with core claims refs = record { store = core; claims = claims; refs = refs }
 
 -- a request for `count` words, which sees these pending writes
 abbrev pub request : RequestKind → AtFields → ℕ → List Put → Request
 request kind at count pending = record { kind = kind; at = at; count = count; pending = pending }
 
 -- the descriptor of a segment; if there is none, the value has no meaning
-abbrev pub sdw_by : Result SdwFields Refusal → SdwFields
-sdw_by (Ok d) = d
-sdw_by (Err why) = sdw_of 0 0
+abbrev pub sdw_or_zero : Result SdwFields Refusal → SdwFields
+sdw_or_zero (Ok d) = d
+sdw_or_zero (Err why) = sdw_of 0 0
 
 -- the descriptor of a segment, in these tables; if there is none, the value has no meaning
 unfoldable pub sdw_in : Memory → ℕ → SdwFields
-sdw_in m seg = sdw_by (core_sdw m.core m.dbr seg)
+sdw_in m seg = sdw_or_zero (core_sdw m.core m.dbr seg)
 
 -- The reply to a request and the state after it, by the result of the reference. An answered
 -- reference adds its claims and itself.
-abbrev pub served_by : Request → List ℕ → List Spot → List Reference → Result ReferenceResult Fault
+abbrev pub served_with_result : Request → List ℕ → List Spot → List Reference → Result ReferenceResult Fault
     → Served (List ℕ)
-served_by q new claims refs (Err f) = record { reply = Err f; mid = standing new claims refs }
-served_by q new claims refs (Ok r) = answered_with core_store new claims refs q r.sdw r.spots
+served_with_result q new claims refs (Err f) = record { reply = Err f; mid = midstep_with new claims refs }
+served_with_result q new claims refs (Ok r) = answered_with core_store new claims refs q r.sdw r.spots
 
 -- the result of a reference to `count` words, by the core address of the first or the fault
-abbrev pub at_place : SdwFields → ℕ → Result ℕ Fault → Result ReferenceResult Fault
-at_place d count (Ok a) = Ok (record { sdw = d; spots = run_from a count })
-at_place d count (Err f) = Err f
+abbrev pub result_at_place : SdwFields → ℕ → Result ℕ Fault → Result ReferenceResult Fault
+result_at_place d count (Ok a) = Ok (record { sdw = d; spots = run_from a count })
+result_at_place d count (Err f) = Err f
 
 -- the result of a reference that checks a target and touches no word
-abbrev pub at_target : {A : Type 0} → SdwFields → Result A Fault → Result ReferenceResult Fault
-at_target d (Ok a) = Ok (record { sdw = d; spots = [] })
-at_target d (Err f) = Err f
+abbrev pub result_at_target : {A : Type 0} → SdwFields → Result A Fault → Result ReferenceResult Fault
+result_at_target d (Ok a) = Ok (record { sdw = d; spots = [] })
+result_at_target d (Err f) = Err f
 
 -- an answer with words and without a place
 abbrev pub answer_of_words : SdwFields → List Spot → List ℕ → Answer
@@ -66,10 +66,10 @@ answer_of_words d claims words =
 
 -- the reply to a request with these words, or the fault, and the state after it; no write is
 -- claimed
-abbrev pub with_words : Request → SdwFields → List ℕ → List Spot → List Reference
+abbrev pub served_with_words : Request → SdwFields → List ℕ → List Spot → List Reference
     → Result (List ℕ) Fault → Served (List ℕ)
-with_words q d new claims refs (Err f) = record { reply = Err f; mid = standing new claims refs }
-with_words q d new claims refs (Ok words) =
+served_with_words q d new claims refs (Err f) = record { reply = Err f; mid = midstep_with new claims refs }
+served_with_words q d new claims refs (Ok words) =
     record {
       reply = Ok (answer_of_words d claims words);
       mid = record { store = new; claims = claims; refs = with_reference q.kind q refs };
@@ -81,7 +81,7 @@ abbrev pub Serves : (RegsFields → Type 0) → Memory → Request
     → (List Spot → List Reference → Served (List ℕ)) → Type 0
 Serves Known m q s =
     (g : RegsFields) → g.dbr ≡ m.dbr → Known g → (claims : List Spot) (refs : List Reference)
-    → serve core_store g (standing m.core claims refs) q ≡ s claims refs
+    → serve core_store g (midstep_with m.core claims refs) q ≡ s claims refs
 
 -- the words of a run from a core address on, after these changes
 abbrev pub run_words : List ℕ → List Change → ℕ → Result ℕ Fault → Result (List ℕ) Fault
@@ -95,8 +95,8 @@ ServesRun Known kind m new at count place =
     (g : RegsFields) → g.dbr ≡ m.dbr → Known g
     → (claims : List Spot) (refs : List Reference) (puts : List Put) (changed : List Change)
     → changes claims puts ≡ changed
-    → serve core_store g (standing m.core claims refs) (request kind at count puts)
-    ≡ with_words (request kind at count puts) (sdw_in m at.seg) new claims refs
+    → serve core_store g (midstep_with m.core claims refs) (request kind at count puts)
+    ≡ served_with_words (request kind at count puts) (sdw_in m at.seg) new claims refs
     (run_words new changed count place)
 
 -- a Write is served, by the core address that was found
@@ -104,16 +104,16 @@ abbrev pub ServesClaim : Memory → List ℕ → AtFields → ℕ → Result ℕ
 ServesClaim m new at count place =
     (g : RegsFields) → g.dbr ≡ m.dbr
     → (claims : List Spot) (refs : List Reference) (puts : List Put)
-    → serve core_store g (standing m.core claims refs) (request Write at count puts)
-    ≡ served_by (request Write at count puts) new claims refs
-    (at_place (sdw_in m at.seg) count place)
+    → serve core_store g (midstep_with m.core claims refs) (request Write at count puts)
+    ≡ served_with_result (request Write at count puts) new claims refs
+    (result_at_place (sdw_in m at.seg) count place)
 
 -- a request of this kind for one word is served, by the word
 abbrev pub ServesWord : (RegsFields → Type 0) → RequestKind → Memory → List ℕ → AtFields
     → Result ℕ Fault → Type 0
 ServesWord Known kind m new at word =
     Serves Known m (request kind at 1 [])
-    (λ claims refs. with_words (request kind at 1 []) (sdw_in m at.seg) new claims refs
+    (λ claims refs. served_with_words (request kind at 1 []) (sdw_in m at.seg) new claims refs
     (ok_map (λ w. w ∷ []) word))
 
 -- A Read of `count` words is served. It reads the pending word as if it were written; the claims
@@ -124,40 +124,40 @@ Reads m new psr at count pending words =
     (g : RegsFields) → g.dbr ≡ m.dbr → g.ppr.psr ≡ psr
     → (claims : List Spot) (refs : List Reference) (puts : List Put)
     → changes claims puts ≡ pending_changes pending
-    → serve core_store g (standing m.core claims refs) (request Read at count puts)
-    ≡ with_words (request Read at count puts) (sdw_in m at.seg) new claims refs words
+    → serve core_store g (midstep_with m.core claims refs) (request Read at count puts)
+    ≡ served_with_words (request Read at count puts) (sdw_in m at.seg) new claims refs words
 
 -- the number of words of a reference: a word, a pair, or a block
-abbrev pub IsCount : ℕ → Type 0
-IsCount n = (n ≡ 1) ⊎ ((n ≡ 2) ⊎ (n ≡ 16))
+abbrev pub IsWordCount : ℕ → Type 0
+IsWordCount n = (n ≡ 1) ⊎ ((n ≡ 2) ⊎ (n ≡ 16))
 
 -- core after words were written to the spots that a Write has claimed
-abbrev pub written_by : Served (List ℕ) → List ℕ → List ℕ
-written_by s words = core_put s.mid.store (changes s.mid.claims (puts_from Whole 0 words))
+abbrev pub core_after_write : Served (List ℕ) → List ℕ → List ℕ
+core_after_write s words = core_put s.mid.store (changes s.mid.claims (puts_from Whole 0 words))
 
 -- a reply without its answer
-abbrev pub replied : Served (List ℕ) → Result Unit Fault
-replied s = ok_map (λ a. tt) s.reply
+abbrev pub reply_without_answer : Served (List ℕ) → Result Unit Fault
+reply_without_answer s = ok_map (λ a. tt) s.reply
 
 -- A Write of words by itself: it is served, and the words are written to the spots that it has
 -- claimed. If it is refused, nothing has changed.
 pub record IsServedWrite (s : Served (List ℕ)) (new words : List ℕ)
     (result : Result Unit Fault) : Type 0 where
-  pub told : result ≡ replied s
-  pub core : new ≡ written_by s words
+  pub told : result ≡ reply_without_answer s
+  pub core : new ≡ core_after_write s words
 
 -- a Write of words by itself, whatever the registers are
 abbrev pub Writes : Memory → List ℕ → AtFields → ℕ → List ℕ → Result Unit Fault → Type 0
 Writes m new at count words result =
     (g : RegsFields) → g.dbr ≡ m.dbr
-    → IsServedWrite (serve core_store g (standing m.core [] []) (request Write at count []))
+    → IsServedWrite (serve core_store g (midstep_with m.core [] []) (request Write at count []))
     new words result
 
 -- a request that checks a target, or asks for a place, is served and changes nothing
-abbrev pub ServesAsked : (RegsFields → Type 0) → RequestKind → Memory → AtFields
+abbrev pub ServesWithoutChange : (RegsFields → Type 0) → RequestKind → Memory → AtFields
     → Result ReferenceResult Fault → Type 0
-ServesAsked Known kind m at r =
+ServesWithoutChange Known kind m at r =
     (g : RegsFields) → g.dbr ≡ m.dbr → Known g
     → (claims : List Spot) (refs : List Reference) (puts : List Put)
-    → serve core_store g (standing m.core claims refs) (request kind at 1 puts)
-    ≡ served_by (request kind at 1 puts) m.core claims refs r
+    → serve core_store g (midstep_with m.core claims refs) (request kind at 1 puts)
+    ≡ served_with_result (request kind at 1 puts) m.core claims refs r

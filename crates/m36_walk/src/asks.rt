@@ -1,16 +1,16 @@
 //! Calls that change nothing: targets, places, ring brackets, and words that are only read.
 
 ghost use Rattle.std.specs.Prelude.{ℕ, ◌≡◌, ◌<◌, ◌^◌, IfOk, length};
-ghost use Rattle.m36_desc.specs.Access.{ring_called};
+ghost use Rattle.m36_desc.specs.Access.{ring_after_call};
 ghost use Rattle.m36_model.specs.Act.{Transfer, Call, Locate};
 ghost use Rattle.m36_model.specs.Core.{core_store};
 ghost use Rattle.m36_model.specs.Sight.{content_in};
-ghost use Rattle.m36_model.specs.Store.{Core_word, place, first_ring};
+ghost use Rattle.m36_model.specs.Store.{Core_word, place, segment_r1};
 ghost use Rattle.m36_walk.specs.ReferenceResult.{told};
-ghost use Rattle.m36_walk.specs.Served.{sdw_in, at_place, at_target, ok_map, ServesAsked};
+ghost use Rattle.m36_walk.specs.Served.{sdw_in, result_at_place, result_at_target, ok_map, ServesWithoutChange};
 
 use crate::refusal::fault;
-use crate::targets::{find_call, find_first_ring, find_place, find_transfer};
+use crate::targets::{check_call, find_first_ring, find_place, check_transfer};
 use crate::walk::Walk;
 use m36_model::{At, Fault, Ppr};
 use m36_tables::content;
@@ -22,8 +22,8 @@ impl Walk {
     pub fn place(&mut self, at: At) -> Result<u32, Fault>
         ensures value { ok_map Core_word result
             ≡ told at (place core_store self.old.core self.old.dbr at.seg at.word) }
-        ensures serves { ServesAsked (λ g. Unit {0}) Locate self.old at
-            (at_place (sdw_in self.old at.seg) 1 result) }
+        ensures serves { ServesWithoutChange (λ g. Unit {0}) Locate self.old at
+            (result_at_place (sdw_in self.old at.seg) 1 result) }
         ensures inside { IfOk result (λ a. a < length self.old.core) }
         ensures same { self.new ≡ self.old }
     {
@@ -43,31 +43,31 @@ impl Walk {
     /// Checks the target of a transfer, in the ring of `at` from ring `prr`. No page of the target
     /// is referenced.
     pub fn transfer(&mut self, at: At, prr: u8) -> Result<(), Fault>
-        ensures serves { ServesAsked (λ g. g.ppr.prr ≡ prr) Transfer self.old at
-            (at_target (sdw_in self.old at.seg) result) }
+        ensures serves { ServesWithoutChange (λ g. g.ppr.prr ≡ prr) Transfer self.old at
+            (result_at_target (sdw_in self.old at.seg) result) }
         ensures same { self.new ≡ self.old }
     {
-        find_transfer(&self.core, self.dbr, at, prr)
+        check_transfer(&self.core, self.dbr, at, prr)
     }
 
     /// Checks the target of CALL6, in the ring of `at`, called from `p`. Returns the ring in which
     /// execution continues.
     pub fn call(&mut self, at: At, p: Ppr) -> Result<u8, Fault>
-        ensures serves { ServesAsked (λ g. (g.ppr.psr ≡ p.psr) × (g.ppr.prr ≡ p.prr)) Call self.old
-            at (at_target (sdw_in self.old at.seg) result) }
-        ensures ring { IfOk result (λ ring. ring ≡ ring_called (sdw_in self.old at.seg) at.ring) }
+        ensures serves { ServesWithoutChange (λ g. (g.ppr.psr ≡ p.psr) × (g.ppr.prr ≡ p.prr)) Call self.old
+            at (result_at_target (sdw_in self.old at.seg) result) }
+        ensures ring { IfOk result (λ ring. ring ≡ ring_after_call (sdw_in self.old at.seg) at.ring) }
         ensures bound { IfOk result (λ ring. ring < 2 ^ 3) }
         ensures same { self.new ≡ self.old }
     {
-        find_call(&self.core, self.dbr, at, p)
+        check_call(&self.core, self.dbr, at, p)
     }
 
     /// R1 of a segment. A fault is at word 0 of the segment in ring 0.
-    pub fn first_ring(&mut self, seg: u16) -> Result<u8, Fault>
+    pub fn segment_r1(&mut self, seg: u16) -> Result<u8, Fault>
         requires { seg < 2 ^ 15 }
         ensures value { result
             ≡ told (record { seg = seg; word = 0; ring = 0 })
-            (first_ring core_store self.old.core self.old.dbr seg) }
+            (segment_r1 core_store self.old.core self.old.dbr seg) }
         ensures bound { IfOk result (λ ring. ring < 2 ^ 3) }
         ensures same { self.new ≡ self.old }
     {

@@ -3,26 +3,26 @@
 ghost use Rattle.std.specs.Prelude.{ℕ, ◌≡◌, ◌+◌, ◌/◌, ◌%◌, ◌<◌, ◌≤◌, ◌^◌, Ok, Err, IfOk, IfErr, OnOk, length};
 ghost use Rattle.m36_desc.specs.Fields.{DbrFields};
 ghost use Rattle.m36_model.specs.Core.{core_store};
-ghost use Rattle.m36_associative.specs.Right.{AreRight};
+ghost use Rattle.m36_associative.specs.Right.{AreCoherent};
 ghost use Rattle.m36_model.specs.Place.{page_at, word_place, store_fault};
 ghost use Rattle.m36_model.specs.Store.{spots_of};
-ghost use Rattle.m36_walk.specs.Runs.{run_from, examined, IsInCore, run_by};
-ghost use Rattle.m36_tables.specs.Tables.{TableIn};
+ghost use Rattle.m36_walk.specs.Runs.{run_from, spots_in_core, IsInCore, run_or_refusal};
+ghost use Rattle.m36_tables.specs.Tables.{TableWordIsInCore};
 
 use crate::refusal::Refused;
 use m36_associative::Memories;
 use m36_core::Core;
 use m36_desc::{Dbr, Sdw};
-use m36_tables::{store_fault, violation, within, word_place, wrapped};
+use m36_tables::{store_fault, violation, is_within_bound, word_place, wrapped_address};
 
 /// The number of words of a run that are in core before the first one that is not.
 #[tactic(auto, using(crate::proofs::Spots::walks_on))]
-fn words_inside(size: u32, place: u32, count: u32) -> u32
+fn count_in_core_one_by_one(size: u32, place: u32, count: u32) -> u32
     requires { place < 2 ^ 24 }
     ensures bound { result ≤ count }
-    ensures whole { result ≡ count → (word : ℕ) → examined size word place count
+    ensures whole { result ≡ count → (word : ℕ) → spots_in_core size word place count
         ≡ Ok (run_from place count) }
-    ensures refused { result < count → (word : ℕ) → examined size word place count
+    ensures refused { result < count → (word : ℕ) → spots_in_core size word place count
         ≡ Err (word + result, store_fault) }
     ensures inside { result ≡ count → IsInCore size place count }
 {
@@ -32,30 +32,30 @@ fn words_inside(size: u32, place: u32, count: u32) -> u32
         if next >= size {
             return count - left;
         }
-        next = wrapped(next + 1);
+        next = wrapped_address(next + 1);
         left -= 1;
     }
     count
 }
 
-/// As `words_inside`, without a loop if the whole run is before the end of core.
+/// As `count_in_core_one_by_one`, without a loop if the whole run is before the end of core.
 #[inline(always)]
 #[tactic(auto, using(crate::proofs::Spots::examined_inside, crate::proofs::Spots::lies_inside))]
-fn run_inside(size: u32, place: u32, count: u32) -> u32
+fn count_in_core(size: u32, place: u32, count: u32) -> u32
     requires size { size ≤ 2 ^ 24 }
     requires place { place < 2 ^ 24 }
     requires count { count ≤ 16 }
     ensures bound { result ≤ count }
-    ensures whole { result ≡ count → (word : ℕ) → examined size word place count
+    ensures whole { result ≡ count → (word : ℕ) → spots_in_core size word place count
         ≡ Ok (run_from place count) }
-    ensures refused { result < count → (word : ℕ) → examined size word place count
+    ensures refused { result < count → (word : ℕ) → spots_in_core size word place count
         ≡ Err (word + result, store_fault) }
     ensures inside { result ≡ count → IsInCore size place count }
 {
     if place + count <= size {
         return count;
     }
-    words_inside(size, place, count)
+    count_in_core_one_by_one(size, place, count)
 }
 
 /// The run of `count` words from address `place` on, if it is in core.
@@ -64,12 +64,12 @@ fn run_in_core(size: u32, place: u32, count: u32) -> Result<u32, Refused>
     requires size { size ≤ 2 ^ 24 }
     requires place { place < 2 ^ 24 }
     requires count { count ≤ 16 }
-    ensures value { (word : ℕ) → examined size word place count ≡ run_by word count result }
+    ensures value { (word : ℕ) → spots_in_core size word place count ≡ run_or_refusal word count result }
     ensures inside { IfOk result (λ a. IsInCore size a count) }
     ensures bound { IfOk result (λ a. a < 2 ^ 24) }
     ensures further { IfErr result (λ r. r.further < count) }
 {
-    let inside = run_inside(size, place, count);
+    let inside = count_in_core(size, place, count);
     if inside < count {
         return Err(Refused {
             why: store_fault(),
@@ -83,19 +83,19 @@ fn run_in_core(size: u32, place: u32, count: u32) -> Result<u32, Refused>
 /// order.
 #[inline(always)]
 #[tactic(auto, using(crate::proofs::Spots::by_first))]
-pub(crate) fn places(core: &Core, sdw: &Sdw, word: u32, count: u32) -> Result<u32, Refused>
+pub(crate) fn first_place(core: &Core, sdw: &Sdw, word: u32, count: u32) -> Result<u32, Refused>
     requires word { word < 2 ^ 18 }
     requires some { 1 ≤ count }
     requires block { word % 16 + count ≤ 16 }
     ensures value { (dbr : DbrFields) (seg : ℕ)
-        → spots_of core_store core.now dbr sdw.now seg word count ≡ run_by word count result }
+        → spots_of core_store core.now dbr sdw.now seg word count ≡ run_or_refusal word count result }
     ensures inside { IfOk result (λ a. IsInCore (length core.now) a count) }
     ensures bound { IfOk result (λ a. a < 2 ^ 24) }
     ensures further { IfErr result (λ r. r.further < count) }
-    ensures page { OnOk result (TableIn (length core.now) sdw.now.unpaged
+    ensures page { OnOk result (TableWordIsInCore (length core.now) sdw.now.unpaged
         (page_at sdw.now (word / 1024))) }
 {
-    if !within(sdw, word) {
+    if !is_within_bound(sdw, word) {
         return Err(Refused {
             why: violation(15),
             further: 0,
@@ -107,9 +107,9 @@ pub(crate) fn places(core: &Core, sdw: &Sdw, word: u32, count: u32) -> Result<u3
     }
 }
 
-/// As `places`, with the page table word from the memories if they have it.
+/// As `first_place`, with the page table word from the memories if they have it.
 #[tactic(auto, using(crate::proofs::Spots::by_first))]
-pub(crate) fn cached_places(
+pub(crate) fn cached_first_place(
     core: &Core,
     dbr: Dbr,
     memories: &mut Memories,
@@ -120,17 +120,17 @@ pub(crate) fn cached_places(
     requires word { word < 2 ^ 18 }
     requires some { 1 ≤ count }
     requires block { word % 16 + count ≤ 16 }
-    requires right { AreRight core.now dbr memories.old }
+    requires right { AreCoherent core.now dbr memories.old }
     ensures value { (other : DbrFields) (seg : ℕ)
-        → spots_of core_store core.now other sdw.now seg word count ≡ run_by word count result }
+        → spots_of core_store core.now other sdw.now seg word count ≡ run_or_refusal word count result }
     ensures inside { IfOk result (λ a. IsInCore (length core.now) a count) }
     ensures bound { IfOk result (λ a. a < 2 ^ 24) }
     ensures further { IfErr result (λ r. r.further < count) }
-    ensures page { OnOk result (TableIn (length core.now) sdw.now.unpaged
+    ensures page { OnOk result (TableWordIsInCore (length core.now) sdw.now.unpaged
         (page_at sdw.now (word / 1024))) }
-    ensures right { AreRight core.now dbr memories.new }
+    ensures right { AreCoherent core.now dbr memories.new }
 {
-    if !within(sdw, word) {
+    if !is_within_bound(sdw, word) {
         return Err(Refused {
             why: violation(15),
             further: 0,

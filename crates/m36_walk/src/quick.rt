@@ -8,15 +8,15 @@ ghost use Rattle.std.specs.Prelude.{ℕ, ◌≡◌, ◌+◌, ◌%◌, ◌<◌, �
 ghost use Rattle.m36_word.specs.Pairs.{pair_words};
 ghost use Rattle.m36_model.specs.Act.{Fetch, Indirect, Odd, Transfer};
 ghost use Rattle.m36_model.specs.Step.{aligned_at};
-ghost use Rattle.m36_walk.specs.Served.{sdw_in, at_target, ServesWord, ServesClaim, ServesAsked, Reads};
-ghost use Rattle.m36_walk.specs.Words.{seen};
+ghost use Rattle.m36_walk.specs.Served.{sdw_in, result_at_target, ServesWord, ServesClaim, ServesWithoutChange, Reads};
+ghost use Rattle.m36_walk.specs.Words.{with_pending};
 ghost use Rattle.m36_walk.specs.declared.words.Pending.{Pending};
 
 use crate::front::{
     change_in_front, fetch_elsewhere, fetch_in_front, read_in_front, transfer_in_front,
     write_in_front,
 };
-use crate::reads::pair_at;
+use crate::reads::start_of_pair;
 use crate::walk::Walk;
 use m36_model::At;
 use m36_word::{Pair, Word};
@@ -29,7 +29,7 @@ impl Walk {
             (Ok (slice_index self.old.core a ∷ []))) }
         ensures sees { IfSome result (λ a. (psr : ℕ) (pending : Option Pending)
             → Reads self.old self.old.core psr at 1 pending
-            (Ok (slice_index (seen self.old.core pending) a ∷ []))) }
+            (Ok (slice_index (with_pending self.old.core pending) a ∷ []))) }
         ensures inside { IfSome result (λ a. a < length self.old.core) }
         ensures same { self.new ≡ self.old }
     {
@@ -77,7 +77,7 @@ impl Walk {
             &self.core,
             self.dbr,
             &mut self.memories,
-            pair_at(at),
+            start_of_pair(at),
             2,
         )?;
         Some((place, ring))
@@ -92,7 +92,7 @@ impl Walk {
         ensures inside { IfSome result (λ a. a + 1 < length self.old.core) }
         ensures same { self.new ≡ self.old }
     {
-        let place = write_in_front(&self.core, self.dbr, &mut self.memories, pair_at(at), 2)?;
+        let place = write_in_front(&self.core, self.dbr, &mut self.memories, start_of_pair(at), 2)?;
         Some(place)
     }
 
@@ -138,7 +138,7 @@ impl Walk {
     /// As `quick_fetch`, from another page in front. This page becomes the one that is fetched
     /// from.
     #[inline(always)]
-    pub fn quick_refetch(&mut self, at: At) -> Option<u32>
+    pub fn quick_fetch_elsewhere(&mut self, at: At) -> Option<u32>
         ensures serves { IfSome result (λ a. ServesWord (λ g. g.ppr.prr ≡ at.ring) Fetch self.old
             self.old.core at (Ok (slice_index self.old.core a))) }
         ensures inside { IfSome result (λ a. a < length self.old.core) }
@@ -151,8 +151,8 @@ impl Walk {
     /// Whether a transfer in the ring of `at`, from the same ring, may go to a word.
     #[inline(always)]
     pub fn quick_transfer(&self, at: At) -> bool
-        ensures { IsTrue result → ServesAsked (λ g. g.ppr.prr ≡ at.ring) Transfer self.now at
-            (at_target (sdw_in self.now at.seg) (Ok (tt {0}))) }
+        ensures { IsTrue result → ServesWithoutChange (λ g. g.ppr.prr ≡ at.ring) Transfer self.now at
+            (result_at_target (sdw_in self.now at.seg) (Ok (tt {0}))) }
     {
         transfer_in_front(&self.core, self.dbr, &self.memories, at)
     }

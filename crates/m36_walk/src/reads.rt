@@ -9,13 +9,13 @@ ghost use Rattle.m36_walk.specs.Served.{sdw_in, ok_map, ServesWord, Reads};
 
 use crate::refer::{refer_fetch, refer_read};
 use crate::walk::Walk;
-use crate::words::{Pending, seen, seen_block, seen_pair};
+use crate::words::{Pending, with_pending, block_with_pending, pair_with_pending};
 use m36_model::{At, Fault};
 use m36_word::{Pair, Word};
 
 /// The address of the even word of the pair that contains a word.
 #[inline(always)]
-pub(crate) fn pair_at(at: At) -> At
+pub(crate) fn start_of_pair(at: At) -> At
     ensures value { result ≡ aligned_at 2 at }
     ensures block { result.word % 16 + 2 ≤ 16 }
 {
@@ -27,7 +27,7 @@ pub(crate) fn pair_at(at: At) -> At
 
 /// The address of the first word of the block of 16 words that contains a word.
 #[inline(always)]
-pub(crate) fn block_at(at: At) -> At
+pub(crate) fn start_of_block(at: At) -> At
     ensures value { result ≡ aligned_at 16 at }
     ensures block { result.word % 16 + 16 ≤ 16 }
 {
@@ -89,11 +89,11 @@ impl Walk {
         ensures len { length self.new.core ≡ length self.old.core }
     {
         let found = refer_read(&mut self.core, self.dbr, &mut self.memories, at, psr, 1)?;
-        Ok(seen(&self.core, pending, found.place))
+        Ok(with_pending(&self.core, pending, found.place))
     }
 
     /// Reads the operand pair that contains a word, and R1 of its segment.
-    pub fn operand_pair(
+    pub fn read_operand_pair(
         &mut self,
         at: At,
         psr: u16,
@@ -110,15 +110,15 @@ impl Walk {
             &mut self.core,
             self.dbr,
             &mut self.memories,
-            pair_at(at),
+            start_of_pair(at),
             psr,
             2,
         )?;
-        Ok((seen_pair(&self.core, pending, found.place), found.ring))
+        Ok((pair_with_pending(&self.core, pending, found.place), found.ring))
     }
 
     /// Reads the operand block that contains a word, and R1 of its segment.
-    pub fn operand_block(
+    pub fn read_operand_block(
         &mut self,
         at: At,
         psr: u16,
@@ -135,11 +135,11 @@ impl Walk {
             &mut self.core,
             self.dbr,
             &mut self.memories,
-            block_at(at),
+            start_of_block(at),
             psr,
             16,
         )?;
-        Ok((seen_block(&self.core, pending, found.place), found.ring))
+        Ok((block_with_pending(&self.core, pending, found.place), found.ring))
     }
 
     /// Reads a word in the ring of `at`, for an instruction in segment `psr`.
@@ -158,7 +158,7 @@ impl Walk {
         ensures dbr { self.new.dbr ≡ self.old.dbr }
         ensures len { length self.new.core ≡ length self.old.core }
     {
-        match self.operand_pair(at, psr, &None) {
+        match self.read_operand_pair(at, psr, &None) {
             Ok((pair, _)) => Ok(pair),
             Err(fault) => Err(fault),
         }
@@ -175,10 +175,10 @@ impl Walk {
             &mut self.core,
             self.dbr,
             &mut self.memories,
-            block_at(at),
+            start_of_block(at),
             psr,
             16,
         )?;
-        Ok(seen_block(&self.core, &None, found.place))
+        Ok(block_with_pending(&self.core, &None, found.place))
     }
 }

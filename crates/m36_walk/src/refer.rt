@@ -1,7 +1,7 @@
 //! One reference, and how it serves a request of a step.
 
 ghost use Rattle.std.specs.Prelude.{ℕ, ◌≡◌, ◌+◌, ◌%◌, ◌<◌, ◌≤◌, ◌^◌, IfOk, IfErr, length};
-ghost use Rattle.m36_associative.specs.Right.{AreRight};
+ghost use Rattle.m36_associative.specs.Right.{AreCoherent};
 ghost use Rattle.m36_model.specs.Act.{Fetch, Indirect, Odd, Read};
 ghost use Rattle.m36_walk.specs.Runs.{IsInCore};
 ghost use Rattle.m36_walk.specs.Served.{sdw_in, ok_map, ServesRun, ServesClaim};
@@ -47,7 +47,7 @@ pub(crate) fn refer_read(
 ) -> Result<Reach, Fault>
     requires some { 1 ≤ count }
     requires block { at.word % 16 + count ≤ 16 }
-    requires right { AreRight core.old dbr memories.old }
+    requires right { AreCoherent core.old dbr memories.old }
     ensures read { ServesRun (λ g. g.ppr.psr ≡ psr) Read (record { core = core.old; dbr = dbr })
         core.new at count (ok_map (λ r. r.place) result) }
     ensures indirect { ServesRun (λ g. g.ppr.psr ≡ psr) Indirect
@@ -61,7 +61,7 @@ pub(crate) fn refer_read(
     ensures bound { IfOk result (λ r. r.place < 2 ^ 24) }
     ensures stays { IfErr result (λ e. core.new ≡ core.old) }
     ensures len { length core.new ≡ length core.old }
-    ensures right { AreRight core.new dbr memories.new }
+    ensures right { AreCoherent core.new dbr memories.new }
 {
     if let Some((place, ring)) = read_in_front(core, dbr, memories, at, count) {
         return Ok(Reach { place, ring });
@@ -84,7 +84,7 @@ pub(crate) fn refer_write(
 ) -> Result<WordRun, Fault>
     requires some { 1 ≤ count }
     requires block { at.word % 16 + count ≤ 16 }
-    requires right { AreRight core.old dbr memories.old }
+    requires right { AreCoherent core.old dbr memories.old }
     ensures write { ServesClaim (record { core = core.old; dbr = dbr }) core.new at count
         (ok_map (λ r. r.place) result) }
     ensures count { IfOk result (λ r. r.count ≡ count) }
@@ -92,7 +92,7 @@ pub(crate) fn refer_write(
     ensures bound { IfOk result (λ r. r.place < 2 ^ 24) }
     ensures stays { IfErr result (λ e. core.new ≡ core.old) }
     ensures len { length core.new ≡ length core.old }
-    ensures right { AreRight core.new dbr memories.new }
+    ensures right { AreCoherent core.new dbr memories.new }
 {
     if let Some(place) = write_in_front(core, dbr, memories, at, count) {
         return Ok(WordRun { place, count });
@@ -109,7 +109,7 @@ pub(crate) fn refer_write(
 /// The core address of a fetched instruction, and whether its segment may execute privileged
 /// instructions.
 #[inline(always)]
-fn fetch_of(found: &LookupResult) -> (u32, bool)
+fn fetch_result(found: &LookupResult) -> (u32, bool)
     ensures place { result.0 ≡ found.now.place }
     ensures privileged { result.1 ≡ found.now.sdw.privileged }
 {
@@ -125,7 +125,7 @@ pub(crate) fn refer_fetch(
     memories: &mut Memories,
     at: At,
 ) -> Result<(u32, bool), Fault>
-    requires right { AreRight core.old dbr memories.old }
+    requires right { AreCoherent core.old dbr memories.old }
     ensures fetch { ServesRun (λ g. g.ppr.prr ≡ at.ring) Fetch
         (record { core = core.old; dbr = dbr }) core.new at 1 (ok_map (λ r. r.0) result) }
     ensures privileged { IfOk result (λ r. r.1
@@ -133,7 +133,7 @@ pub(crate) fn refer_fetch(
     ensures inside { IfOk result (λ r. r.0 < length core.new) }
     ensures stays { IfErr result (λ e. core.new ≡ core.old) }
     ensures len { length core.new ≡ length core.old }
-    ensures right { AreRight core.new dbr memories.new }
+    ensures right { AreCoherent core.new dbr memories.new }
 {
     if let Some(found) = fetch_in_front(core, dbr, memories, at) {
         return Ok(found);
@@ -142,7 +142,7 @@ pub(crate) fn refer_fetch(
         return Ok(found);
     }
     match fetch_by_tables(core, dbr, memories, at) {
-        Ok(found) => Ok(fetch_of(&found)),
+        Ok(found) => Ok(fetch_result(&found)),
         Err(fault) => Err(fault),
     }
 }

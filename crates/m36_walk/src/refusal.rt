@@ -26,7 +26,7 @@ pub(crate) struct Refused {
 
 /// A refusal as the fault at the refused word, given the address of the first word.
 #[inline(always)]
-pub(crate) fn fault_further(refused: Refused, at: At) -> Fault
+pub(crate) fn fault_at_refused_word(refused: Refused, at: At) -> Fault
     requires { at.word % 16 + refused.further < 16 }
     ensures { result ≡ fault_in at (at.word + refused.further) refused.why }
 {

@@ -115,7 +115,7 @@ fn walk_of(alloc: Global, dbr: Dbr) -> Result<Walk, NoMemory> {
 fn segments_kept(walk: &mut Walk) -> [u32; 16] {
     let mut keys = [NONE; 16];
     for i in 0..16 {
-        if let Some(seg) = walk.memories.segment_by_use(i) {
+        if let Some(seg) = walk.memories.segment_of_rank(i) {
             keys[i] = seg as u32;
         }
     }
@@ -126,7 +126,7 @@ fn segments_kept(walk: &mut Walk) -> [u32; 16] {
 fn tables_kept(walk: &mut Walk) -> [u32; 16] {
     let mut keys = [NONE; 16];
     for i in 0..16 {
-        if let Some(a) = walk.memories.table_word_by_use(i) {
+        if let Some(a) = walk.memories.table_word_of_rank(i) {
             keys[i] = a;
         }
     }
@@ -154,7 +154,7 @@ struct Orders {
 }
 
 // What empty memories keep.
-fn nothing() -> Orders {
+fn empty_orders() -> Orders {
     Orders {
         segments: [NONE; 16],
         tables: [NONE; 16],
@@ -178,7 +178,7 @@ fn at(seg: u16, word: u32, ring: u8) -> At
 /// Fetches as a step does: from the page that was fetched from last, from another page in front, or
 /// by the tables.
 fn fetch_quickly(walk: &mut Walk, place: At) {
-    if walk.quick_fetch(place).is_some() || walk.quick_refetch(place).is_some() {
+    if walk.quick_fetch(place).is_some() || walk.quick_fetch_elsewhere(place).is_some() {
         return;
     }
     drop(walk.fetch(place));
@@ -192,7 +192,7 @@ fn read_quickly(walk: &mut Walk, place: At) {
 }
 
 /// Checks a word to be written, as a step does: in a page in front, or by the tables.
-fn hold_quickly(walk: &mut Walk, place: At) {
+fn claim_quickly(walk: &mut Walk, place: At) {
     if walk.quick_write(place).is_none() {
         drop(walk.hold(place, 1));
     }
@@ -210,7 +210,7 @@ fn refer(walk: &mut Walk, kind: u32, seg: u16, word: u32)
         2 => drop(walk.read(place, 0)),
         3 => read_quickly(walk, place),
         4 => drop(walk.write(place, Word::low(kind as u64))),
-        5 => hold_quickly(walk, place),
+        5 => claim_quickly(walk, place),
         6 => drop(walk.read_pair(place, seg)),
         7 => drop(walk.read_block(place, seg)),
         8 => drop(walk.read(at(seg, word, 5), seg)),
@@ -246,7 +246,7 @@ enum Spread {
 }
 
 // The number of segments that random references go to; each memory has 16 entries.
-fn segments_of(spread: Spread) -> u32
+fn number_of_segments(spread: Spread) -> u32
     ensures some { 0 < result }
     ensures most { result ≤ 60 }
 {
@@ -258,8 +258,8 @@ fn segments_of(spread: Spread) -> u32
 }
 
 /// Makes this many random references.
-fn refer_by_lot(walk: &mut Walk, orders: &mut Orders, lot: &mut u32, count: u32, spread: Spread) {
-    let segments = segments_of(spread);
+fn refer_at_random(walk: &mut Walk, orders: &mut Orders, lot: &mut u32, count: u32, spread: Spread) {
+    let segments = number_of_segments(spread);
     for _ in 0..count {
         let kind = next(lot) % 10;
         let seg = (next(lot) % segments) as u16;
@@ -271,7 +271,7 @@ fn refer_by_lot(walk: &mut Walk, orders: &mut Orders, lot: &mut u32, count: u32,
 #[test]
 fn keep_what_was_read_and_are_emptied(rt: HostRuntime) -> Result<(), NoMemory> {
     let mut walk = walk_of(rt.alloc(), WHOLE)?;
-    let mut orders = nothing();
+    let mut orders = empty_orders();
     assert!(rt; keeps(&mut walk, &orders));
     assert!(rt; walk.read(at(4, 1, 4), 0) == Ok(Word::ZERO));
     assert!(rt; walk.read(at(5, 1, 4), 0) == Ok(Word::ZERO));
@@ -282,7 +282,7 @@ fn keep_what_was_read_and_are_emptied(rt: HostRuntime) -> Result<(), NoMemory> {
     orders.tables[1] = 0o212;
     assert!(rt; keeps(&mut walk, &orders));
     assert!(rt; walk.core_mut().len() == 4096);
-    assert!(rt; keeps(&mut walk, &nothing()));
+    assert!(rt; keeps(&mut walk, &empty_orders()));
     Ok(())
 }
 
@@ -292,9 +292,9 @@ fn keep_what_was_used_last(rt: HostRuntime) -> Result<(), NoMemory> {
     for dbr in [WHOLE, PAGED] {
         for spread in [Spread::Few, Spread::Some, Spread::Many] {
             let mut walk = walk_of(rt.alloc(), dbr)?;
-            let mut orders = nothing();
+            let mut orders = empty_orders();
             for turn in 0..200 {
-                refer_by_lot(&mut walk, &mut orders, &mut lot, turn % 40, spread);
+                refer_at_random(&mut walk, &mut orders, &mut lot, turn % 40, spread);
                 assert!(rt; keeps(&mut walk, &orders), "after turn {turn}");
             }
         }
@@ -312,7 +312,7 @@ fn rewrite(walk: &mut Walk, place: u32) {
 
 /// Reads words of segments 4 and 5, and then writes the word at an address again with its own
 /// value.
-fn rewritten(alloc: Global, dbr: Dbr, place: u32) -> Result<Walk, NoMemory> {
+fn walk_after_rewrite(alloc: Global, dbr: Dbr, place: u32) -> Result<Walk, NoMemory> {
     let mut walk = walk_of(alloc, dbr)?;
     refer(&mut walk, 2, 5, 1);
     refer(&mut walk, 2, 4, 1);
@@ -321,8 +321,8 @@ fn rewritten(alloc: Global, dbr: Dbr, place: u32) -> Result<Walk, NoMemory> {
 }
 
 /// What is kept after these two reads.
-fn two_kept() -> Orders {
-    let mut orders = nothing();
+fn orders_after_two_reads() -> Orders {
+    let mut orders = empty_orders();
     orders.segments[0] = 4;
     orders.segments[1] = 5;
     orders.tables[0] = 0o210;
@@ -335,16 +335,16 @@ fn are_emptied_by_a_write_of_a_table_word(rt: HostRuntime) -> Result<(), NoMemor
     // The words of the two descriptors, the page table words that were read, and the one through
     // which the descriptors were found.
     for place in [8, 9, 10, 11, 0o210, 0o212, 0o400] {
-        let mut walk = rewritten(rt.alloc(), PAGED, place)?;
-        assert!(rt; keeps(&mut walk, &nothing()), "at {place}");
+        let mut walk = walk_after_rewrite(rt.alloc(), PAGED, place)?;
+        assert!(rt; keeps(&mut walk, &empty_orders()), "at {place}");
     }
     // Words of a descriptor and page table words that were not read, and words of the pages.
     for place in [12, 0o211, 0o214, 0o2000, 0o2001, 0o4000] {
-        let mut walk = rewritten(rt.alloc(), PAGED, place)?;
-        assert!(rt; keeps(&mut walk, &two_kept()), "at {place}");
+        let mut walk = walk_after_rewrite(rt.alloc(), PAGED, place)?;
+        assert!(rt; keeps(&mut walk, &orders_after_two_reads()), "at {place}");
     }
-    let mut walk = rewritten(rt.alloc(), WHOLE, 0o400)?;
-    assert!(rt; keeps(&mut walk, &two_kept()));
+    let mut walk = walk_after_rewrite(rt.alloc(), WHOLE, 0o400)?;
+    assert!(rt; keeps(&mut walk, &orders_after_two_reads()));
     Ok(())
 }
 
@@ -353,7 +353,7 @@ fn stay_as_they_are_when_a_word_of_an_entry_that_went_is_written(
     rt: HostRuntime,
 ) -> Result<(), NoMemory> {
     let mut walk = walk_of(rt.alloc(), WHOLE)?;
-    let mut orders = nothing();
+    let mut orders = empty_orders();
     for seg in 4..30 {
         refer_by_rule(&mut walk, &mut orders, 2, seg, 1);
     }
@@ -363,19 +363,19 @@ fn stay_as_they_are_when_a_word_of_an_entry_that_went_is_written(
         assert!(rt; keeps(&mut walk, &orders), "at {place}");
     }
     rewrite(&mut walk, 28);
-    assert!(rt; keeps(&mut walk, &nothing()));
+    assert!(rt; keeps(&mut walk, &empty_orders()));
     Ok(())
 }
 
 #[test]
 fn are_emptied_by_the_register_and_by_a_mark(rt: HostRuntime) -> Result<(), NoMemory> {
-    let mut walk = rewritten(rt.alloc(), WHOLE, 0o2000)?;
+    let mut walk = walk_after_rewrite(rt.alloc(), WHOLE, 0o2000)?;
     walk.set_dbr(WHOLE);
-    assert!(rt; keeps(&mut walk, &nothing()));
+    assert!(rt; keeps(&mut walk, &empty_orders()));
     // The page table word of segment 62 is the even word of the descriptor of segment 60.
     refer(&mut walk, 2, 60, 1);
     assert!(rt; segments_kept(&mut walk)[0] == 60);
     refer(&mut walk, 2, ODD_ONE, 1);
-    assert!(rt; keeps(&mut walk, &nothing()));
+    assert!(rt; keeps(&mut walk, &empty_orders()));
     Ok(())
 }

@@ -21,14 +21,14 @@ pub struct Walk {
 }
 
 impl Model for Walk {
-    ghost use Rattle.m36_associative.specs.Right.{AreRight};
+    ghost use Rattle.m36_associative.specs.Right.{AreCoherent};
     ghost use Rattle.m36_walk.specs.Memory.{Memory};
 
     ghost Value = { Memory };
 
     ghost view = { λ w. record { core = w.core; dbr = w.dbr } };
 
-    ghost invariant = { λ w. AreRight w.core w.dbr w.memories };
+    ghost invariant = { λ w. AreCoherent w.core w.dbr w.memories };
 }
 
 impl Walk {

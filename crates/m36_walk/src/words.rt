@@ -2,17 +2,17 @@
 
 ghost use Rattle.std.specs.Prelude.{ℕ, ◌≡◌, ◌+◌, ◌<◌, ◌^◌, length, slice_index};
 ghost use Rattle.m36_word.specs.Pairs.{pair_words};
-ghost use Rattle.m36_associative.specs.Right.{AreRight};
+ghost use Rattle.m36_associative.specs.Right.{AreCoherent};
 ghost use Rattle.m36_model.specs.Core.{core_put};
-ghost use Rattle.m36_model.specs.Place.{wrapped};
+ghost use Rattle.m36_model.specs.Place.{wrapped_address};
 ghost use Rattle.m36_model.specs.Results.{words_of_pairs};
 ghost use Rattle.m36_walk.specs.Runs.{IsInCore, words_from};
-ghost use Rattle.m36_walk.specs.Words.{seen, run_changes};
+ghost use Rattle.m36_walk.specs.Words.{with_pending, run_changes};
 
 use m36_associative::{Memories, store};
 use m36_core::Core;
 use m36_desc::Dbr;
-use m36_tables::wrapped;
+use m36_tables::wrapped_address;
 use m36_word::{Pair, Word};
 
 /// A word that an instruction has still to write. References of the same instruction read it as
@@ -35,9 +35,9 @@ pub struct WordRun {
 
 /// The word at an address, or the pending word if it is for this address.
 #[tactic(auto, unfolding(m36_model::specs::Core::core_put))]
-pub(crate) fn seen(core: &Core, pending: &Option<Pending>, a: u32) -> Word
+pub(crate) fn with_pending(core: &Core, pending: &Option<Pending>, a: u32) -> Word
     requires { a < length core.now }
-    ensures { result ≡ slice_index (seen core.now pending.now) a }
+    ensures { result ≡ slice_index (with_pending core.now pending.now) a }
 {
     match *pending {
         None => core.peek(a),
@@ -47,21 +47,21 @@ pub(crate) fn seen(core: &Core, pending: &Option<Pending>, a: u32) -> Word
 
 /// The pair that begins at an address, with the pending word as if it were written.
 #[tactic(auto, unfolding(crate::specs::Runs::words_from, crate::specs::Runs::IsInCore))]
-pub(crate) fn seen_pair(core: &Core, pending: &Option<Pending>, a: u32) -> Pair
+pub(crate) fn pair_with_pending(core: &Core, pending: &Option<Pending>, a: u32) -> Pair
     requires place { a < 2 ^ 24 }
     requires inside { IsInCore (length core.now) a 2 }
-    ensures { words_from (seen core.now pending.now) a 2 ≡ pair_words result }
+    ensures { words_from (with_pending core.now pending.now) a 2 ≡ pair_words result }
 {
-    let even = seen(core, pending, a);
-    let odd = seen(core, pending, wrapped(a + 1));
+    let even = with_pending(core, pending, a);
+    let odd = with_pending(core, pending, wrapped_address(a + 1));
     Pair { even, odd }
 }
 
 /// The block of 16 words that begins at an address, with the pending word as if it were written.
-pub(crate) fn seen_block(core: &Core, pending: &Option<Pending>, a: u32) -> [Pair; 8]
+pub(crate) fn block_with_pending(core: &Core, pending: &Option<Pending>, a: u32) -> [Pair; 8]
     requires place { a < 2 ^ 24 }
     requires inside { IsInCore (length core.now) a 16 }
-    ensures { words_from (seen core.now pending.now) a 16 ≡ words_of_pairs result }
+    ensures { words_from (with_pending core.now pending.now) a 16 ≡ words_of_pairs result }
 {
     let mut pairs = [Pair {
         even: Word::ZERO,
@@ -69,8 +69,8 @@ pub(crate) fn seen_block(core: &Core, pending: &Option<Pending>, a: u32) -> [Pai
     }; 8];
     let mut next = a;
     for i in 0..8 {
-        pairs[i] = seen_pair(core, pending, next);
-        next = wrapped(wrapped(next + 1) + 1);
+        pairs[i] = pair_with_pending(core, pending, next);
+        next = wrapped_address(wrapped_address(next + 1) + 1);
     }
     pairs
 }
@@ -80,13 +80,13 @@ pub(crate) fn seen_block(core: &Core, pending: &Option<Pending>, a: u32) -> [Pai
 pub(crate) fn put_pair(core: &mut Core, dbr: &Dbr, memories: &mut Memories, a: u32, pair: Pair)
     requires place { a < 2 ^ 24 }
     requires inside { IsInCore (length core.old) a 2 }
-    requires right { AreRight core.old dbr.now memories.old }
+    requires right { AreCoherent core.old dbr.now memories.old }
     ensures put { core.new ≡ core_put core.old (run_changes a (pair_words pair)) }
     ensures len { length core.new ≡ length core.old }
-    ensures right { AreRight core.new dbr.now memories.new }
+    ensures right { AreCoherent core.new dbr.now memories.new }
 {
     store(core, dbr, memories, a, pair.even);
-    store(core, dbr, memories, wrapped(a + 1), pair.odd);
+    store(core, dbr, memories, wrapped_address(a + 1), pair.odd);
 }
 
 /// Writes the block of 16 words that begins at an address.
@@ -99,15 +99,15 @@ pub(crate) fn put_block(
 )
     requires place { a < 2 ^ 24 }
     requires inside { IsInCore (length core.old) a 16 }
-    requires right { AreRight core.old dbr.now memories.old }
+    requires right { AreCoherent core.old dbr.now memories.old }
     ensures put { core.new ≡ core_put core.old (run_changes a (words_of_pairs block.now)) }
     ensures words { length (words_of_pairs block.now) ≡ 16 }
     ensures len { length core.new ≡ length core.old }
-    ensures right { AreRight core.new dbr.now memories.new }
+    ensures right { AreCoherent core.new dbr.now memories.new }
 {
     let mut next = a;
     for pair in block {
         put_pair(core, dbr, memories, next, *pair);
-        next = wrapped(wrapped(next + 1) + 1);
+        next = wrapped_address(wrapped_address(next + 1) + 1);
     }
 }

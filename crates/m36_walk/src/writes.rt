@@ -6,10 +6,10 @@ ghost use Rattle.m36_model.specs.Core.{core_put};
 ghost use Rattle.m36_model.specs.Results.{words_of_pairs};
 ghost use Rattle.m36_model.specs.Step.{aligned_at};
 ghost use Rattle.m36_walk.specs.Runs.{IsInCore};
-ghost use Rattle.m36_walk.specs.Served.{IsCount, ok_map, ServesClaim, Writes};
+ghost use Rattle.m36_walk.specs.Served.{IsWordCount, ok_map, ServesClaim, Writes};
 ghost use Rattle.m36_walk.specs.Words.{run_changes};
 
-use crate::reads::{block_at, pair_at};
+use crate::reads::{start_of_block, start_of_pair};
 use crate::refer::refer_write;
 use crate::walk::Walk;
 use crate::words::{WordRun, put_block, put_pair};
@@ -21,7 +21,7 @@ use m36_word::{Pair, Word};
 /// at an even word number, and a block at a multiple of 16.
 #[inline(always)]
 pub fn first_at(at: At, count: u8) -> At
-    requires { IsCount count }
+    requires { IsWordCount count }
     ensures value { result ≡ aligned_at count at }
     ensures block { result.word % 16 + count ≤ 16 }
 {
@@ -29,9 +29,9 @@ pub fn first_at(at: At, count: u8) -> At
         return at;
     }
     if count == 2 {
-        pair_at(at)
+        start_of_pair(at)
     } else {
-        block_at(at)
+        start_of_block(at)
     }
 }
 
@@ -39,7 +39,7 @@ impl Walk {
     /// Checks a Write of 1, 2 or 16 words in the ring of `at`, sets its marks, and writes nothing.
     /// Returns the core words.
     pub fn claim(&mut self, at: At, count: u8) -> Result<WordRun, Fault>
-        requires { IsCount count }
+        requires { IsWordCount count }
         ensures serves { ServesClaim self.old self.new.core (aligned_at count at) count
             (ok_map (λ r. r.place) result) }
         ensures count { IfOk result (λ r. r.count ≡ count) }
@@ -59,7 +59,7 @@ impl Walk {
 
     /// As `claim`. Returns the core address of the first word; the others follow it modulo 2^24.
     pub fn hold(&mut self, at: At, count: u8) -> Result<u32, Fault>
-        requires { IsCount count }
+        requires { IsWordCount count }
         ensures serves { ServesClaim self.old self.new.core (aligned_at count at) count result }
         ensures inside { IfOk result (λ a. IsInCore (length self.new.core) a count) }
         ensures bound { IfOk result (λ a. a < 2 ^ 24) }

@@ -9,8 +9,8 @@ use Rattle.m36_outside.specs.declared.sink.Put.TheVariants as put
 use Rattle.m36_world.specs.Answers.{PutDid, PutBlockDid, NextPieceDid}
 use Rattle.m36_world.specs.Happened.{Happened}
 use Rattle.m36_world.specs.CallEvents.{put_events, block_events, input_events}
-use Rattle.m36_world.specs.Follow.{Next, Follow}
-use Rattle.m36_world.specs.Logs.{read_of, write_of, input_of, Takes, TakesAll, Logs}
+use Rattle.m36_world.specs.Follow.{InSequence, Follow}
+use Rattle.m36_world.specs.Logs.{read_of, write_of, input_of, AddsOutput, AddsOutputs, Logs}
 use Rattle.m36_world.specs.Seen.{Seen}
 use Rattle.m36_world.specs.declared.event.Event.{Event}
 use Rattle.m36_world.specs.declared.event.Event.TheVariants.{FileRead, FileWrite, Output, OutputFailed}
@@ -41,7 +41,7 @@ follow_on (event ∷ first) rest old between new some more = record {
 -- events in two parts
 pub follow_split :
     (first rest : List Event) (old new : Seen)
-    → Follow (first ++ rest) old new → Next (Follow first) (Follow rest) old new
+    → Follow (first ++ rest) old new → InSequence (Follow first) (Follow rest) old new
 unfolding Follow
 follow_split [] rest old new all = record { between = old; begins = refl; goes_on = all }
 follow_split (event ∷ first) rest old new all =
@@ -83,7 +83,7 @@ pub record LogsOne (event : Event) (old new : Seen) : Type 0 where
   pub reads : new.reads ≡ old.reads ++ read_of event
   pub writes : new.writes ≡ old.writes ++ write_of event
   pub inputs : new.inputs ≡ old.inputs ++ input_of event
-  pub outputs : Takes event old.outputs new.outputs
+  pub outputs : AddsOutput event old.outputs new.outputs
   pub references : new.references ≡ old.references
 
 logs_one : (event : Event) (old new : Seen) → Happened event old new → LogsOne event old new
@@ -141,7 +141,7 @@ more : {A : Type 0} (old between new first rest : List A)
 more old between new first rest one two = two ∙ ap (λ l. l ++ rest) one ∙ append_assoc old first rest
 
 pub follow_logs : (events : List Event) (old new : Seen) → Follow events old new → Logs events old new
-unfolding Follow TakesAll
+unfolding Follow AddsOutputs
 follow_logs [] old new none = record {
   all = same old.events new.events (ap (λ s. s.events) none);
   reads = same old.reads new.reads (ap (λ s. s.reads) none);

@@ -29,11 +29,11 @@ pub put_did :
     → PutHasCause answer old.output_faults faults → old.output_faults ≤ faults → faults < 2 ^ 64
     → events ≡ old.events ++ put_events answer piece
     → PutDid answer piece old (after_put old events outputs written faults)
-put_did Done piece old events outputs written faults says took cause count bound noted = record {
+put_did Done piece old events outputs written faults says took cause count bound with_event = record {
   bound = bound;
-  rest = λ i. after_put old (noted i) (took i) (says i) (cause i);
+  rest = λ i. after_put old (with_event i) (took i) (says i) (cause i);
 }
-put_did Failed piece old events outputs written faults says took cause count bound noted = record {
+put_did Failed piece old events outputs written faults says took cause count bound with_event = record {
   part = took;
   failed = record {
     took = takes_some_of_line old.written written old.outputs outputs piece took;
@@ -41,7 +41,7 @@ put_did Failed piece old events outputs written faults says took cause count bou
     cause = cause;
     count = count;
     bound = bound;
-    rest = λ i. after_put old (noted i) outputs written faults;
+    rest = λ i. after_put old (with_event i) outputs written faults;
   };
 }
 
@@ -110,19 +110,19 @@ pub put_block_did :
     → events ≡ old.events ++ block_events answer pieces
     → PutBlockDid answer pieces old (after_put old events outputs written faults)
 unfolding after_pieces
-put_block_did Done pieces old events outs written faults says took cause count bound noted =
+put_block_did Done pieces old events outs written faults says took cause count bound with_event =
     let below : 1 ≤ length pieces → old.output_faults < 2 ^ 64 =
     λ some. subst (λ n. n < 2 ^ 64) cause (bound (inr some)) in
     subst (λ new. Follow (outputs pieces) old new)
-    (λ i. after_put old (sym noted i) (sym took i) (sym says i) (sym cause i))
+    (λ i. after_put old (sym with_event i) (sym took i) (sym says i) (sym cause i))
     (pieces_follow pieces old below)
-put_block_did Failed pieces old events outs written faults says took cause count bound noted = record {
+put_block_did Failed pieces old events outs written faults says took cause count bound with_event = record {
   took = took;
   grew = says;
   cause = cause;
   count = count;
   bound = bound (inr (some_pieces old.outputs outs pieces took));
-  rest = λ i. after_put old (noted i) outs written faults;
+  rest = λ i. after_put old (with_event i) outs written faults;
 }
 
 -- ---- what is unchanged after pieces that were written as a whole

@@ -7,7 +7,7 @@ use Rattle.m36_world.specs.declared.event.Event.TheVariants.{Output}
 
 -- First `first` happened, and then `rest`: `first` relates the state before to one between, and
 -- `rest` that to the state after.
-pub record Next (first rest : Seen → Seen → Type 0) (old new : Seen) : Type 0 where
+pub record InSequence (first rest : Seen → Seen → Type 0) (old new : Seen) : Type 0 where
   pub between : Seen
   pub begins : first old between
   pub goes_on : rest between new
@@ -15,7 +15,7 @@ pub record Next (first rest : Seen → Seen → Type 0) (old new : Seen) : Type 
 -- These events happened, one after another, and nothing else.
 unfoldable pub Follow : List Event → Seen → Seen → Type 0
 Follow [] old new = new ≡ old
-Follow (event ∷ events) old new = Next (Happened event) (Follow events) old new
+Follow (event ∷ events) old new = InSequence (Happened event) (Follow events) old new
 
 -- the events of output of these pieces, each written whole
 abbrev pub outputs : List (List ℕ) → List Event

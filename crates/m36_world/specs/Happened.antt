@@ -3,13 +3,13 @@ use Rattle.std.specs.Prelude.{ℕ, ◌≡◌, ◌≤◌, ◌<◌, ◌^◌, List,
 use Rattle.std.specs.Io.KnownBytes.{IsAtEnd}
 use Rattle.m36_outside.specs.Counts.{Rose}
 use Rattle.m36_outside.specs.Passing.{TakesSome, joined}
-use Rattle.m36_outside.specs.Piece.{preceded}
+use Rattle.m36_outside.specs.Piece.{prepended}
 use Rattle.m36_outside.specs.ReadAnswer.{ReadResult, IsWithinLimit, ReadHasCause}
 use Rattle.m36_outside.specs.WriteAnswer.{WriteResult, WriteHasCause}
 use Rattle.m36_outside.specs.Written.{appended, GrewWithin}
 use Rattle.m36_outside.specs.declared.folder.ReadAnswer.{ReadAnswer}
 use Rattle.m36_outside.specs.declared.folder.WriteAnswer.{WriteAnswer}
-use Rattle.m36_world.specs.Seen.{Seen, noted}
+use Rattle.m36_world.specs.Seen.{Seen, with_event}
 use Rattle.m36_world.specs.declared.event.Event.{Event}
 use Rattle.m36_world.specs.declared.event.Event.TheVariants.{FileRead, FileWrite, Output}
 use Rattle.m36_world.specs.declared.event.Event.TheVariants.{OutputFailed, Input, InputFailed}
@@ -22,7 +22,7 @@ pub record IsFileRead (name : List ℕ) (answer : ReadAnswer) (old new : Seen) :
   pub cause : ReadHasCause answer old.read_faults new.read_faults
   pub count : old.read_faults ≤ new.read_faults
   pub bound : new.read_faults < 2 ^ 64
-  pub rest : new ≡ record (noted (FileRead name answer) old) {
+  pub rest : new ≡ record (with_event (FileRead name answer) old) {
     reads = old.reads ++ (name, answer) ∷ [];
     read_faults = new.read_faults;
   }
@@ -34,7 +34,7 @@ pub record IsFileWrite (name content : List ℕ) (answer : WriteAnswer) (old new
   pub cause : WriteHasCause answer old.write_faults new.write_faults
   pub count : old.write_faults ≤ new.write_faults
   pub bound : new.write_faults < 2 ^ 64
-  pub rest : new ≡ record (noted (FileWrite name content answer) old) {
+  pub rest : new ≡ record (with_event (FileWrite name content answer) old) {
     writes = old.writes ++ (name, content, answer) ∷ [];
     files = new.files;
     write_faults = new.write_faults;
@@ -43,7 +43,7 @@ pub record IsFileWrite (name content : List ℕ) (answer : WriteAnswer) (old new
 -- A piece of output was written as a whole.
 pub record IsOutput (piece : List ℕ) (old new : Seen) : Type 0 where
   pub bound : new.output_faults < 2 ^ 64
-  pub rest : new ≡ record (noted (Output piece) old) {
+  pub rest : new ≡ record (with_event (Output piece) old) {
     outputs = old.outputs ++ piece ∷ [];
     written = appended piece old.written;
   }
@@ -56,7 +56,7 @@ pub record IsOutputFailed (pieces : List (List ℕ)) (old new : Seen) : Type 0 w
   pub cause : Rose old.output_faults new.output_faults
   pub count : old.output_faults ≤ new.output_faults
   pub bound : new.output_faults < 2 ^ 64
-  pub rest : new ≡ record (noted (OutputFailed pieces) old) {
+  pub rest : new ≡ record (with_event (OutputFailed pieces) old) {
     outputs = new.outputs;
     written = new.written;
     output_faults = new.output_faults;
@@ -64,10 +64,10 @@ pub record IsOutputFailed (pieces : List (List ℕ)) (old new : Seen) : Type 0 w
 
 -- A piece of input was consumed. It is empty only if nothing was left.
 pub record IsInput (piece : List ℕ) (old new : Seen) : Type 0 where
-  pub left : old.left ≡ preceded piece new.left
+  pub left : old.left ≡ prepended piece new.left
   pub end : piece ≡ [] → IsAtEnd old.left
   pub bound : new.input_faults < 2 ^ 64
-  pub rest : new ≡ record (noted (Input piece) old) {
+  pub rest : new ≡ record (with_event (Input piece) old) {
     inputs = old.inputs ++ piece ∷ [];
     left = new.left;
   }
@@ -77,7 +77,7 @@ pub record IsInputFailed (old new : Seen) : Type 0 where
   pub cause : Rose old.input_faults new.input_faults
   pub count : old.input_faults ≤ new.input_faults
   pub bound : new.input_faults < 2 ^ 64
-  pub rest : new ≡ record (noted InputFailed old) { input_faults = new.input_faults }
+  pub rest : new ≡ record (with_event InputFailed old) { input_faults = new.input_faults }
 
 -- what an event did, by its kind
 abbrev pub Happened : Event → Seen → Seen → Type 0

@@ -37,25 +37,25 @@ input_of InputFailed = []
 
 -- what an event adds to the log of the output: the piece or pieces that it put, and nothing if it
 -- is no output
-abbrev pub Takes : Event → List (List ℕ) → List (List ℕ) → Type 0
-Takes (FileRead name answer) old new = new ≡ old
-Takes (FileWrite name content answer) old new = new ≡ old
-Takes (Output piece) old new = new ≡ old ++ piece ∷ []
-Takes (OutputFailed pieces) old new = TakesSome old new pieces
-Takes (Input piece) old new = new ≡ old
-Takes InputFailed old new = new ≡ old
+abbrev pub AddsOutput : Event → List (List ℕ) → List (List ℕ) → Type 0
+AddsOutput (FileRead name answer) old new = new ≡ old
+AddsOutput (FileWrite name content answer) old new = new ≡ old
+AddsOutput (Output piece) old new = new ≡ old ++ piece ∷ []
+AddsOutput (OutputFailed pieces) old new = TakesSome old new pieces
+AddsOutput (Input piece) old new = new ≡ old
+AddsOutput InputFailed old new = new ≡ old
 
 -- The log of the output grew by what `event` put, and then as `rest` says.
-pub record TakesNext (event : Event) (rest : List (List ℕ) → List (List ℕ) → Type 0)
+pub record AddsOutputFirst (event : Event) (rest : List (List ℕ) → List (List ℕ) → Type 0)
     (old new : List (List ℕ)) : Type 0 where
   pub between : List (List ℕ)
-  pub begins : Takes event old between
+  pub begins : AddsOutput event old between
   pub goes_on : rest between new
 
 -- the log of the output grew by what these events put, in order
-unfoldable pub TakesAll : List Event → List (List ℕ) → List (List ℕ) → Type 0
-TakesAll [] old new = new ≡ old
-TakesAll (event ∷ events) old new = TakesNext event (TakesAll events) old new
+unfoldable pub AddsOutputs : List Event → List (List ℕ) → List (List ℕ) → Type 0
+AddsOutputs [] old new = new ≡ old
+AddsOutputs (event ∷ events) old new = AddsOutputFirst event (AddsOutputs events) old new
 
 -- All events were appended, and each object logged its calls among them. The world holds the same
 -- references.
@@ -64,5 +64,5 @@ pub record Logs (events : List Event) (old new : Seen) : Type 0 where
   pub reads : new.reads ≡ old.reads ++ flat_map read_of events
   pub writes : new.writes ≡ old.writes ++ flat_map write_of events
   pub inputs : new.inputs ≡ old.inputs ++ flat_map input_of events
-  pub outputs : TakesAll events old.outputs new.outputs
+  pub outputs : AddsOutputs events old.outputs new.outputs
   pub references : new.references ≡ old.references

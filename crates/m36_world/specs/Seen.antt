@@ -25,5 +25,5 @@ pub record Seen : Type 0 where
   pub references : List ℕ
 
 -- the record with one more event
-abbrev pub noted : Event → Seen → Seen
-noted event seen = record seen { events = seen.events ++ event ∷ [] }
+abbrev pub with_event : Event → Seen → Seen
+with_event event seen = record seen { events = seen.events ++ event ∷ [] }

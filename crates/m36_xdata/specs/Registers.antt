@@ -8,18 +8,18 @@ use Rattle.m36_xdata.specs.declared.registers.Register.{Register}
 use Rattle.m36_xdata.specs.declared.registers.Register.TheVariants as register
 
 -- the register of the definitions
-abbrev pub working : Register → Working
-working register.A = A
-working register.Q = Q
-working register.Aq = AQ
-working (register.X n) = X n
+abbrev pub working_of : Register → Working
+working_of register.A = A
+working_of register.Q = Q
+working_of register.Aq = AQ
+working_of (register.X n) = X n
 
 -- An index register has a number below 8.
-abbrev pub IsRegister : Register → Type 0
-IsRegister register.A = Unit {0}
-IsRegister register.Q = Unit {0}
-IsRegister register.Aq = Unit {0}
-IsRegister (register.X n) = n < 8
+abbrev pub HasValidIndex : Register → Type 0
+HasValidIndex register.A = Unit {0}
+HasValidIndex register.Q = Unit {0}
+HasValidIndex register.Aq = Unit {0}
+HasValidIndex (register.X n) = n < 8
 
 -- the operand has as many words as the register's width requires: a pair for AQ, and otherwise one
 -- word

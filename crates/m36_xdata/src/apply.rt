@@ -1,15 +1,15 @@
 //! Applies a change to the registers.
 
 ghost use Rattle.std.specs.Prelude.{◌≡◌, ◌+◌, ◌%◌, ◌^◌};
-ghost use Rattle.m36_model.specs.Results.{with_indicators, moved_on, words_of_held};
-ghost use Rattle.m36_xdata.specs.Changes.{changed, stored, taken};
+ghost use Rattle.m36_model.specs.Results.{with_indicators, advanced, words_of_held};
+ghost use Rattle.m36_xdata.specs.Changes.{effect_of_change, words_to_write, taken};
 
 use crate::changes::{Change, NewValues, WordsToWrite};
 use m36_model::{Held, Ind, Regs};
 
 /// Stores the new value into its registers.
 #[tactic(auto, unfolding(m36_model::specs::Results::with_value))]
-fn take(new: NewValues, regs: &mut Regs)
+fn set_registers(new: NewValues, regs: &mut Regs)
     ensures { regs.new ≡ taken new regs.old }
 {
     match new {
@@ -25,9 +25,9 @@ fn take(new: NewValues, regs: &mut Regs)
 }
 
 /// Sets the indicators, and advances the instruction counter to the next instruction.
-#[tactic(auto, unfolding(m36_model::specs::Results::moved_on))]
-fn move_on(ind: Ind, regs: &mut Regs)
-    ensures { regs.new ≡ moved_on (with_indicators ind regs.old) }
+#[tactic(auto, unfolding(m36_model::specs::Results::advanced))]
+fn set_indicators_and_advance(ind: Ind, regs: &mut Regs)
+    ensures { regs.new ≡ advanced (with_indicators ind regs.old) }
 {
     let ic = regs.ppr.ic;
     regs.ind = ind;
@@ -36,7 +36,7 @@ fn move_on(ind: Ind, regs: &mut Regs)
 
 // The words to write, in the form of a step.
 fn held(put: WordsToWrite) -> Held
-    ensures { words_of_held result ≡ stored put }
+    ensures { words_of_held result ≡ words_to_write put }
 {
     match put {
         WordsToWrite::Nothing => Held::Empty,
@@ -47,16 +47,16 @@ fn held(put: WordsToWrite) -> Held
 
 /// Applies a change to the registers, and advances the instruction counter. The words to write are
 /// put into `put`; the caller has to write them, and to report overflow if the result is true.
-#[tactic(auto, unfolding(m36_model::specs::Results::moved_on, m36_model::specs::Results::with_value))]
+#[tactic(auto, unfolding(m36_model::specs::Results::advanced, m36_model::specs::Results::with_value))]
 #[inline(always)]
-pub fn applied(c: &Change, regs: &mut Regs, put: &mut Held) -> bool
+pub fn apply_change(c: &Change, regs: &mut Regs, put: &mut Held) -> bool
     ensures value { record { regs = regs.new; put = words_of_held put.new; overflow = result }
-        ≡ changed c.now regs.old }
-    ensures put { words_of_held put.new ≡ stored c.now.put }
+        ≡ effect_of_change c.now regs.old }
+    ensures put { words_of_held put.new ≡ words_to_write c.now.put }
     ensures dbr { regs.new.dbr ≡ regs.old.dbr }
 {
-    take(c.taken, regs);
-    move_on(c.ind, regs);
+    set_registers(c.taken, regs);
+    set_indicators_and_advance(c.ind, regs);
     *put = held(c.put);
     c.overflow
 }

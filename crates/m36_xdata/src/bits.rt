@@ -3,7 +3,7 @@
 ghost use Rattle.std.specs.Prelude.{◌≡◌, ◌*◌, ◌<◌};
 ghost use Rattle.m36_model.specs.Booleans.{and_of, or_of, xor_of, and_not_of};
 ghost use Rattle.m36_model.specs.Results.{half, width};
-ghost use Rattle.m36_xdata.specs.Registers.{working};
+ghost use Rattle.m36_xdata.specs.Registers.{working_of};
 
 use crate::numbers::{pair, word};
 use crate::registers::Register;
@@ -12,11 +12,11 @@ use m36_arith::{
 };
 
 /// The bits that are 1 in both numbers.
-pub fn both(r: Register, x: u128, y: u128) -> u128
-    requires first { x < 2 * half (working r) }
-    requires second { y < 2 * half (working r) }
-    ensures value { result ≡ and_of (width (working r)) x y }
-    ensures bound { result < 2 * half (working r) }
+pub fn and_bits(r: Register, x: u128, y: u128) -> u128
+    requires first { x < 2 * half (working_of r) }
+    requires second { y < 2 * half (working_of r) }
+    ensures value { result ≡ and_of (width (working_of r)) x y }
+    ensures bound { result < 2 * half (working_of r) }
 {
     match r {
         Register::A | Register::Q => and36(word(x), word(y)).value() as u128,
@@ -26,11 +26,11 @@ pub fn both(r: Register, x: u128, y: u128) -> u128
 }
 
 /// The bits that are 1 in either number.
-pub fn either(r: Register, x: u128, y: u128) -> u128
-    requires first { x < 2 * half (working r) }
-    requires second { y < 2 * half (working r) }
-    ensures value { result ≡ or_of (width (working r)) x y }
-    ensures bound { result < 2 * half (working r) }
+pub fn or_bits(r: Register, x: u128, y: u128) -> u128
+    requires first { x < 2 * half (working_of r) }
+    requires second { y < 2 * half (working_of r) }
+    ensures value { result ≡ or_of (width (working_of r)) x y }
+    ensures bound { result < 2 * half (working_of r) }
 {
     match r {
         Register::A | Register::Q => or36(word(x), word(y)).value() as u128,
@@ -40,11 +40,11 @@ pub fn either(r: Register, x: u128, y: u128) -> u128
 }
 
 /// The bits in which the two numbers differ.
-pub fn differing(r: Register, x: u128, y: u128) -> u128
-    requires first { x < 2 * half (working r) }
-    requires second { y < 2 * half (working r) }
-    ensures value { result ≡ xor_of (width (working r)) x y }
-    ensures bound { result < 2 * half (working r) }
+pub fn xor_bits(r: Register, x: u128, y: u128) -> u128
+    requires first { x < 2 * half (working_of r) }
+    requires second { y < 2 * half (working_of r) }
+    ensures value { result ≡ xor_of (width (working_of r)) x y }
+    ensures bound { result < 2 * half (working_of r) }
 {
     match r {
         Register::A | Register::Q => xor36(word(x), word(y)).value() as u128,
@@ -54,11 +54,11 @@ pub fn differing(r: Register, x: u128, y: u128) -> u128
 }
 
 /// The bits that are 1 in the first number and 0 in the second.
-pub fn first_alone(r: Register, x: u128, y: u128) -> u128
-    requires first { x < 2 * half (working r) }
-    requires second { y < 2 * half (working r) }
-    ensures value { result ≡ and_not_of (width (working r)) x y }
-    ensures bound { result < 2 * half (working r) }
+pub fn and_not_bits(r: Register, x: u128, y: u128) -> u128
+    requires first { x < 2 * half (working_of r) }
+    requires second { y < 2 * half (working_of r) }
+    ensures value { result ≡ and_not_of (width (working_of r)) x y }
+    ensures bound { result < 2 * half (working_of r) }
 {
     match r {
         Register::A | Register::Q => and_not36(word(x), word(y)).value() as u128,

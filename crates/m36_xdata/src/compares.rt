@@ -5,29 +5,29 @@ ghost use Rattle.m36_model.specs.OperandHeld.{is_word};
 ghost use Rattle.m36_model.specs.Results.{operand, operand_fields, word};
 ghost use Rattle.m36_model.specs.Compares.{compare, test_and_clear, compare_masked};
 ghost use Rattle.m36_model.specs.Compares.{test_and, test_and_not};
-ghost use Rattle.m36_xdata.specs.Registers.{working, IsRegister, HoldsNumber};
-ghost use Rattle.m36_xdata.specs.Changes.{Gives, stored};
+ghost use Rattle.m36_xdata.specs.Registers.{working_of, HasValidIndex, HoldsNumber};
+ghost use Rattle.m36_xdata.specs.Changes.{IsEffect, words_to_write};
 
-use crate::bits::{both, differing, first_alone};
+use crate::bits::{and_bits, xor_bits, and_not_bits};
 use crate::changes::{Change, NewValues, WordsToWrite};
-use crate::conditions::{compared, zn};
+use crate::conditions::{compared, set_zero_negative};
 use crate::numbers::comparison;
 use crate::operands::operand_number;
 use crate::registers::{Register, indicators, number_in};
-use crate::results::sets;
+use crate::results::indicator_change;
 use m36_model::{Operand36, Regs};
 use m36_word::Word;
 
 /// CMPX: compares the register with the operand.
 #[tactic(auto, unfolding(m36_model::specs::Compares::compare))]
 pub fn compare(r: Register, given: &Operand36, regs: &Regs) -> Change
-    requires register { IsRegister r }
+    requires register { HasValidIndex r }
     requires got { HoldsNumber r given.now.got }
-    ensures value { Gives result regs.now
-        (compare (working r) (operand (working r) (operand_fields given.now)) regs.now) }
-    ensures put { length (stored result.put) ≡ 0 }
+    ensures value { IsEffect result regs.now
+        (compare (working_of r) (operand (working_of r) (operand_fields given.now)) regs.now) }
+    ensures put { length (words_to_write result.put) ≡ 0 }
 {
-    sets(
+    indicator_change(
         compared(
             comparison(r, number_in(r, regs), operand_number(r, given)),
             indicators(regs),
@@ -40,11 +40,11 @@ pub fn compare(r: Register, given: &Operand36, regs: &Regs) -> Change
 #[tactic(auto, unfolding(m36_model::specs::Compares::test_and_clear))]
 pub fn test_and_clear(given: &Operand36, regs: &Regs) -> Change
     requires { IsTrue (is_word given.now.got) }
-    ensures value { Gives result regs.now
+    ensures value { IsEffect result regs.now
         (test_and_clear (word (operand_fields given.now)) regs.now) }
-    ensures put { length (stored result.put) ≡ 1 }
+    ensures put { length (words_to_write result.put) ≡ 1 }
 {
-    let ind = zn(
+    let ind = set_zero_negative(
         Register::A,
         operand_number(Register::A, given),
         indicators(regs),
@@ -62,32 +62,32 @@ pub fn test_and_clear(given: &Operand36, regs: &Regs) -> Change
 #[tactic(auto, unfolding(m36_model::specs::Compares::compare_masked))]
 pub fn compare_masked(given: &Operand36, regs: &Regs) -> Change
     requires { IsTrue (is_word given.now.got) }
-    ensures value { Gives result regs.now
+    ensures value { IsEffect result regs.now
         (compare_masked (word (operand_fields given.now)) regs.now) }
-    ensures put { length (stored result.put) ≡ 0 }
+    ensures put { length (words_to_write result.put) ≡ 0 }
 {
-    let other = differing(
+    let other = xor_bits(
         Register::A,
         number_in(Register::A, regs),
         operand_number(Register::A, given),
     );
-    let seen = first_alone(Register::A, other, number_in(Register::Q, regs));
-    sets(zn(Register::A, seen, indicators(regs)), regs)
+    let seen = and_not_bits(Register::A, other, number_in(Register::Q, regs));
+    indicator_change(set_zero_negative(Register::A, seen, indicators(regs)), regs)
 }
 
 /// CANA, CANQ, CANAQ, CANX: sets zero and negative for register AND operand.
 #[tactic(auto, unfolding(m36_model::specs::Compares::test_and))]
 pub fn test_and(r: Register, given: &Operand36, regs: &Regs) -> Change
-    requires register { IsRegister r }
+    requires register { HasValidIndex r }
     requires got { HoldsNumber r given.now.got }
-    ensures value { Gives result regs.now
-        (test_and (working r) (operand (working r) (operand_fields given.now)) regs.now) }
-    ensures put { length (stored result.put) ≡ 0 }
+    ensures value { IsEffect result regs.now
+        (test_and (working_of r) (operand (working_of r) (operand_fields given.now)) regs.now) }
+    ensures put { length (words_to_write result.put) ≡ 0 }
 {
-    sets(
-        zn(
+    indicator_change(
+        set_zero_negative(
             r,
-            both(r, number_in(r, regs), operand_number(r, given)),
+            and_bits(r, number_in(r, regs), operand_number(r, given)),
             indicators(regs),
         ),
         regs,
@@ -97,16 +97,16 @@ pub fn test_and(r: Register, given: &Operand36, regs: &Regs) -> Change
 /// CNAA, CNAQ, CNAAQ, CNAX: sets zero and negative for register AND NOT operand.
 #[tactic(auto, unfolding(m36_model::specs::Compares::test_and_not))]
 pub fn test_and_not(r: Register, given: &Operand36, regs: &Regs) -> Change
-    requires register { IsRegister r }
+    requires register { HasValidIndex r }
     requires got { HoldsNumber r given.now.got }
-    ensures value { Gives result regs.now
-        (test_and_not (working r) (operand (working r) (operand_fields given.now)) regs.now) }
-    ensures put { length (stored result.put) ≡ 0 }
+    ensures value { IsEffect result regs.now
+        (test_and_not (working_of r) (operand (working_of r) (operand_fields given.now)) regs.now) }
+    ensures put { length (words_to_write result.put) ≡ 0 }
 {
-    sets(
-        zn(
+    indicator_change(
+        set_zero_negative(
             r,
-            first_alone(r, number_in(r, regs), operand_number(r, given)),
+            and_not_bits(r, number_in(r, regs), operand_number(r, given)),
             indicators(regs),
         ),
         regs,

@@ -1,7 +1,7 @@
 //! Dispatch: which function executes which instruction.
 
 ghost use Rattle.std.specs.Prelude.{◌≡◌, ◌<◌, IsTrue, IfOk};
-ghost use Rattle.m36_inst.specs.Groups.{is_data};
+ghost use Rattle.m36_inst.specs.Groups.{is_data_instruction};
 ghost use Rattle.m36_inst.specs.Operands.{operand_of};
 ghost use Rattle.m36_inst.specs.Quick.{group_of};
 ghost use Rattle.m36_inst.specs.declared.rows.Group.TheVariants as group;
@@ -9,18 +9,18 @@ ghost use Rattle.m36_model.specs.Fields.{FinalFields};
 ghost use Rattle.m36_model.specs.OperandHeld.{HoldsFor};
 ghost use Rattle.m36_model.specs.Results.{operand_fields, words_of_held};
 ghost use Rattle.m36_model.specs.Effect.{exec, answer_fields, refused_here};
-ghost use Rattle.m36_xdata.specs.Changes.{Gives, Leaves, stored};
+ghost use Rattle.m36_xdata.specs.Changes.{IsEffect, LeavesEffect, words_to_write};
 ghost use Rattle.m36_xdata.specs.DataInstructions.{is_never_refused};
 ghost use Rattle.m36_model.specs.WordsPut.{PutsFor};
 
-use crate::apply::applied;
+use crate::apply::apply_change;
 use crate::changes::Change;
 use crate::compares::{compare, compare_masked, test_and, test_and_clear, test_and_not};
 use crate::loads::{load_and_clear, load_complement, load_indicators};
 use crate::logic::{and_register, and_storage, or_register, or_storage, xor_register, xor_storage};
 use crate::products::{divide, multiply};
 use crate::registers::Register;
-use crate::stores::{store_indicators, store_where_equal, store_where_zero};
+use crate::stores::{store_indicators, store_if_equal, store_if_zero};
 use crate::sums::{
     add, add_logical, add_low, add_to_storage, add_with_carry, negate, subtract, subtract_logical,
     subtract_stored, subtract_with_carry,
@@ -34,15 +34,15 @@ use m36_model::{Effect36, Fault, Final, Held, Operand36, Regs};
 
 /// The change of an instruction that is not frequent and is never refused.
 #[tactic(auto, unfolding(m36_model::specs::Effect::exec))]
-fn changed_by(row: &Row, regs: &Regs, given: &Operand36) -> Change
-    requires data { IsTrue (is_data row.now.effect) }
+fn change_of_instruction(row: &Row, regs: &Regs, given: &Operand36) -> Change
+    requires data { IsTrue (is_data_instruction row.now.effect) }
     requires rare { group_of row.now.effect ≡ group.Other }
     requires whole { IsTrue (is_never_refused row.now.effect) }
     requires reg { row.now.reg < 8 }
     requires got { HoldsFor (operand_of row.now.effect) given.now.got }
-    ensures value { (f : FinalFields) → Gives result regs.now
+    ensures value { (f : FinalFields) → IsEffect result regs.now
         (exec row.now.effect row.now.reg regs.now f (operand_fields given.now)) }
-    ensures put { PutsFor (operand_of row.now.effect) (stored result.put) }
+    ensures put { PutsFor (operand_of row.now.effect) (words_to_write result.put) }
 {
     match row.effect {
         Effect::Lca => load_complement(Register::A, given, regs),
@@ -98,8 +98,8 @@ fn changed_by(row: &Row, regs: &Regs, given: &Operand36) -> Change
         Effect::AnsxN => and_storage(Register::X(row.reg), given, regs),
         Effect::OrsxN => or_storage(Register::X(row.reg), given, regs),
         Effect::ErsxN => xor_storage(Register::X(row.reg), given, regs),
-        Effect::Stac => store_where_zero(given, regs),
-        Effect::Stacq => store_where_equal(given, regs),
+        Effect::Stac => store_if_zero(given, regs),
+        Effect::Stacq => store_if_equal(given, regs),
         _ => unreachable!(),
     }
 }
@@ -120,10 +120,10 @@ pub fn exec_in_place(
     operand: &Operand36,
     put: &mut Held,
 ) -> Result<bool, Fault>
-    requires data { IsTrue (is_data row.now.effect) }
+    requires data { IsTrue (is_data_instruction row.now.effect) }
     requires reg { row.now.reg < 8 }
     requires got { HoldsFor (operand_of row.now.effect) operand.now.got }
-    ensures value { Leaves regs.old regs.new put.new result
+    ensures value { LeavesEffect regs.old regs.new put.new result
         (refused_here regs.old
         (exec row.now.effect row.now.reg regs.old f.now (operand_fields operand.now))) }
     ensures put { IfOk result (λ o. PutsFor (operand_of row.now.effect) (words_of_held put.new)) }
@@ -200,12 +200,12 @@ pub fn exec_in_place(
             Ok(false)
         }
         Effect::Div => match divide(operand, regs) {
-            Ok(quotient) => Ok(applied(&quotient, regs, put)),
+            Ok(quotient) => Ok(apply_change(&quotient, regs, put)),
             Err(f) => Err(f),
         },
         _ => {
-            let whole = changed_by(row, regs, operand);
-            Ok(applied(&whole, regs, put))
+            let whole = change_of_instruction(row, regs, operand);
+            Ok(apply_change(&whole, regs, put))
         }
     }
 }
@@ -219,7 +219,7 @@ pub fn exec_in_place(
 /// Fault 14, divide check, at the instruction: the divisor of DIV is 0, or its quotient does not
 /// fit.
 pub fn exec(row: &Row, regs: &Regs, f: &Final, operand: Operand36) -> Result<Effect36, Fault>
-    requires data { IsTrue (is_data row.now.effect) }
+    requires data { IsTrue (is_data_instruction row.now.effect) }
     requires reg { row.now.reg < 8 }
     requires got { HoldsFor (operand_of row.now.effect) operand.got }
     ensures value { answer_fields result

@@ -5,32 +5,32 @@ ghost use Rattle.m36_model.specs.OperandHeld.{is_word};
 ghost use Rattle.m36_model.specs.Results.{operand, operand_fields, word};
 ghost use Rattle.m36_model.specs.Loads.{load_complement, load_and_clear, indicators_of};
 ghost use Rattle.m36_model.specs.Loads.{load_indicators};
-ghost use Rattle.m36_xdata.specs.Registers.{working, IsRegister, HoldsNumber};
-ghost use Rattle.m36_xdata.specs.Changes.{Gives, stored};
+ghost use Rattle.m36_xdata.specs.Registers.{working_of, HasValidIndex, HoldsNumber};
+ghost use Rattle.m36_xdata.specs.Changes.{IsEffect, words_to_write};
 
 use crate::changes::{Change, WordsToWrite};
-use crate::conditions::{zn, zn_overflow};
+use crate::conditions::{set_zero_negative, set_zero_negative_overflow};
 use crate::numbers::negation;
 use crate::operands::{operand_number, operand_word};
 use crate::registers::{Register, indicators};
-use crate::results::{new_value, sets, takes};
+use crate::results::{new_value, indicator_change, register_change};
 use m36_model::{Ind, Operand36, Regs};
 use m36_word::{Field, Word};
 
 /// LCA, LCQ, LCAQ, LCX: loads the negative of the operand into the register.
 #[tactic(auto, unfolding(m36_model::specs::Loads::load_complement))]
 pub fn load_complement(r: Register, given: &Operand36, regs: &Regs) -> Change
-    requires register { IsRegister r }
+    requires register { HasValidIndex r }
     requires got { HoldsNumber r given.now.got }
-    ensures value { Gives result regs.now
-        (load_complement (working r) (operand (working r) (operand_fields given.now)) regs.now) }
-    ensures put { length (stored result.put) ≡ 0 }
+    ensures value { IsEffect result regs.now
+        (load_complement (working_of r) (operand (working_of r) (operand_fields given.now)) regs.now) }
+    ensures put { length (words_to_write result.put) ≡ 0 }
 {
     let s = negation(r, operand_number(r, given));
-    takes(
+    register_change(
         r,
         s.value,
-        zn_overflow(s, indicators(regs)),
+        set_zero_negative_overflow(s, indicators(regs)),
         s.overflow,
         regs,
     )
@@ -39,17 +39,17 @@ pub fn load_complement(r: Register, given: &Operand36, regs: &Regs) -> Change
 /// LDAC, LDQC: loads the word into the register, and clears the word.
 #[tactic(auto, unfolding(m36_model::specs::Loads::load_and_clear))]
 pub fn load_and_clear(r: Register, given: &Operand36, regs: &Regs) -> Change
-    requires register { IsRegister r }
+    requires register { HasValidIndex r }
     requires got { HoldsNumber r given.now.got }
-    ensures value { Gives result regs.now
-        (load_and_clear (working r) (operand (working r) (operand_fields given.now)) regs.now) }
-    ensures put { length (stored result.put) ≡ 1 }
+    ensures value { IsEffect result regs.now
+        (load_and_clear (working_of r) (operand (working_of r) (operand_fields given.now)) regs.now) }
+    ensures put { length (words_to_write result.put) ≡ 1 }
 {
     let v = operand_number(r, given);
     Change {
         taken: new_value(r, v, regs),
         put: WordsToWrite::One(Word::ZERO),
-        ind: zn(r, v, indicators(regs)),
+        ind: set_zero_negative(r, v, indicators(regs)),
         overflow: false,
     }
 }
@@ -73,9 +73,9 @@ fn indicators_of(w: Word) -> Ind
 #[tactic(auto, unfolding(m36_model::specs::Loads::load_indicators))]
 pub fn load_indicators(given: &Operand36, regs: &Regs) -> Change
     requires { IsTrue (is_word given.now.got) }
-    ensures value { Gives result regs.now
+    ensures value { IsEffect result regs.now
         (load_indicators (word (operand_fields given.now)) regs.now) }
-    ensures put { length (stored result.put) ≡ 0 }
+    ensures put { length (words_to_write result.put) ≡ 0 }
 {
-    sets(indicators_of(operand_word(given)), regs)
+    indicator_change(indicators_of(operand_word(given)), regs)
 }

@@ -4,7 +4,7 @@ ghost use Rattle.std.specs.Prelude.{◌≡◌, ◌*◌, ◌^◌, ◌<◌};
 ghost use Rattle.m36_word.specs.Pairs.{number_of};
 ghost use Rattle.m36_model.specs.Arithmetic.{sum, difference, negation, comparison};
 ghost use Rattle.m36_model.specs.Results.{half};
-ghost use Rattle.m36_xdata.specs.Registers.{working};
+ghost use Rattle.m36_xdata.specs.Registers.{working_of};
 ghost use Rattle.m36_xdata.specs.Results.{sum_fields};
 
 use crate::registers::Register;
@@ -84,10 +84,10 @@ pub fn of_halves(s: Sum18) -> Computed
 
 /// The sum of two numbers, plus 1 if `carry_in`.
 pub fn sum(r: Register, x: u128, y: u128, carry_in: bool) -> Computed
-    requires first { x < 2 * half (working r) }
-    requires second { y < 2 * half (working r) }
-    ensures value { sum_fields result ≡ sum (half (working r)) x y carry_in }
-    ensures bound { result.value < 2 * half (working r) }
+    requires first { x < 2 * half (working_of r) }
+    requires second { y < 2 * half (working_of r) }
+    ensures value { sum_fields result ≡ sum (half (working_of r)) x y carry_in }
+    ensures bound { result.value < 2 * half (working_of r) }
 {
     match r {
         Register::A | Register::Q => of_words(add36(word(x), word(y), carry_in)),
@@ -98,10 +98,10 @@ pub fn sum(r: Register, x: u128, y: u128, carry_in: bool) -> Computed
 
 /// The first number minus the second, minus 1 if `borrow`.
 pub fn difference(r: Register, x: u128, y: u128, borrow: bool) -> Computed
-    requires first { x < 2 * half (working r) }
-    requires second { y < 2 * half (working r) }
-    ensures value { sum_fields result ≡ difference (half (working r)) x y borrow }
-    ensures bound { result.value < 2 * half (working r) }
+    requires first { x < 2 * half (working_of r) }
+    requires second { y < 2 * half (working_of r) }
+    ensures value { sum_fields result ≡ difference (half (working_of r)) x y borrow }
+    ensures bound { result.value < 2 * half (working_of r) }
 {
     match r {
         Register::A | Register::Q => of_words(sub36(word(x), word(y), borrow)),
@@ -112,9 +112,9 @@ pub fn difference(r: Register, x: u128, y: u128, borrow: bool) -> Computed
 
 /// The negative of a number, in two's complement.
 pub fn negation(r: Register, x: u128) -> Computed
-    requires { x < 2 * half (working r) }
-    ensures value { sum_fields result ≡ negation (half (working r)) x }
-    ensures bound { result.value < 2 * half (working r) }
+    requires { x < 2 * half (working_of r) }
+    ensures value { sum_fields result ≡ negation (half (working_of r)) x }
+    ensures bound { result.value < 2 * half (working_of r) }
 {
     match r {
         Register::A | Register::Q => of_words(neg36(word(x))),
@@ -125,9 +125,9 @@ pub fn negation(r: Register, x: u128) -> Computed
 
 /// Compares two numbers.
 pub fn comparison(r: Register, x: u128, y: u128) -> Compare
-    requires first { x < 2 * half (working r) }
-    requires second { y < 2 * half (working r) }
-    ensures { result ≡ comparison (half (working r)) x y }
+    requires first { x < 2 * half (working_of r) }
+    requires second { y < 2 * half (working_of r) }
+    ensures { result ≡ comparison (half (working_of r)) x y }
 {
     match r {
         Register::A | Register::Q => cmp36(word(x), word(y)),

@@ -3,8 +3,8 @@
 ghost use Rattle.std.specs.Prelude.{◌≡◌, ◌*◌, ◌^◌, ◌<◌, IsTrue};
 ghost use Rattle.m36_model.specs.OperandHeld.{is_word, is_pair};
 ghost use Rattle.m36_model.specs.Results.{operand_fields, half, operand, words, word, pair};
-ghost use Rattle.m36_xdata.specs.Registers.{working, HoldsNumber, PutsNumber};
-ghost use Rattle.m36_xdata.specs.Changes.{stored};
+ghost use Rattle.m36_xdata.specs.Registers.{working_of, HoldsNumber, PutsNumber};
+ghost use Rattle.m36_xdata.specs.Changes.{words_to_write};
 
 use crate::changes::WordsToWrite;
 use crate::numbers;
@@ -21,7 +21,7 @@ pub fn operand_word(given: &Operand36) -> Word
 }
 
 // The pair that was read, as a number of 72 bits.
-fn pair_got(given: &Operand36) -> u128
+fn operand_pair(given: &Operand36) -> u128
     requires { IsTrue (is_pair given.now.got) }
     ensures value { result ≡ pair (operand_fields given.now) }
     ensures bound { result < 2 ^ 72 }
@@ -33,21 +33,21 @@ fn pair_got(given: &Operand36) -> u128
 /// word.
 pub fn operand_number(r: Register, given: &Operand36) -> u128
     requires { HoldsNumber r given.now.got }
-    ensures value { result ≡ operand (working r) (operand_fields given.now) }
-    ensures bound { result < 2 * half (working r) }
+    ensures value { result ≡ operand (working_of r) (operand_fields given.now) }
+    ensures bound { result < 2 * half (working_of r) }
 {
     match r {
         Register::A | Register::Q => operand_word(given).value() as u128,
-        Register::Aq => pair_got(given),
+        Register::Aq => operand_pair(given),
         Register::X(_) => Field::<0, 18>::get(operand_word(given)) as u128,
     }
 }
 
 /// The words to write for a number of a register's width.
 pub fn held(r: Register, v: u128) -> WordsToWrite
-    requires { v < 2 * half (working r) }
-    ensures value { stored result ≡ words (working r) v }
-    ensures put { PutsNumber r (stored result) }
+    requires { v < 2 * half (working_of r) }
+    ensures value { words_to_write result ≡ words (working_of r) v }
+    ensures put { PutsNumber r (words_to_write result) }
 {
     match r {
         Register::A | Register::Q | Register::X(_) => WordsToWrite::One(numbers::word(v)),

@@ -6,13 +6,13 @@ ghost use Rattle.m36_model.specs.Modification.{here};
 ghost use Rattle.m36_model.specs.Results.{operand_fields, word};
 ghost use Rattle.m36_model.specs.Products.{multiply, divide};
 ghost use Rattle.m36_model.specs.Effect.{refused_here};
-ghost use Rattle.m36_xdata.specs.Changes.{Gives, answer_changed, stored};
+ghost use Rattle.m36_xdata.specs.Changes.{IsEffect, effect_or_fault, words_to_write};
 
 use crate::changes::{Change, NewValues, WordsToWrite};
-use crate::conditions::zn;
+use crate::conditions::set_zero_negative;
 use crate::operands::operand_word;
 use crate::registers::{Register, indicators};
-use crate::results::takes_tested;
+use crate::results::tested_register_change;
 use m36_arith::{div, mul};
 use m36_fastpath::quotient;
 use m36_model::{At, Fault, Operand36, Regs};
@@ -22,11 +22,11 @@ use m36_word::Pair;
 #[tactic(auto, unfolding(m36_model::specs::Products::multiply))]
 pub fn multiply(given: &Operand36, regs: &Regs) -> Change
     requires { IsTrue (is_word given.now.got) }
-    ensures value { Gives result regs.now (multiply (word (operand_fields given.now)) regs.now) }
-    ensures put { length (stored result.put) ≡ 0 }
+    ensures value { IsEffect result regs.now (multiply (word (operand_fields given.now)) regs.now) }
+    ensures put { length (words_to_write result.put) ≡ 0 }
 {
     let product = mul(quotient(regs), operand_word(given));
-    takes_tested(Register::Aq, product.value(), regs)
+    tested_register_change(Register::Aq, product.value(), regs)
 }
 
 // The address of the instruction, in the ring of execution.
@@ -49,13 +49,13 @@ fn here(regs: &Regs) -> At
 #[tactic(auto, unfolding(m36_model::specs::Products::divide, m36_model::specs::Results::with_value))]
 pub fn divide(given: &Operand36, regs: &Regs) -> Result<Change, Fault>
     requires { IsTrue (is_word given.now.got) }
-    ensures value { answer_changed result regs.now
+    ensures value { effect_or_fault result regs.now
         ≡ refused_here regs.now (divide (word (operand_fields given.now)) regs.now) }
-    ensures put { IfOk result (λ e. length (stored e.put) ≡ 0) }
+    ensures put { IfOk result (λ e. length (words_to_write e.put) ≡ 0) }
 {
     match div(quotient(regs), operand_word(given)) {
         Ok((q, remainder)) => {
-            let ind = zn(Register::Q, q.value() as u128, indicators(regs));
+            let ind = set_zero_negative(Register::Q, q.value() as u128, indicators(regs));
             Ok(Change {
                 taken: NewValues::Aq(Pair {
                     even: remainder,

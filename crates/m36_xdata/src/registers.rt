@@ -2,7 +2,7 @@
 
 ghost use Rattle.std.specs.Prelude.{◌≡◌, ◌*◌, ◌^◌, ◌<◌};
 ghost use Rattle.m36_model.specs.Results.{half, value};
-ghost use Rattle.m36_xdata.specs.Registers.{working, IsRegister};
+ghost use Rattle.m36_xdata.specs.Registers.{working_of, HasValidIndex};
 
 use m36_fastpath::pair;
 use m36_model::{Ind, Regs};
@@ -27,9 +27,9 @@ pub fn indicators(regs: &Regs) -> Ind
 
 /// The value of a register as a number.
 pub fn number_in(r: Register, regs: &Regs) -> u128
-    requires { IsRegister r }
-    ensures value { result ≡ value (working r) regs.now }
-    ensures bound { result < 2 * half (working r) }
+    requires { HasValidIndex r }
+    ensures value { result ≡ value (working_of r) regs.now }
+    ensures bound { result < 2 * half (working_of r) }
 {
     match r {
         Register::A => regs.a.value() as u128,
@@ -42,7 +42,7 @@ pub fn number_in(r: Register, regs: &Regs) -> u128
 /// Half of the range of a register's numbers: 2^35, 2^71 or 2^17. Numbers from there on are
 /// negative.
 pub fn half_of(r: Register) -> u128
-    ensures { result ≡ half (working r) }
+    ensures { result ≡ half (working_of r) }
 {
     match r {
         Register::A | Register::Q => 1 << 35,

@@ -5,9 +5,9 @@ ghost use Rattle.m36_word.specs.Bits.{of_bit};
 ghost use Rattle.m36_model.specs.OperandHeld.{is_word};
 ghost use Rattle.m36_model.specs.Results.{operand_fields, word};
 ghost use Rattle.m36_model.specs.Stores.{indicators_half, store_indicators};
-ghost use Rattle.m36_model.specs.Stores.{store_where_zero, store_where_equal};
+ghost use Rattle.m36_model.specs.Stores.{store_if_zero, store_if_equal};
 ghost use Rattle.m36_model.specs.WordsPut.{IsHalf};
-ghost use Rattle.m36_xdata.specs.Changes.{Gives, stored};
+ghost use Rattle.m36_xdata.specs.Changes.{IsEffect, words_to_write};
 
 use crate::changes::{Change, NewValues, WordsToWrite};
 use crate::conditions::with_zero;
@@ -44,8 +44,8 @@ fn indicators_half(ind: Ind) -> Word
 /// STI: writes the indicators into bits 18 to 35 of the word.
 #[tactic(auto, unfolding(m36_model::specs::Stores::store_indicators))]
 pub fn store_indicators(regs: &Regs) -> Change
-    ensures value { Gives result regs.now (store_indicators regs.now) }
-    ensures put { IsHalf (stored result.put) }
+    ensures value { IsEffect result regs.now (store_indicators regs.now) }
+    ensures put { IsHalf (words_to_write result.put) }
 {
     Change {
         taken: NewValues::Nothing,
@@ -63,25 +63,25 @@ fn are_equal(first: Word, second: Word) -> bool
 }
 
 // `a` if `first` is on, and otherwise `b`.
-fn chosen(first: bool, a: Word, b: Word) -> Word
+fn select(first: bool, a: Word, b: Word) -> Word
     ensures { result ≡ (if first then a else b) }
 {
     if first { a } else { b }
 }
 
 /// STAC: stores A if the word is 0, and otherwise leaves the word. Zero says whether A was stored.
-#[tactic(auto, unfolding(m36_model::specs::Stores::store_where_zero))]
-pub fn store_where_zero(given: &Operand36, regs: &Regs) -> Change
+#[tactic(auto, unfolding(m36_model::specs::Stores::store_if_zero))]
+pub fn store_if_zero(given: &Operand36, regs: &Regs) -> Change
     requires { IsTrue (is_word given.now.got) }
-    ensures value { Gives result regs.now
-        (store_where_zero (word (operand_fields given.now)) regs.now) }
-    ensures put { length (stored result.put) ≡ 1 }
+    ensures value { IsEffect result regs.now
+        (store_if_zero (word (operand_fields given.now)) regs.now) }
+    ensures put { length (words_to_write result.put) ≡ 1 }
 {
     let old = operand_word(given);
     let free = are_equal(old, Word::ZERO);
     Change {
         taken: NewValues::Nothing,
-        put: WordsToWrite::One(chosen(free, accumulator(regs), old)),
+        put: WordsToWrite::One(select(free, accumulator(regs), old)),
         ind: with_zero(free, indicators(regs)),
         overflow: false,
     }
@@ -89,18 +89,18 @@ pub fn store_where_zero(given: &Operand36, regs: &Regs) -> Change
 
 /// STACQ: stores A if the word equals Q, and otherwise leaves the word. Zero says whether A was
 /// stored.
-#[tactic(auto, unfolding(m36_model::specs::Stores::store_where_equal))]
-pub fn store_where_equal(given: &Operand36, regs: &Regs) -> Change
+#[tactic(auto, unfolding(m36_model::specs::Stores::store_if_equal))]
+pub fn store_if_equal(given: &Operand36, regs: &Regs) -> Change
     requires { IsTrue (is_word given.now.got) }
-    ensures value { Gives result regs.now
-        (store_where_equal (word (operand_fields given.now)) regs.now) }
-    ensures put { length (stored result.put) ≡ 1 }
+    ensures value { IsEffect result regs.now
+        (store_if_equal (word (operand_fields given.now)) regs.now) }
+    ensures put { length (words_to_write result.put) ≡ 1 }
 {
     let old = operand_word(given);
     let equal = are_equal(old, quotient(regs));
     Change {
         taken: NewValues::Nothing,
-        put: WordsToWrite::One(chosen(equal, accumulator(regs), old)),
+        put: WordsToWrite::One(select(equal, accumulator(regs), old)),
         ind: with_zero(equal, indicators(regs)),
         overflow: false,
     }

@@ -7,16 +7,16 @@ ghost use Rattle.m36_model.specs.Sums.{into_register, into_register_logical, int
 ghost use Rattle.m36_model.specs.Sums.{add_logical, add_with_carry, sign_extended, subtract};
 ghost use Rattle.m36_model.specs.Sums.{subtract_logical, subtract_with_carry};
 ghost use Rattle.m36_model.specs.Sums.{add_to_storage, subtract_stored, negate};
-ghost use Rattle.m36_xdata.specs.Registers.{working, IsRegister, HoldsNumber, PutsNumber};
+ghost use Rattle.m36_xdata.specs.Registers.{working_of, HasValidIndex, HoldsNumber, PutsNumber};
 ghost use Rattle.m36_xdata.specs.Results.{sum_fields};
-ghost use Rattle.m36_xdata.specs.Changes.{Gives, stored};
+ghost use Rattle.m36_xdata.specs.Changes.{IsEffect, words_to_write};
 
 use crate::changes::Change;
-use crate::conditions::{zn_carry, zn_carry_overflow, zn_overflow};
+use crate::conditions::{set_zero_negative_carry, set_zero_negative_carry_overflow, set_zero_negative_overflow};
 use crate::numbers::{Computed, difference, negation, sum};
 use crate::operands::{operand_number, operand_word};
 use crate::registers::{Register, indicators, number_in};
-use crate::results::{puts, takes};
+use crate::results::{operand_change, register_change};
 use m36_model::{Operand36, Regs};
 use m36_word::Word;
 
@@ -30,15 +30,15 @@ fn carry(regs: &Regs) -> bool
 // A register takes a result; zero, negative, carry and overflow are set, and overflow is reported.
 #[tactic(auto, unfolding(m36_model::specs::Sums::into_register))]
 fn into_register(r: Register, s: Computed, regs: &Regs) -> Change
-    requires register { IsRegister r }
-    requires number { s.value < 2 * half (working r) }
-    ensures value { Gives result regs.now (into_register (working r) (sum_fields s) regs.now) }
-    ensures put { length (stored result.put) ≡ 0 }
+    requires register { HasValidIndex r }
+    requires number { s.value < 2 * half (working_of r) }
+    ensures value { IsEffect result regs.now (into_register (working_of r) (sum_fields s) regs.now) }
+    ensures put { length (words_to_write result.put) ≡ 0 }
 {
-    takes(
+    register_change(
         r,
         s.value,
-        zn_carry_overflow(s, indicators(regs)),
+        set_zero_negative_carry_overflow(s, indicators(regs)),
         s.overflow,
         regs,
     )
@@ -47,26 +47,26 @@ fn into_register(r: Register, s: Computed, regs: &Regs) -> Change
 // A register takes a result; zero, negative and carry are set, and overflow is ignored.
 #[tactic(auto, unfolding(m36_model::specs::Sums::into_register_logical))]
 fn into_register_logical(r: Register, s: Computed, regs: &Regs) -> Change
-    requires register { IsRegister r }
-    requires number { s.value < 2 * half (working r) }
-    ensures value { Gives result regs.now
-        (into_register_logical (working r) (sum_fields s) regs.now) }
-    ensures put { length (stored result.put) ≡ 0 }
+    requires register { HasValidIndex r }
+    requires number { s.value < 2 * half (working_of r) }
+    ensures value { IsEffect result regs.now
+        (into_register_logical (working_of r) (sum_fields s) regs.now) }
+    ensures put { length (words_to_write result.put) ≡ 0 }
 {
-    takes(r, s.value, zn_carry(s, indicators(regs)), false, regs)
+    register_change(r, s.value, set_zero_negative_carry(s, indicators(regs)), false, regs)
 }
 
 // As `into_register`, but the result is written into the operand.
 #[tactic(auto, unfolding(m36_model::specs::Sums::into_operand))]
 fn into_operand(r: Register, s: Computed, regs: &Regs) -> Change
-    requires { s.value < 2 * half (working r) }
-    ensures value { Gives result regs.now (into_operand (working r) (sum_fields s) regs.now) }
-    ensures put { PutsNumber r (stored result.put) }
+    requires { s.value < 2 * half (working_of r) }
+    ensures value { IsEffect result regs.now (into_operand (working_of r) (sum_fields s) regs.now) }
+    ensures put { PutsNumber r (words_to_write result.put) }
 {
-    puts(
+    operand_change(
         r,
         s.value,
-        zn_carry_overflow(s, indicators(regs)),
+        set_zero_negative_carry_overflow(s, indicators(regs)),
         s.overflow,
         regs,
     )
@@ -75,21 +75,21 @@ fn into_operand(r: Register, s: Computed, regs: &Regs) -> Change
 // Register plus this number, into the register.
 #[tactic(auto, unfolding(m36_model::specs::Sums::add))]
 fn add_number(r: Register, v: u128, regs: &Regs) -> Change
-    requires register { IsRegister r }
-    requires number { v < 2 * half (working r) }
-    ensures value { Gives result regs.now (add (working r) v regs.now) }
-    ensures put { length (stored result.put) ≡ 0 }
+    requires register { HasValidIndex r }
+    requires number { v < 2 * half (working_of r) }
+    ensures value { IsEffect result regs.now (add (working_of r) v regs.now) }
+    ensures put { length (words_to_write result.put) ≡ 0 }
 {
     into_register(r, sum(r, number_in(r, regs), v, false), regs)
 }
 
 /// ADX: register plus operand, into the register.
 pub fn add(r: Register, given: &Operand36, regs: &Regs) -> Change
-    requires register { IsRegister r }
+    requires register { HasValidIndex r }
     requires got { HoldsNumber r given.now.got }
-    ensures value { Gives result regs.now
-        (add (working r) (operand (working r) (operand_fields given.now)) regs.now) }
-    ensures put { length (stored result.put) ≡ 0 }
+    ensures value { IsEffect result regs.now
+        (add (working_of r) (operand (working_of r) (operand_fields given.now)) regs.now) }
+    ensures put { length (words_to_write result.put) ≡ 0 }
 {
     add_number(r, operand_number(r, given), regs)
 }
@@ -111,9 +111,9 @@ fn sign_extended(w: Word) -> u128
 /// ADL: AQ plus the word with its sign extended, into AQ.
 pub fn add_low(given: &Operand36, regs: &Regs) -> Change
     requires { IsTrue (is_word given.now.got) }
-    ensures value { Gives result regs.now
+    ensures value { IsEffect result regs.now
         (add AQ (sign_extended (word (operand_fields given.now))) regs.now) }
-    ensures put { length (stored result.put) ≡ 0 }
+    ensures put { length (words_to_write result.put) ≡ 0 }
 {
     add_number(Register::Aq, sign_extended(operand_word(given)), regs)
 }
@@ -121,11 +121,11 @@ pub fn add_low(given: &Operand36, regs: &Regs) -> Change
 /// ADLA, ADLQ, ADLAQ, ADLX: register plus operand, into the register, without overflow.
 #[tactic(auto, unfolding(m36_model::specs::Sums::add_logical))]
 pub fn add_logical(r: Register, given: &Operand36, regs: &Regs) -> Change
-    requires register { IsRegister r }
+    requires register { HasValidIndex r }
     requires got { HoldsNumber r given.now.got }
-    ensures value { Gives result regs.now
-        (add_logical (working r) (operand (working r) (operand_fields given.now)) regs.now) }
-    ensures put { length (stored result.put) ≡ 0 }
+    ensures value { IsEffect result regs.now
+        (add_logical (working_of r) (operand (working_of r) (operand_fields given.now)) regs.now) }
+    ensures put { length (words_to_write result.put) ≡ 0 }
 {
     into_register_logical(
         r,
@@ -137,11 +137,11 @@ pub fn add_logical(r: Register, given: &Operand36, regs: &Regs) -> Change
 /// AWCA, AWCQ: register plus operand, plus 1 if carry is on, into the register.
 #[tactic(auto, unfolding(m36_model::specs::Sums::add_with_carry))]
 pub fn add_with_carry(r: Register, given: &Operand36, regs: &Regs) -> Change
-    requires register { IsRegister r }
+    requires register { HasValidIndex r }
     requires got { HoldsNumber r given.now.got }
-    ensures value { Gives result regs.now
-        (add_with_carry (working r) (operand (working r) (operand_fields given.now)) regs.now) }
-    ensures put { length (stored result.put) ≡ 0 }
+    ensures value { IsEffect result regs.now
+        (add_with_carry (working_of r) (operand (working_of r) (operand_fields given.now)) regs.now) }
+    ensures put { length (words_to_write result.put) ≡ 0 }
 {
     into_register(
         r,
@@ -153,11 +153,11 @@ pub fn add_with_carry(r: Register, given: &Operand36, regs: &Regs) -> Change
 /// SBX: register minus operand, into the register.
 #[tactic(auto, unfolding(m36_model::specs::Sums::subtract))]
 pub fn subtract(r: Register, given: &Operand36, regs: &Regs) -> Change
-    requires register { IsRegister r }
+    requires register { HasValidIndex r }
     requires got { HoldsNumber r given.now.got }
-    ensures value { Gives result regs.now
-        (subtract (working r) (operand (working r) (operand_fields given.now)) regs.now) }
-    ensures put { length (stored result.put) ≡ 0 }
+    ensures value { IsEffect result regs.now
+        (subtract (working_of r) (operand (working_of r) (operand_fields given.now)) regs.now) }
+    ensures put { length (words_to_write result.put) ≡ 0 }
 {
     into_register(
         r,
@@ -169,11 +169,11 @@ pub fn subtract(r: Register, given: &Operand36, regs: &Regs) -> Change
 /// SBLA, SBLQ, SBLAQ, SBLX: register minus operand, into the register, without overflow.
 #[tactic(auto, unfolding(m36_model::specs::Sums::subtract_logical))]
 pub fn subtract_logical(r: Register, given: &Operand36, regs: &Regs) -> Change
-    requires register { IsRegister r }
+    requires register { HasValidIndex r }
     requires got { HoldsNumber r given.now.got }
-    ensures value { Gives result regs.now
-        (subtract_logical (working r) (operand (working r) (operand_fields given.now)) regs.now) }
-    ensures put { length (stored result.put) ≡ 0 }
+    ensures value { IsEffect result regs.now
+        (subtract_logical (working_of r) (operand (working_of r) (operand_fields given.now)) regs.now) }
+    ensures put { length (words_to_write result.put) ≡ 0 }
 {
     into_register_logical(
         r,
@@ -185,12 +185,12 @@ pub fn subtract_logical(r: Register, given: &Operand36, regs: &Regs) -> Change
 /// SWCA, SWCQ: register minus operand, minus 1 if carry is off, into the register.
 #[tactic(auto, unfolding(m36_model::specs::Sums::subtract_with_carry))]
 pub fn subtract_with_carry(r: Register, given: &Operand36, regs: &Regs) -> Change
-    requires register { IsRegister r }
+    requires register { HasValidIndex r }
     requires got { HoldsNumber r given.now.got }
-    ensures value { Gives result regs.now
-        (subtract_with_carry (working r) (operand (working r) (operand_fields given.now))
+    ensures value { IsEffect result regs.now
+        (subtract_with_carry (working_of r) (operand (working_of r) (operand_fields given.now))
         regs.now) }
-    ensures put { length (stored result.put) ≡ 0 }
+    ensures put { length (words_to_write result.put) ≡ 0 }
 {
     into_register(
         r,
@@ -207,11 +207,11 @@ pub fn subtract_with_carry(r: Register, given: &Operand36, regs: &Regs) -> Chang
 /// ASX: register plus operand, into the operand.
 #[tactic(auto, unfolding(m36_model::specs::Sums::add_to_storage))]
 pub fn add_to_storage(r: Register, given: &Operand36, regs: &Regs) -> Change
-    requires register { IsRegister r }
+    requires register { HasValidIndex r }
     requires got { HoldsNumber r given.now.got }
-    ensures value { Gives result regs.now
-        (add_to_storage (working r) (operand (working r) (operand_fields given.now)) regs.now) }
-    ensures put { PutsNumber r (stored result.put) }
+    ensures value { IsEffect result regs.now
+        (add_to_storage (working_of r) (operand (working_of r) (operand_fields given.now)) regs.now) }
+    ensures put { PutsNumber r (words_to_write result.put) }
 {
     into_operand(
         r,
@@ -223,11 +223,11 @@ pub fn add_to_storage(r: Register, given: &Operand36, regs: &Regs) -> Change
 /// SSA, SSQ, SSX: register minus operand, into the operand.
 #[tactic(auto, unfolding(m36_model::specs::Sums::subtract_stored))]
 pub fn subtract_stored(r: Register, given: &Operand36, regs: &Regs) -> Change
-    requires register { IsRegister r }
+    requires register { HasValidIndex r }
     requires got { HoldsNumber r given.now.got }
-    ensures value { Gives result regs.now
-        (subtract_stored (working r) (operand (working r) (operand_fields given.now)) regs.now) }
-    ensures put { PutsNumber r (stored result.put) }
+    ensures value { IsEffect result regs.now
+        (subtract_stored (working_of r) (operand (working_of r) (operand_fields given.now)) regs.now) }
+    ensures put { PutsNumber r (words_to_write result.put) }
 {
     into_operand(
         r,
@@ -239,15 +239,15 @@ pub fn subtract_stored(r: Register, given: &Operand36, regs: &Regs) -> Change
 /// NEG, NEGL: the negative of the register, into the register.
 #[tactic(auto, unfolding(m36_model::specs::Sums::negate))]
 pub fn negate(r: Register, regs: &Regs) -> Change
-    requires { IsRegister r }
-    ensures value { Gives result regs.now (negate (working r) regs.now) }
-    ensures put { length (stored result.put) ≡ 0 }
+    requires { HasValidIndex r }
+    ensures value { IsEffect result regs.now (negate (working_of r) regs.now) }
+    ensures put { length (words_to_write result.put) ≡ 0 }
 {
     let s = negation(r, number_in(r, regs));
-    takes(
+    register_change(
         r,
         s.value,
-        zn_overflow(s, indicators(regs)),
+        set_zero_negative_overflow(s, indicators(regs)),
         s.overflow,
         regs,
     )

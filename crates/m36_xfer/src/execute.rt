@@ -1,7 +1,7 @@
 //! Dispatch: which function executes which instruction.
 
 ghost use Rattle.std.specs.Prelude.{◌≡◌, ◌<◌, IsTrue, IfOk};
-ghost use Rattle.m36_inst.specs.Groups.{is_control};
+ghost use Rattle.m36_inst.specs.Groups.{is_control_instruction};
 ghost use Rattle.m36_inst.specs.Operands.{operand_of};
 ghost use Rattle.m36_model.specs.OperandHeld.{HoldsFor};
 ghost use Rattle.m36_model.specs.Results.{operand_fields, words_of_held};
@@ -12,7 +12,7 @@ use crate::calls::{call, return_to};
 use crate::privileged::{load_absolute_address, load_dbr, store_dbr};
 use crate::transfers::{
     is_taken, transfer_and_set_index, transfer_and_set_pointer, transfer_on_overflow,
-    transfer_where,
+    transfer_if,
 };
 use m36_inst::{Effect, Row};
 use m36_model::{Effect36, Fault, Final, Operand36, Regs};
@@ -21,7 +21,7 @@ use m36_model::{Effect36, Fault, Final, Operand36, Regs};
 /// operand: the new registers and the words to write. The operand has the words that the
 /// instruction reads. No control instruction refuses its operand.
 pub fn exec(row: &Row, regs: &Regs, f: &Final, operand: Operand36) -> Result<Effect36, Fault>
-    requires control { IsTrue (is_control row.now.effect) }
+    requires control { IsTrue (is_control_instruction row.now.effect) }
     requires reg { row.now.reg < 8 }
     requires got { HoldsFor (operand_of row.now.effect) operand.got }
     ensures value { answer_fields result
@@ -35,7 +35,7 @@ pub fn exec(row: &Row, regs: &Regs, f: &Final, operand: Operand36) -> Result<Eff
 /// One function for each effect.
 #[tactic(auto, unfolding(m36_model::specs::Effect::exec))]
 fn dispatch(row: &Row, regs: &Regs, f: &Final, operand: Operand36) -> Result<Effect36, Fault>
-    requires control { IsTrue (is_control row.now.effect) }
+    requires control { IsTrue (is_control_instruction row.now.effect) }
     requires reg { row.now.reg < 8 }
     requires got { HoldsFor (operand_of row.now.effect) operand.got }
     ensures { answer_fields result
@@ -52,7 +52,7 @@ fn dispatch(row: &Row, regs: &Regs, f: &Final, operand: Operand36) -> Result<Eff
         | Effect::Tnc
         | Effect::Tmoz
         | Effect::Tpnz
-        | Effect::Ttf => Ok(transfer_where(is_taken(row.effect, regs), regs, f)),
+        | Effect::Ttf => Ok(transfer_if(is_taken(row.effect, regs), regs, f)),
         Effect::Tov => Ok(transfer_on_overflow(is_taken(row.effect, regs), regs, f)),
         Effect::TsxN => Ok(transfer_and_set_index(regs, row.reg, f)),
         Effect::TspN => Ok(transfer_and_set_pointer(regs, row.reg, f)),

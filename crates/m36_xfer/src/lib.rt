@@ -13,7 +13,7 @@
 //!   core into A. CAMS and CAMP have no visible effect.
 //!
 //! [`exec`] gives exactly the effect that the instruction's equations define. [`transfer`],
-//! [`enter`] (CALL6) and [`leave`] (RTCD) execute the most frequent instructions directly in the
+//! [`call_in_place`] (CALL6) and [`return_in_place`] (RTCD) execute the most frequent instructions directly in the
 //! registers.
 //!
 //! Source: Multics Processor Manual AL39, "Transfer of control instructions", "Call (using PR6 and
@@ -29,5 +29,5 @@ mod transfers;
 
 pub use execute::exec;
 pub use privileged::is_absa;
-pub use rings::{enter, leave};
+pub use rings::{call_in_place, return_in_place};
 pub use transfers::{is_taken, is_transfer, transfer};

@@ -39,7 +39,7 @@ pub fn store_dbr(regs: &Regs) -> Effect36
 }
 
 /// ABSA: loads a core address into the first 24 bits of A.
-#[tactic(auto, unfolding(m36_model::specs::Privileged::load_absolute_address, m36_model::specs::Results::with_value, m36_model::specs::Results::zn))]
+#[tactic(auto, unfolding(m36_model::specs::Privileged::load_absolute_address, m36_model::specs::Results::with_value, m36_model::specs::Results::set_zero_negative))]
 pub fn load_absolute_address(regs: &Regs, operand: &Operand36) -> Effect36
     ensures { Ok (effect_fields result)
         ≡ load_absolute_address (operand_fields operand.now) regs.now }

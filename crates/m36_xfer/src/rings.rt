@@ -4,7 +4,7 @@ ghost use Rattle.std.specs.Prelude.{ℕ, ◌≡◌, ◌<◌, ◌^◌};
 ghost use Rattle.m36_inst.specs.declared.effect.Effect.TheVariants as effect;
 ghost use Rattle.m36_word.specs.Pairs.{pair_words};
 ghost use Rattle.m36_model.specs.Effect.{exec};
-ghost use Rattle.m36_model.specs.Results.{ring_only, words_in_ring, leaves};
+ghost use Rattle.m36_model.specs.Results.{ring_only, words_in_ring, yields_registers};
 
 use crate::calls::{all_in_ring, greatest_ring, stack_pointer};
 use m36_desc::Its;
@@ -15,10 +15,10 @@ use m36_word::Pair;
 /// that ring.
 #[inline(always)]
 #[tactic(auto, unfolding(m36_model::specs::Effect::exec, m36_model::specs::CallReturn::call, m36_model::specs::Pointers::with_pr))]
-pub fn enter(regs: &mut Regs, f: &Final, ring: u8)
+pub fn call_in_place(regs: &mut Regs, f: &Final, ring: u8)
     requires { ring < 2 ^ 3 }
     ensures value { (n : ℕ)
-        → leaves regs.new
+        → yields_registers regs.new
         ≡ exec effect.Call6 n regs.old f.now (ring_only ring) }
     ensures dbr { regs.new.dbr ≡ regs.old.dbr }
 {
@@ -33,10 +33,10 @@ pub fn enter(regs: &mut Regs, f: &Final, ring: u8)
 /// new ring. `segment_ring` is the first ring bracket of the pair's segment.
 #[inline(always)]
 #[tactic(auto, unfolding(m36_model::specs::Effect::exec, m36_model::specs::CallReturn::return_to))]
-pub fn leave(regs: &mut Regs, f: &Final, pair: Pair, segment_ring: u8)
+pub fn return_in_place(regs: &mut Regs, f: &Final, pair: Pair, segment_ring: u8)
     requires { segment_ring < 2 ^ 3 }
     ensures value { (n : ℕ)
-        → leaves regs.new
+        → yields_registers regs.new
         ≡ exec effect.Rtcd n regs.old f.now (words_in_ring (pair_words pair) segment_ring) }
     ensures dbr { regs.new.dbr ≡ regs.old.dbr }
 {

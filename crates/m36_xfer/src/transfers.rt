@@ -4,8 +4,8 @@ ghost use Rattle.std.specs.Prelude.{ℕ, ◌≡◌, ◌+◌, ◌%◌, ◌<◌, �
 ghost use Rattle.m36_inst.specs.Operands.{operand_of};
 ghost use Rattle.m36_inst.specs.declared.operand.Operand.TheVariants.{T};
 ghost use Rattle.m36_model.specs.Effect.{exec};
-ghost use Rattle.m36_model.specs.Results.{OperandFields, effect_fields, leaves};
-ghost use Rattle.m36_model.specs.Transfers.{is_taken, gone_to, goes_to, transfer_where};
+ghost use Rattle.m36_model.specs.Results.{OperandFields, effect_fields, yields_registers};
+ghost use Rattle.m36_model.specs.Transfers.{is_taken, registers_after_transfer, transfer_to, transfer_if};
 ghost use Rattle.m36_model.specs.Transfers.{transfer_on_overflow, transfer_and_set_index};
 ghost use Rattle.m36_model.specs.Transfers.{transfer_and_set_pointer, without_overflow};
 ghost use Rattle.m36_model.specs.Results.{next_word};
@@ -60,10 +60,10 @@ pub fn is_transfer(effect: Effect) -> bool
 }
 
 /// Transfers to the final address, or continues with the next instruction.
-#[tactic(auto, unfolding(m36_model::specs::Transfers::transfer_where, m36_model::specs::Transfers::gone_to, m36_model::specs::Results::moved_on))]
+#[tactic(auto, unfolding(m36_model::specs::Transfers::transfer_if, m36_model::specs::Transfers::registers_after_transfer, m36_model::specs::Results::advanced))]
 #[inline(always)]
-fn go(taken: bool, regs: &mut Regs, f: &Final)
-    ensures value { transfer_where taken f.now regs.old ≡ leaves regs.new }
+fn transfer_or_continue(taken: bool, regs: &mut Regs, f: &Final)
+    ensures value { transfer_if taken f.now regs.old ≡ yields_registers regs.new }
     ensures dbr { regs.new.dbr ≡ regs.old.dbr }
 {
     if taken {
@@ -83,7 +83,7 @@ pub fn transfer(effect: Effect, taken: bool, regs: &mut Regs, f: &Final)
     requires transfer { IsTrue (is_transfer effect) }
     requires taken { taken ≡ is_taken effect regs.old }
     ensures value { (n : ℕ) (o : OperandFields)
-        → exec effect n regs.old f.now o ≡ leaves regs.new }
+        → exec effect n regs.old f.now o ≡ yields_registers regs.new }
     ensures kind { operand_of effect ≡ T }
     ensures dbr { regs.new.dbr ≡ regs.old.dbr }
 {
@@ -97,19 +97,19 @@ pub fn transfer(effect: Effect, taken: bool, regs: &mut Regs, f: &Final)
         | Effect::Tnc
         | Effect::Tmoz
         | Effect::Tpnz
-        | Effect::Ttf => go(taken, regs, f),
+        | Effect::Ttf => transfer_or_continue(taken, regs, f),
         _ => unreachable!(),
     }
 }
 
 /// The effect of TRA or of a conditional transfer other than TOV. If the transfer is not taken, the
 /// next instruction follows.
-#[tactic(auto, unfolding(m36_model::specs::Transfers::transfer_where))]
-pub fn transfer_where(taken: bool, regs: &Regs, f: &Final) -> Effect36
-    ensures { Ok (effect_fields result) ≡ transfer_where taken f.now regs.now }
+#[tactic(auto, unfolding(m36_model::specs::Transfers::transfer_if))]
+pub fn transfer_if(taken: bool, regs: &Regs, f: &Final) -> Effect36
+    ensures { Ok (effect_fields result) ≡ transfer_if taken f.now regs.now }
 {
     if taken {
-        goes_to(regs, f)
+        transfer_to(regs, f)
     } else {
         Effect36::completed(*regs)
     }
@@ -121,7 +121,7 @@ pub fn transfer_on_overflow(taken: bool, regs: &Regs, f: &Final) -> Effect36
     ensures { Ok (effect_fields result) ≡ transfer_on_overflow taken f.now regs.now }
 {
     if taken {
-        goes_to(&without_overflow(regs), f)
+        transfer_to(&without_overflow(regs), f)
     } else {
         Effect36::completed(*regs)
     }
@@ -133,7 +133,7 @@ pub fn transfer_and_set_index(regs: &Regs, n: u8, f: &Final) -> Effect36
     requires { n < 8 }
     ensures { Ok (effect_fields result) ≡ transfer_and_set_index n f.now regs.now }
 {
-    goes_to(&regs.with_index(n, next_word(regs)), f)
+    transfer_to(&regs.with_index(n, next_word(regs)), f)
 }
 
 /// TSP: loads a pointer to the next instruction into pointer register `n`, and transfers.
@@ -149,13 +149,13 @@ pub fn transfer_and_set_pointer(regs: &Regs, n: u8, f: &Final) -> Effect36
         ring: ppr.prr,
         bit: 0,
     };
-    goes_to(&regs.with_pointer(n, next), f)
+    transfer_to(&regs.with_pointer(n, next), f)
 }
 
 /// The effect of a transfer to the final address; the other registers are `regs`.
-#[tactic(auto, unfolding(m36_model::specs::Transfers::gone_to))]
-fn goes_to(regs: &Regs, f: &Final) -> Effect36
-    ensures { Ok (effect_fields result) ≡ goes_to f.now regs.now }
+#[tactic(auto, unfolding(m36_model::specs::Transfers::registers_after_transfer))]
+fn transfer_to(regs: &Regs, f: &Final) -> Effect36
+    ensures { Ok (effect_fields result) ≡ transfer_to f.now regs.now }
 {
     let at = f.at;
     let mut after = *regs;

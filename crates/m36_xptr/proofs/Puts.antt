@@ -1,6 +1,6 @@
 -- The number of words that a pointer instruction writes, by its effect.
 use Rattle.std.proofs.Common.{ℕ, ◌≡◌, ◌∙◌, ap, List, Result, Ok, Err, IfOk, IsTrue, length}
-use Rattle.m36_inst.specs.Groups.{is_pointer}
+use Rattle.m36_inst.specs.Groups.{is_pointer_instruction}
 use Rattle.m36_inst.specs.Operands.{operand_of}
 use Rattle.m36_inst.specs.declared.effect.Effect.{Effect}
 use Rattle.m36_inst.specs.declared.effect.Effect.TheVariants as effect
@@ -19,7 +19,7 @@ same_count n g x (Ok y) h p = let e : words_of_held x.put ≡ y.put = cc in ap l
 same_count n g x (Err number) h p = cc
 
 -- no pointer instruction writes a half
-no_half : (e : Effect) (words : List ℕ) → IsTrue (is_pointer e) → length words ≡ words_written (operand_of e) → PutsFor (operand_of e) words
+no_half : (e : Effect) (words : List ℕ) → IsTrue (is_pointer_instruction e) → length words ≡ words_written (operand_of e) → PutsFor (operand_of e) words
 no_half effect.EppN words p h = h
 no_half effect.EpbpN words p h = h
 no_half effect.SpriN words p h = h
@@ -31,7 +31,7 @@ no_half effect.Epaq words p h = h
 no_half effect.Stcd words p h = h
 no_half _ words p h = cc
 
-pub words_put : (e : Effect) (n : ℕ) (g : RegsFields) (f : FinalFields) (o : OperandFields) (r : Result Effect36 Fault) → IsTrue (is_pointer e) → answer_fields r ≡ refused_here g (exec e n g f o) → IfOk r (λ x. PutsFor (operand_of e) (words_of_held x.put))
+pub words_put : (e : Effect) (n : ℕ) (g : RegsFields) (f : FinalFields) (o : OperandFields) (r : Result Effect36 Fault) → IsTrue (is_pointer_instruction e) → answer_fields r ≡ refused_here g (exec e n g f o) → IfOk r (λ x. PutsFor (operand_of e) (words_of_held x.put))
 words_put e n g f o (Ok x) p h =
     no_half e (words_of_held x.put) p (same_count (words_written (operand_of e)) g x (exec e n g f o) h (puts_so e n g f o))
 words_put e n g f o (Err fault) p h = tt

@@ -1,7 +1,7 @@
 //! Dispatch: which function executes which instruction.
 
 ghost use Rattle.std.specs.Prelude.{◌≡◌, ◌<◌, IsTrue, IfOk};
-ghost use Rattle.m36_inst.specs.Groups.{is_pointer};
+ghost use Rattle.m36_inst.specs.Groups.{is_pointer_instruction};
 ghost use Rattle.m36_inst.specs.Operands.{operand_of};
 ghost use Rattle.m36_model.specs.OperandHeld.{HoldsFor};
 ghost use Rattle.m36_model.specs.Results.{operand_fields, words_of_held};
@@ -23,7 +23,7 @@ use m36_model::{Effect36, Fault, Final, Operand36, Regs};
 ///
 /// Fault 5, command, at the instruction: the word of LPRP is not a packed pointer.
 pub fn exec(row: &Row, regs: &Regs, f: &Final, operand: Operand36) -> Result<Effect36, Fault>
-    requires pointer { IsTrue (is_pointer row.now.effect) }
+    requires pointer { IsTrue (is_pointer_instruction row.now.effect) }
     requires reg { row.now.reg < 8 }
     requires got { HoldsFor (operand_of row.now.effect) operand.got }
     ensures value { answer_fields result
@@ -37,7 +37,7 @@ pub fn exec(row: &Row, regs: &Regs, f: &Final, operand: Operand36) -> Result<Eff
 /// One function for each effect.
 #[tactic(auto, unfolding(m36_model::specs::Effect::exec))]
 fn dispatch(row: &Row, regs: &Regs, f: &Final, operand: Operand36) -> Result<Effect36, Fault>
-    requires pointer { IsTrue (is_pointer row.now.effect) }
+    requires pointer { IsTrue (is_pointer_instruction row.now.effect) }
     requires reg { row.now.reg < 8 }
     requires got { HoldsFor (operand_of row.now.effect) operand.got }
     ensures { answer_fields result

@@ -1,7 +1,7 @@
 //! Loads of pointer registers, and of A and Q with an address.
 
 ghost use Rattle.std.specs.Prelude.{◌≡◌, ◌<◌, ◌^◌, max, Ok, IsTrue};
-ghost use Rattle.m36_desc.specs.Descriptors.{packed_of};
+ghost use Rattle.m36_desc.specs.Descriptors.{pointer_of_packed};
 ghost use Rattle.m36_model.specs.Faults.{command};
 ghost use Rattle.m36_model.specs.Modification.{fault_here};
 ghost use Rattle.m36_model.specs.Effect.{answer_fields, refused_here};
@@ -85,7 +85,7 @@ pub fn load_packed(regs: &Regs, n: u8, f: &Final, word: Word) -> Result<Effect36
     if Field::<0, 2>::get(word) == 3 {
         return Err(command_fault(regs));
     }
-    Ok(Effect36::completed(regs.with_pointer(n, unpacked(word, f))))
+    Ok(Effect36::completed(regs.with_pointer(n, unpacked_pointer(word, f))))
 }
 
 /// EPAQ: loads segment and ring of the final address into A, its word and bit into Q. Zero is set
@@ -117,8 +117,8 @@ fn command_fault(regs: &Regs) -> Fault
 
 /// The pointer that a packed pointer encodes. It has 12 bits of the segment number; if these are
 /// all 1, so are the three before them.
-fn unpacked(word: Word, f: &Final) -> Ptr
-    ensures { result ≡ packed_of word f.now.at.ring }
+fn unpacked_pointer(word: Word, f: &Final) -> Ptr
+    ensures { result ≡ pointer_of_packed word f.now.at.ring }
 {
     let seg = Field::<6, 12>::get(word) as u16;
     let at = f.at;

@@ -6,8 +6,8 @@ use Rattle.obj36.specs.declared.fault.ObjectFault.{ObjectFault}
 use Rattle.obj36.specs.declared.fault.ObjectFault.TheVariants.{O1, O2, O3, O4, O5, O6, O7, O8, NoMemory}
 use Rattle.obj36_parts.specs.ObjectSegment.{Encodes}
 use Rattle.obj36_parts.specs.Sizes.{HasShortLists}
-use Rattle.obj36_read.specs.Reading.{version_in, length_of_part, count_of_items, first_link_in_head, from_definition, from_linkage, from_statics, from_symbol, statics_in, definitions_in, links_in, relocations_in, parts_of}
-use Rattle.obj36.specs.Faults.{from_outline, outline_fault, fault_after_map, first_fault, ObjectResult, IsReadAs, IsValueOf}
+use Rattle.obj36_read.specs.Reading.{version_in, section_length_in_map, count_of_items, first_link_in_head, from_definition, from_linkage, from_statics, from_symbol, statics_in, definitions_in, links_in, relocations_in, parts_of}
+use Rattle.obj36.specs.Faults.{o1_or_o2_or, length_or_map_fault, fault_after_map, first_fault, ObjectResult, IsReadAs, IsValueOf}
 use Rattle.obj36_parts.proofs.Formed.{is_formed}
 use Rattle.obj36.proofs.ReadingBack.{outline_back, values_apart}
 
@@ -47,16 +47,16 @@ unfolding statics_in from_statics from_linkage from_definition
 statics_few words =
     let d = from_definition words in
     let k = from_linkage words in
-    let d_few : length d ≤ length words = drop_few (length_of_part words 1) words in
-    let k_few : length k ≤ length words = omega (arith, drop_few (length_of_part words 2) d) in
-    let s_few : length (from_statics words) ≤ length words = omega (arith, drop_few (length_of_part words 3) k) in
+    let d_few : length d ≤ length words = drop_few (section_length_in_map words 1) words in
+    let k_few : length k ≤ length words = omega (arith, drop_few (section_length_in_map words 2) d) in
+    let s_few : length (from_statics words) ≤ length words = omega (arith, drop_few (section_length_in_map words 3) k) in
     let inner_few : length (drop 8 k) ≤ length words = omega (arith, drop_few 8 k) in
-    statics_by words (from_statics words) (drop 8 k) (eqb (version_in words) 2) (length_of_part words 4) (first_link_in_head words - 8) s_few inner_few
+    statics_by words (from_statics words) (drop 8 k) (eqb (version_in words) 2) (section_length_in_map words 4) (first_link_in_head words - 8) s_few inner_few
 
 pub short_parts : (words : List ℕ) → length words < 2 ^ 32 → HasShortLists (parts_of words)
 unfolding parts_of
 short_parts words lt = record {
-  text = omega (arith, take_few (length_of_part words 1) words);
+  text = omega (arith, take_few (section_length_in_map words 1) words);
   statics = omega (arith, statics_few words);
   definitions = omega (arith, definitions_few (from_definition words) 2 (count_of_items words (from_definition words) 0), count_few words (from_definition words) 0);
   links =
@@ -70,19 +70,19 @@ short_parts words lt = record {
 
 -- ---- the fault that is found before the parts are decoded
 
-pub outline_stands : (words : List ℕ) (f : ObjectFault) → Some f ≡ outline_fault words → (p : PartsFields) → Encodes p words → ⊥
+pub outline_stands : (words : List ℕ) (f : ObjectFault) → Some f ≡ length_or_map_fault words → (p : PartsFields) → Encodes p words → ⊥
 outline_stands words f e p s =
-    let none : outline_fault words ≡ None = ap outline_fault s.spelled ∙ outline_back p (is_formed p s.formed) in
+    let none : length_or_map_fault words ≡ None = ap length_or_map_fault s.spelled ∙ outline_back p (is_formed p s.formed) in
     let wrong : Some f ≡ None = e ∙ none in
     absurd cc
 
-pub outline_first : (words : List ℕ) (f : ObjectFault) → Some f ≡ outline_fault words → f ≡ first_fault words
+pub outline_first : (words : List ℕ) (f : ObjectFault) → Some f ≡ length_or_map_fault words → f ≡ first_fault words
 unfolding first_fault
-outline_first words f e = ap (λ (o : Option ObjectFault). from_outline o (fault_after_map words)) e
+outline_first words f e = ap (λ (o : Option ObjectFault). o1_or_o2_or o (fault_after_map words)) e
 
-pub behind_first : (words : List ℕ) (f : ObjectFault) → None ≡ outline_fault words → f ≡ fault_after_map words → f ≡ first_fault words
+pub behind_first : (words : List ℕ) (f : ObjectFault) → None ≡ length_or_map_fault words → f ≡ fault_after_map words → f ≡ first_fault words
 unfolding first_fault
-behind_first words f none e = e ∙ ap (λ (o : Option ObjectFault). from_outline o (fault_after_map words)) none
+behind_first words f none e = e ∙ ap (λ (o : Option ObjectFault). o1_or_o2_or o (fault_after_map words)) none
 
 -- ---- the result
 
@@ -100,5 +100,5 @@ refused words NoMemory e none = tt
 pub read_as : (words : List ℕ) (q p : PartsFields) → Encodes q words → Encodes p words → q ≡ p
 read_as words q p s t = values_apart q p words s t
 
-pub never_read : (words : List ℕ) (f : ObjectFault) → Some f ≡ outline_fault words → (p : PartsFields) → Encodes p words → IsReadAs p (Err f)
+pub never_read : (words : List ℕ) (f : ObjectFault) → Some f ≡ length_or_map_fault words → (p : PartsFields) → Encodes p words → IsReadAs p (Err f)
 never_read words f e p s = absurd (outline_stands words f e p s)

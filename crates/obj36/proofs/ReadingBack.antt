@@ -8,10 +8,10 @@ use Rattle.std.proofs.lemmas.List.Folds.{list_any-append}
 use Rattle.obj36_parts.specs.Fields.{LinkFields, RelocFields}
 use Rattle.obj36_parts.specs.PartsFields.{PartsFields}
 use Rattle.obj36_parts.specs.declared.definition.Named.{Named}
-use Rattle.obj36_parts.specs.Halves.{joined}
-use Rattle.obj36_parts.specs.Names.{same, with_names, place_of, all_name_words}
-use Rattle.obj36_parts.specs.ObjectSegment.{is_newer, inner_statics, outer_statics, place_if_any, definition_names, all_link_names, definition_words, expression_words, definition_part, definition_section, link_words, linkage_part, linkage_section, symbol_part, symbol_section, map_words, words_of, is_definition, is_link, is_relocation, is_well_formed, Encodes, ValuesApart}
-use Rattle.obj36_parts.specs.Sizes.{names_length}
+use Rattle.obj36_parts.specs.Halves.{word_with_halves}
+use Rattle.obj36_parts.specs.Names.{same, with_names, name_offset, all_name_words}
+use Rattle.obj36_parts.specs.ObjectSegment.{is_newer, inner_statics, outer_statics, offset_if_any, definition_names, all_link_names, definition_words, expression_words, definition_part, definition_section, link_words, linkage_part, linkage_section, symbol_part, symbol_section, map_words, words_of, is_valid_definition, is_valid_link, is_valid_relocation, is_well_formed, Encodes, WordsDetermineParts}
+use Rattle.obj36_parts.specs.Sizes.{distinct_names_size}
 use Rattle.obj36_read.specs.Reading.{version_in, count_of_items, from_definition, from_linkage, from_symbol, first_link_in_head, statics_in, definitions_in, links_in, relocations_in, parts_of}
 use Rattle.obj36_parts.proofs.Formed.{IsFormed, is_formed}
 use Rattle.obj36_parts.proofs.SizeLaws.{any_among}
@@ -19,7 +19,7 @@ use Rattle.obj36_parts.proofs.LengthLaws.{small_sections, length-definition_word
 use Rattle.obj36.proofs.NameReading.{IsGood, IsRead, names_read}
 use Rattle.obj36.proofs.TableReading.{definitions_back, links_back, relocations_back}
 use Rattle.obj36.proofs.TablesStand.{AreRead, definitions_stand, links_stand, relocations_stand}
-use Rattle.obj36.specs.Faults.{outline_fault}
+use Rattle.obj36.specs.Faults.{length_or_map_fault}
 use Rattle.obj36.proofs.MapStands.{outline_right}
 use Rattle.obj36.proofs.MapReading.{IsMapped, mapped, IsCut, cut, first_is, statics_are, count_is}
 
@@ -33,7 +33,7 @@ abbrev base : List Named → List LinkFields → ℕ
 base ds ls = 2 + 2 * length ds + 2 * length ls
 
 abbrev head : List Named → List LinkFields → List ℕ
-head ds ls = joined (place_if_any (length ds) 2) (length ds) ∷ joined (place_if_any (length ls) (2 + 2 * length ds)) (length ls) ∷ []
+head ds ls = word_with_halves (offset_if_any (length ds) 2) (length ds) ∷ word_with_halves (offset_if_any (length ls) (2 + 2 * length ds)) (length ls) ∷ []
 
 from_table : (ds : List Named) (ls : List LinkFields) (tail : List ℕ)
     → definition_part ds ls ++ tail ≡ head ds ls ++ (definition_words (names ds ls) (base ds ls) ds 2 ++ (expression_words (names ds ls) (base ds ls) ls ++ (all_name_words (names ds ls) ++ tail)))
@@ -49,9 +49,9 @@ from_expressions : (ds : List Named) (ls : List LinkFields) (tail : List ℕ)
 from_expressions ds ls tail =
     from_table ds ls tail ∙ sym (append_assoc (head ds ls) (definition_words (names ds ls) (base ds ls) ds 2) (expression_words (names ds ls) (base ds ls) ls ++ (all_name_words (names ds ls) ++ tail)))
 
-from_names : (ds : List Named) (ls : List LinkFields) (tail : List ℕ)
+o6_or : (ds : List Named) (ls : List LinkFields) (tail : List ℕ)
     → definition_part ds ls ++ tail ≡ ((head ds ls ++ definition_words (names ds ls) (base ds ls) ds 2) ++ expression_words (names ds ls) (base ds ls) ls) ++ (all_name_words (names ds ls) ++ tail)
-from_names ds ls tail =
+o6_or ds ls tail =
     from_expressions ds ls tail ∙ sym (append_assoc (head ds ls ++ definition_words (names ds ls) (base ds ls) ds 2) (expression_words (names ds ls) (base ds ls) ls) (all_name_words (names ds ls) ++ tail))
 
 expressions_place : (ds : List Named) (ls : List LinkFields) → length (head ds ls ++ definition_words (names ds ls) (base ds ls) ds 2) ≡ 2 + 2 * length ds
@@ -63,14 +63,14 @@ names_place ds ls =
 
 -- each name that is used is decoded
 used_read : (ds : List Named) (ls : List LinkFields) (tail : List ℕ) → length (definition_part ds ls) ≤ 2 ^ 18 → (x : List ℕ) → list_any (same x) (definition_names ds ++ all_link_names ls) ≡ true → IsGood x
-    → IsRead (definition_part ds ls ++ tail) (place_of x (names ds ls) (base ds ls)) (2 ^ 18) x
-unfolding names_length
+    → IsRead (definition_part ds ls ++ tail) (name_offset x (names ds ls) (base ds ls)) (2 ^ 18) x
+unfolding distinct_names_size
 used_read ds ls tail small x among g =
     let front = (head ds ls ++ definition_words (names ds ls) (base ds ls) ds 2) ++ expression_words (names ds ls) (base ds ls) ls in
     let stands : list_any (same x) (names ds ls) ≡ true = any_among x [] (definition_names ds ++ all_link_names ls) ∙ among in
-    names_read (names ds ls) (definition_part ds ls ++ tail) front tail (base ds ls) (2 ^ 18) x (from_names ds ls tail) (names_place ds ls) (omega (arith, length-definition_part ds ls)) stands g
+    names_read (names ds ls) (definition_part ds ls ++ tail) front tail (base ds ls) (2 ^ 18) x (o6_or ds ls tail) (names_place ds ls) (omega (arith, length-definition_part ds ls)) stands g
 
-definitions_read : (version : ℕ) (ds : List Named) (ls : List LinkFields) (tail words : List ℕ) → words ≡ definition_part ds ls ++ tail → length (definition_part ds ls) ≤ 2 ^ 18 → list_all (is_definition version) ds ≡ true
+definitions_read : (version : ℕ) (ds : List Named) (ls : List LinkFields) (tail words : List ℕ) → words ≡ definition_part ds ls ++ tail → length (definition_part ds ls) ≤ 2 ^ 18 → list_all (is_valid_definition version) ds ≡ true
     → definitions_in words 2 (length ds) ≡ ds
 definitions_read version ds ls tail words e small good =
     let all = definition_part ds ls ++ tail in
@@ -82,18 +82,18 @@ definitions_read version ds ls tail words e small good =
     (definitions_stand version all (names ds ls) (base ds ls) ds read good)
 
 linkage_head : List ℕ → List LinkFields → List ℕ
-linkage_head statics ls = 0 ∷ joined (8 + length statics) (length ls) ∷ 0 ∷ 0 ∷ 0 ∷ 0 ∷ 0 ∷ 0 ∷ statics
+linkage_head statics ls = 0 ∷ word_with_halves (8 + length statics) (length ls) ∷ 0 ∷ 0 ∷ 0 ∷ 0 ∷ 0 ∷ 0 ∷ statics
 
-from_links : (statics : List ℕ) (ls : List LinkFields) (x : ℕ) (tail : List ℕ) → linkage_part statics ls x ++ tail ≡ linkage_head statics ls ++ (link_words ls (8 + length statics) x ++ tail)
+o7_or_o8 : (statics : List ℕ) (ls : List LinkFields) (x : ℕ) (tail : List ℕ) → linkage_part statics ls x ++ tail ≡ linkage_head statics ls ++ (link_words ls (8 + length statics) x ++ tail)
 unfolding linkage_part linkage_head
-from_links statics ls x tail = append_assoc (linkage_head statics ls) (link_words ls (8 + length statics) x) tail
+o7_or_o8 statics ls x tail = append_assoc (linkage_head statics ls) (link_words ls (8 + length statics) x) tail
 
 links_place : (statics : List ℕ) (ls : List LinkFields) → length (linkage_head statics ls) ≡ 8 + length statics
 unfolding linkage_head
 links_place statics ls = omega arith
 
 links_read : (version : ℕ) (ds : List Named) (ls : List LinkFields) (tail words statics after linkage : List ℕ) → words ≡ definition_part ds ls ++ tail → length (definition_part ds ls) ≤ 2 ^ 18
-    → linkage ≡ linkage_part statics ls (2 + 2 * length ds) ++ after → list_all (is_link version) ls ≡ true
+    → linkage ≡ linkage_part statics ls (2 + 2 * length ds) ++ after → list_all (is_valid_link version) ls ≡ true
     → links_in words (2 + 2 * length ds) linkage (8 + length statics) (length ls) ≡ ls
 links_read version ds ls tail words statics after linkage e small f good =
     let all = definition_part ds ls ++ tail in
@@ -103,26 +103,26 @@ links_read version ds ls tail words statics after linkage e small f good =
     ap (λ (ws : List ℕ). links_in ws (2 + 2 * length ds) linkage (8 + length statics) (length ls)) e
     ∙ links_back (names ds ls) (base ds ls) ls all (head ds ls ++ definition_words (names ds ls) (base ds ls) ds 2) (all_name_words (names ds ls) ++ tail) (2 + 2 * length ds)
     linkage (linkage_head statics ls) after (8 + length statics) (2 + 2 * length ds)
-    (from_expressions ds ls tail) (expressions_place ds ls) (f ∙ from_links statics ls (2 + 2 * length ds) after) (links_place statics ls)
+    (from_expressions ds ls tail) (expressions_place ds ls) (f ∙ o7_or_o8 statics ls (2 + 2 * length ds) after) (links_place statics ls)
     (links_stand version all (names ds ls) (base ds ls) ls read good)
 
 -- the head of a definition section
-counts_here : (ds : List Named) (ls : List LinkFields) (tail : List ℕ) → slice_index (definition_part ds ls ++ tail) 0 ≡ joined (place_if_any (length ds) 2) (length ds)
+counts_here : (ds : List Named) (ls : List LinkFields) (tail : List ℕ) → slice_index (definition_part ds ls ++ tail) 0 ≡ word_with_halves (offset_if_any (length ds) 2) (length ds)
 unfolding definition_part
 counts_here ds ls tail = refl
 
-counts_next : (ds : List Named) (ls : List LinkFields) (tail : List ℕ) → slice_index (definition_part ds ls ++ tail) 1 ≡ joined (place_if_any (length ls) (2 + 2 * length ds)) (length ls)
+counts_next : (ds : List Named) (ls : List LinkFields) (tail : List ℕ) → slice_index (definition_part ds ls ++ tail) 1 ≡ word_with_halves (offset_if_any (length ls) (2 + 2 * length ds)) (length ls)
 unfolding definition_part
 counts_next ds ls tail = refl
 
-count_of_relocations : (rs : List RelocFields) (tail : List ℕ) → slice_index (symbol_part rs ++ tail) 0 ≡ joined 0 (length rs)
+count_of_relocations : (rs : List RelocFields) (tail : List ℕ) → slice_index (symbol_part rs ++ tail) 0 ≡ word_with_halves 0 (length rs)
 unfolding symbol_part
 count_of_relocations rs tail = refl
 
-relocations_read : (text inner outer version : ℕ) (rs : List RelocFields) (tail words : List ℕ) → words ≡ symbol_part rs ++ tail → list_all (is_relocation text inner outer version) rs ≡ true → relocations_in words 1 (length rs) ≡ rs
+relocations_read : (text inner outer version : ℕ) (rs : List RelocFields) (tail words : List ℕ) → words ≡ symbol_part rs ++ tail → list_all (is_valid_relocation text inner outer version) rs ≡ true → relocations_in words 1 (length rs) ≡ rs
 unfolding symbol_part
 relocations_read text inner outer version rs tail words e good =
-    relocations_back rs words (joined 0 (length rs) ∷ []) tail 1 e refl (relocations_stand text inner outer version rs good)
+    relocations_back rs words (word_with_halves 0 (length rs) ∷ []) tail 1 e refl (relocations_stand text inner outer version rs good)
 
 -- ---- the whole
 
@@ -165,7 +165,7 @@ is_mapped p f =
     mapped (is_newer p) (front_of p) (length p.text) (length (definition_section p)) (length (linkage_section p)) (length (outer_statics p)) (length (symbol_section p)) p.entry_bound (front_length p) small bound
 
 -- the map is valid
-pub outline_back : (p : PartsFields) → IsFormed p → outline_fault (words_of p) ≡ None
+pub outline_back : (p : PartsFields) → IsFormed p → length_or_map_fault (words_of p) ≡ None
 unfolding words_of map_words front_of
 outline_back p f =
     let small : length (front_of p) < 2 ^ 18 = omega (arith, f.fits, length-sections p, front_length p, map_length p) in
@@ -208,10 +208,10 @@ parts_back p e =
     let rs_few : length rs < 2 ^ 18 = omega (arith, f.fits, length-sections p, length-symbol_part rs, map_length p) in
     let first_fits : 8 + length inner < 2 ^ 18 = omega (arith, f.fits, length-sections p, length-linkage_part inner ls expressions, map_length p) in
     let count : count_of_items words (from_definition words) 0 ≡ length ds =
-    count_is words (from_definition words) 0 (place_if_any (length ds) 2) (length ds) (ap (λ (ws : List ℕ). slice_index ws 0) definition ∙ counts_here ds ls tail) (omega (arith, length-words_of p)) ds_few
+    count_is words (from_definition words) 0 (offset_if_any (length ds) 2) (length ds) (ap (λ (ws : List ℕ). slice_index ws 0) definition ∙ counts_here ds ls tail) (omega (arith, length-words_of p)) ds_few
     in
     let linked : count_of_items words (from_definition words) 1 ≡ length ls =
-    count_is words (from_definition words) 1 (place_if_any (length ls) expressions) (length ls) (ap (λ (ws : List ℕ). slice_index ws 1) definition ∙ counts_next ds ls tail) (omega (arith, length-words_of p)) ls_few
+    count_is words (from_definition words) 1 (offset_if_any (length ls) expressions) (length ls) (ap (λ (ws : List ℕ). slice_index ws 1) definition ∙ counts_next ds ls tail) (omega (arith, length-words_of p)) ls_few
     in
     let moved : count_of_items words (from_symbol words) 0 ≡ length rs =
     count_is words (from_symbol words) 0 0 (length rs) (ap (λ (ws : List ℕ). slice_index ws 0) symbol ∙ count_of_relocations rs (map_words p)) (omega (arith, length-words_of p)) rs_few
@@ -240,5 +240,5 @@ parts_back p e =
 pub stands_back : (p : PartsFields) (words : List ℕ) → Encodes p words → parts_of words ≡ p
 stands_back p words s = ap parts_of s.spelled ∙ parts_back p s.formed
 
-pub values_apart : ValuesApart
+pub values_apart : WordsDetermineParts
 values_apart p q words s t = sym (stands_back p words s) ∙ stands_back q words t

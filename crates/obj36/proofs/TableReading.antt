@@ -7,20 +7,20 @@ use Rattle.obj36_parts.specs.declared.section.Section.{Section}
 use Rattle.obj36_parts.specs.declared.section.Section.TheVariants.{Text, Linkage, Symbol, Static}
 use Rattle.obj36_parts.specs.declared.definition.Named.{Named}
 use Rattle.obj36_parts.specs.Fields.{LinkFields, RelocFields}
-use Rattle.obj36_parts.specs.Halves.{left, right, joined}
-use Rattle.obj36_parts.specs.Names.{place_of}
-use Rattle.obj36_parts.specs.Sections.{class_number, place_number}
-use Rattle.obj36_parts.specs.ObjectSegment.{has_name, has_entry, place_if_any, class_of, definition_words, subject_of, entry_place, expression_words, link_words, relocation_word, relocation_words}
-use Rattle.obj36_read.specs.Reading.{name_at, class_with, section_with, definition_at, definitions_in, link_at, links_in, relocation_in, relocations_in}
+use Rattle.obj36_parts.specs.Halves.{left, right, word_with_halves}
+use Rattle.obj36_parts.specs.Names.{name_offset}
+use Rattle.obj36_parts.specs.Sections.{class_number, section_number}
+use Rattle.obj36_parts.specs.ObjectSegment.{has_name, has_entry, offset_if_any, class_of, definition_words, section_or_name_offset, entry_name_offset, expression_words, link_words, relocation_word, relocation_words}
+use Rattle.obj36_read.specs.Reading.{name_at, section_of_class_number, section_with, definition_at, definitions_in, link_at, links_in, relocation_in, relocations_in}
 
 -- ---- halves
 
-pub left_joined : (l r : ℕ) → l < 2 ^ 18 → left (joined l r) ≡ l
-unfolding left joined
+pub left_joined : (l r : ℕ) → l < 2 ^ 18 → left (word_with_halves l r) ≡ l
+unfolding left word_with_halves
 left_joined l r lt = omega arith
 
-pub right_joined : (l r : ℕ) → r < 2 ^ 18 → right (joined l r) ≡ r
-unfolding right joined
+pub right_joined : (l r : ℕ) → r < 2 ^ 18 → right (word_with_halves l r) ≡ r
+unfolding right word_with_halves
 right_joined l r lt = omega arith
 
 -- ---- words at indexes
@@ -52,8 +52,8 @@ small_class Symbol false = omega arith
 small_class Static true = omega arith
 small_class Static false = omega arith
 
-class_back : (s : Section) (b : Bool) → class_with ((class_number s + cond b 8 0) % 2 ^ 3) ≡ s
-unfolding class_with
+class_back : (s : Section) (b : Bool) → section_of_class_number ((class_number s + cond b 8 0) % 2 ^ 3) ≡ s
+unfolding section_of_class_number
 class_back Text true = refl
 class_back Text false = refl
 class_back Linkage true = refl
@@ -74,19 +74,19 @@ entry_back Static true = refl
 entry_back Static false = refl
 
 pub record DefinitionStands (words : List ℕ) (names : List (List ℕ)) (base : ℕ) (d : Named) : Type 0 where
-  pub name : name_at words (place_of d.name names base) ≡ d.name
-  pub place : place_of d.name names base < 2 ^ 18
+  pub name : name_at words (name_offset d.name names base) ≡ d.name
+  pub place : name_offset d.name names base < 2 ^ 18
   pub value : d.def.value < 2 ^ 18
 
 definition_back : (words : List ℕ) (names : List (List ℕ)) (base at next : ℕ) (d : Named) → DefinitionStands words names base d
-    → slice_index words at ≡ joined next (class_of d.def) → slice_index words (at + 1) ≡ joined d.def.value (place_of d.name names base) → definition_at words at ≡ d
+    → slice_index words at ≡ word_with_halves next (class_of d.def) → slice_index words (at + 1) ≡ word_with_halves d.def.value (name_offset d.name names base) → definition_at words at ≡ d
 unfolding definition_at class_of
 definition_back words names base at next d s e f =
     let first : right (slice_index words at) ≡ class_number d.def.section + cond d.def.is_entry 8 0 = ap right e ∙ right_joined next (class_of d.def) (small_class d.def.section d.def.is_entry) in
-    let place : right (slice_index words (at + 1)) ≡ place_of d.name names base = ap right f ∙ right_joined d.def.value (place_of d.name names base) s.place in
-    let value : left (slice_index words (at + 1)) ≡ d.def.value = ap left f ∙ left_joined d.def.value (place_of d.name names base) s.value in
+    let place : right (slice_index words (at + 1)) ≡ name_offset d.name names base = ap right f ∙ right_joined d.def.value (name_offset d.name names base) s.place in
+    let value : left (slice_index words (at + 1)) ≡ d.def.value = ap left f ∙ left_joined d.def.value (name_offset d.name names base) s.value in
     let name_is : name_at words (right (slice_index words (at + 1))) ≡ d.name = ap (name_at words) place ∙ s.name in
-    let section_is : class_with (right (slice_index words at) % 2 ^ 3) ≡ d.def.section = ap (λ n. class_with (n % 2 ^ 3)) first ∙ class_back d.def.section d.def.is_entry in
+    let section_is : section_of_class_number (right (slice_index words at) % 2 ^ 3) ≡ d.def.section = ap (λ n. section_of_class_number (n % 2 ^ 3)) first ∙ class_back d.def.section d.def.is_entry in
     let entry_is : leb 8 (right (slice_index words at)) ≡ d.def.is_entry = ap (leb 8) first ∙ entry_back d.def.section d.def.is_entry in
     λ i. record { name = name_is i; def = record { section = section_is i; value = value i; is_entry = entry_is i } }
 
@@ -95,9 +95,9 @@ pub definitions_back : (names : List (List ℕ)) (base : ℕ) (ds : List Named) 
 unfolding definitions_in definition_words
 definitions_back names base [] words front rest at e p s = refl
 definitions_back names base (d ∷ ds) words front rest at e p s =
-    let next = place_if_any (length ds) (at + 2) in
-    let a = joined next (class_of d.def) in
-    let b = joined d.def.value (place_of d.name names base) in
+    let next = offset_if_any (length ds) (at + 2) in
+    let a = word_with_halves next (class_of d.def) in
+    let b = word_with_halves d.def.value (name_offset d.name names base) in
     let tail = definition_words names base ds (at + 2) in
     let here : slice_index words at ≡ a = word_here words front (b ∷ (tail ++ rest)) at a e p in
     let there : slice_index words (at + 1) ≡ b = word_next words front (tail ++ rest) at a b e p in
@@ -110,21 +110,21 @@ pub record LinkStands (words : List ℕ) (names : List (List ℕ)) (base : ℕ) 
   pub kind : l.kind < 2 ^ 8
   pub expr : l.expr < 2 ^ 18
   pub modifier : l.modifier < 2 ^ 6
-  pub subject : subject_of names base l < 2 ^ 18
-  pub entry_at : entry_place names base l < 2 ^ 18
-  pub section : cond (has_name l.kind) Text (section_with (subject_of names base l)) ≡ l.section
-  pub name : cond (has_name l.kind) (name_at words (subject_of names base l)) [] ≡ l.name
-  pub entry : cond (has_entry l.kind) (name_at words (entry_place names base l)) [] ≡ l.entry
+  pub subject : section_or_name_offset names base l < 2 ^ 18
+  pub entry_at : entry_name_offset names base l < 2 ^ 18
+  pub section : cond (has_name l.kind) Text (section_with (section_or_name_offset names base l)) ≡ l.section
+  pub name : cond (has_name l.kind) (name_at words (section_or_name_offset names base l)) [] ≡ l.name
+  pub entry : cond (has_entry l.kind) (name_at words (entry_name_offset names base l)) [] ≡ l.entry
 
 link_back : (words linkage : List ℕ) (names : List (List ℕ)) (base at place expression : ℕ) (l : LinkFields) → LinkStands words names base l
-    → slice_index words at ≡ joined l.kind (subject_of names base l) → slice_index words (at + 1) ≡ joined (entry_place names base l) l.expr
-    → slice_index linkage (place + 1) ≡ joined expression l.modifier → link_at words at linkage place ≡ l
+    → slice_index words at ≡ word_with_halves l.kind (section_or_name_offset names base l) → slice_index words (at + 1) ≡ word_with_halves (entry_name_offset names base l) l.expr
+    → slice_index linkage (place + 1) ≡ word_with_halves expression l.modifier → link_at words at linkage place ≡ l
 unfolding link_at
 link_back words linkage names base at place expression l s e f g =
-    let kind : left (slice_index words at) % 2 ^ 8 ≡ l.kind = ap (λ n. left n % 2 ^ 8) e ∙ ap (λ n. n % 2 ^ 8) (left_joined l.kind (subject_of names base l) (omega (arith, s.kind))) ∙ (let k : l.kind % 2 ^ 8 ≡ l.kind = omega (arith, s.kind) in k) in
-    let subject : right (slice_index words at) ≡ subject_of names base l = ap right e ∙ right_joined l.kind (subject_of names base l) s.subject in
-    let entry_at : left (slice_index words (at + 1)) ≡ entry_place names base l = ap left f ∙ left_joined (entry_place names base l) l.expr s.entry_at in
-    let expr : right (slice_index words (at + 1)) ≡ l.expr = ap right f ∙ right_joined (entry_place names base l) l.expr s.expr in
+    let kind : left (slice_index words at) % 2 ^ 8 ≡ l.kind = ap (λ n. left n % 2 ^ 8) e ∙ ap (λ n. n % 2 ^ 8) (left_joined l.kind (section_or_name_offset names base l) (omega (arith, s.kind))) ∙ (let k : l.kind % 2 ^ 8 ≡ l.kind = omega (arith, s.kind) in k) in
+    let subject : right (slice_index words at) ≡ section_or_name_offset names base l = ap right e ∙ right_joined l.kind (section_or_name_offset names base l) s.subject in
+    let entry_at : left (slice_index words (at + 1)) ≡ entry_name_offset names base l = ap left f ∙ left_joined (entry_name_offset names base l) l.expr s.entry_at in
+    let expr : right (slice_index words (at + 1)) ≡ l.expr = ap right f ∙ right_joined (entry_name_offset names base l) l.expr s.expr in
     let modifier : right (slice_index linkage (place + 1)) % 2 ^ 6 ≡ l.modifier = ap (λ n. right n % 2 ^ 6) g ∙ ap (λ n. n % 2 ^ 6) (right_joined expression l.modifier (omega (arith, s.modifier))) ∙ (let k : l.modifier % 2 ^ 6 ≡ l.modifier = omega (arith, s.modifier) in k) in
     let section : cond (has_name (left (slice_index words at) % 2 ^ 8)) Text (section_with (right (slice_index words at))) ≡ l.section =
     ap (λ k. cond (has_name k) Text (section_with (right (slice_index words at)))) kind ∙ ap (λ n. cond (has_name l.kind) Text (section_with n)) subject ∙ s.section
@@ -143,11 +143,11 @@ pub links_back : (names : List (List ℕ)) (base : ℕ) (ls : List LinkFields) (
 unfolding links_in expression_words link_words
 links_back names base [] words front rest at linkage before after place expression e p f q s = refl
 links_back names base (l ∷ ls) words front rest at linkage before after place expression e p f q s =
-    let a = joined l.kind (subject_of names base l) in
-    let b = joined (entry_place names base l) l.expr in
+    let a = word_with_halves l.kind (section_or_name_offset names base l) in
+    let b = word_with_halves (entry_name_offset names base l) l.expr in
     let tail = expression_words names base ls in
-    let c = joined (2 ^ 18 - place) 38 in
-    let d = joined expression l.modifier in
+    let c = word_with_halves (2 ^ 18 - place) 38 in
+    let d = word_with_halves expression l.modifier in
     let others = link_words ls (place + 2) (expression + 2) in
     let here : slice_index words at ≡ a = word_here words front (b ∷ (tail ++ rest)) at a e p in
     let there : slice_index words (at + 1) ≡ b = word_next words front (tail ++ rest) at a b e p in
@@ -171,14 +171,14 @@ relocations_back (r ∷ rs) words front rest at e p s =
     ∙ ap (λ (x : RelocFields). x ∷ relocations_in words (at + 1) (length rs)) s.0
     ∙ ap (λ (xs : List RelocFields). r ∷ xs) (relocations_back rs words (front ++ relocation_word r ∷ []) rest (at + 1) next place s.1)
 
-pub section_back : (s : Section) → section_with (place_number s) ≡ s
+pub section_back : (s : Section) → section_with (section_number s) ≡ s
 unfolding section_with
 section_back Text = refl
 section_back Linkage = refl
 section_back Symbol = refl
 section_back Static = refl
 
-pub small_section : (s : Section) → place_number s ≤ 3
+pub small_section : (s : Section) → section_number s ≤ 3
 small_section Text = omega arith
 small_section Linkage = omega arith
 small_section Symbol = omega arith
@@ -187,19 +187,19 @@ small_section Static = omega arith
 pub relocation_back : (r : RelocFields) → r.offset < 2 ^ 18 → r.part ≤ 2 → relocation_in (relocation_word r) ≡ r
 unfolding relocation_in relocation_word
 relocation_back r small part =
-    let s = place_number r.section in
-    let t = place_number r.target in
+    let s = section_number r.section in
+    let t = section_number r.target in
     let fields = s * 2 ^ 15 + r.part * 2 ^ 12 + t * 2 ^ 9 in
     let fits : fields < 2 ^ 18 = omega (arith, small_section r.section, small_section r.target) in
-    let back : right (joined r.offset fields) ≡ fields = right_joined r.offset fields fits in
-    let offset : left (joined r.offset fields) ≡ r.offset = left_joined r.offset fields small in
-    let section : section_with (right (joined r.offset fields) / 2 ^ 15) ≡ r.section =
+    let back : right (word_with_halves r.offset fields) ≡ fields = right_joined r.offset fields fits in
+    let offset : left (word_with_halves r.offset fields) ≡ r.offset = left_joined r.offset fields small in
+    let section : section_with (right (word_with_halves r.offset fields) / 2 ^ 15) ≡ r.section =
     ap (λ n. section_with (n / 2 ^ 15)) back ∙ ap section_with (let e : fields / 2 ^ 15 ≡ s = omega (arith, small_section r.section, small_section r.target) in e) ∙ section_back r.section
     in
-    let part_is : right (joined r.offset fields) / 2 ^ 12 % 2 ^ 3 ≡ r.part =
+    let part_is : right (word_with_halves r.offset fields) / 2 ^ 12 % 2 ^ 3 ≡ r.part =
     ap (λ n. n / 2 ^ 12 % 2 ^ 3) back ∙ (let e : fields / 2 ^ 12 % 2 ^ 3 ≡ r.part = omega (arith, small_section r.section, small_section r.target) in e)
     in
-    let target : section_with (right (joined r.offset fields) / 2 ^ 9 % 2 ^ 3) ≡ r.target =
+    let target : section_with (right (word_with_halves r.offset fields) / 2 ^ 9 % 2 ^ 3) ≡ r.target =
     ap (λ n. section_with (n / 2 ^ 9 % 2 ^ 3)) back ∙ ap section_with (let e : fields / 2 ^ 9 % 2 ^ 3 ≡ t = omega (arith, small_section r.section, small_section r.target) in e) ∙ section_back r.target
     in
     λ i. record { section = section i; offset = offset i; part = part_is i; target = target i }

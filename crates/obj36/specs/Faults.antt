@@ -4,7 +4,7 @@ use Rattle.std.specs.Prelude.{Result, Ok, Err}
 use Rattle.std.specs.Option.{option_map}
 use Rattle.obj36_parts.specs.PartsFields.{PartsFields}
 use Rattle.obj36_parts.specs.ObjectSegment.{Encodes}
-use Rattle.obj36_read.specs.Reading.{older_map, version_in}
+use Rattle.obj36_read.specs.Reading.{older_map_words, version_in}
 use Rattle.obj36_read.specs.MapFaults.{map_fault, section_fault, shared_fault, extents_of}
 use Rattle.obj36_read.specs.MapFaults.{extent_words}
 use Rattle.obj36_read.specs.TableFaults.{table_fault, names_fault}
@@ -14,77 +14,77 @@ use Rattle.obj36.specs.declared.fault.ObjectFault.TheVariants.{O1, O2, O3, O4, O
 use Rattle.obj36.specs.declared.fault.ObjectFault.TheVariants.{NoMemory}
 
 -- the words of the definition section, where the map says that it is
-unfoldable pub told_definition : List ℕ → List ℕ
-told_definition words = extent_words words (extents_of words).definition
+unfoldable pub mapped_definition : List ℕ → List ℕ
+mapped_definition words = extent_words words (extents_of words).definition
 
 -- the words of the linkage section, where the map says that it is
-unfoldable pub told_linkage : List ℕ → List ℕ
-told_linkage words = extent_words words (extents_of words).linkage
+unfoldable pub mapped_linkage : List ℕ → List ℕ
+mapped_linkage words = extent_words words (extents_of words).linkage
 
 -- the first word with which O5 refuses a list
 unfoldable pub definition_fault : List ℕ → Option ℕ
 definition_fault words =
     behind (extents_of words).definition.from
-    (table_fault (version_in words) (told_definition words))
+    (table_fault (version_in words) (mapped_definition words))
 
 -- the first word with which O6 refuses a list
 unfoldable pub spelling_fault : List ℕ → Option ℕ
 spelling_fault words =
-    behind (extents_of words).definition.from (names_fault (told_definition words))
+    behind (extents_of words).definition.from (names_fault (mapped_definition words))
 
 -- the first word with which O7 refuses a list
 unfoldable pub linking_fault : List ℕ → Option ℕ
 linking_fault words =
-    links_fault (version_in words) (extents_of words).definition.from (told_definition words)
-    (extents_of words).linkage.from (told_linkage words)
+    links_fault (version_in words) (extents_of words).definition.from (mapped_definition words)
+    (extents_of words).linkage.from (mapped_linkage words)
 
 -- O7 at a place, if it applies, and otherwise O8
-abbrev pub from_links : Option ℕ → ObjectFault
-from_links (Some p) = O7 p
-from_links None = O8 0
+abbrev pub o7_or_o8 : Option ℕ → ObjectFault
+o7_or_o8 (Some p) = O7 p
+o7_or_o8 None = O8 0
 
 -- O6 at a place, if it applies, and otherwise a later code
-abbrev pub from_names : Option ℕ → ObjectFault → ObjectFault
-from_names (Some p) later = O6 p
-from_names None later = later
+abbrev pub o6_or : Option ℕ → ObjectFault → ObjectFault
+o6_or (Some p) later = O6 p
+o6_or None later = later
 
 -- O5 at a place, if it applies, and otherwise a later code
-abbrev pub from_tables : Option ℕ → ObjectFault → ObjectFault
-from_tables (Some p) later = O5 p
-from_tables None later = later
+abbrev pub o5_or : Option ℕ → ObjectFault → ObjectFault
+o5_or (Some p) later = O5 p
+o5_or None later = later
 
 -- O4 at a place, if it applies, and otherwise a later code
-abbrev pub from_sharing : Option ℕ → ObjectFault → ObjectFault
-from_sharing (Some p) later = O4 p
-from_sharing None later = later
+abbrev pub o4_or : Option ℕ → ObjectFault → ObjectFault
+o4_or (Some p) later = O4 p
+o4_or None later = later
 
 -- O3 at a place, if it applies, and otherwise a later code
-abbrev pub from_sections : Option ℕ → ObjectFault → ObjectFault
-from_sections (Some p) later = O3 p
-from_sections None later = later
+abbrev pub o3_or : Option ℕ → ObjectFault → ObjectFault
+o3_or (Some p) later = O3 p
+o3_or None later = later
 
 -- the fault of the length or the map, if there is one, and otherwise a later code
-abbrev pub from_outline : Option ObjectFault → ObjectFault → ObjectFault
-from_outline (Some fault) later = fault
-from_outline None later = later
+abbrev pub o1_or_o2_or : Option ObjectFault → ObjectFault → ObjectFault
+o1_or_o2_or (Some fault) later = fault
+o1_or_o2_or None later = later
 
 -- the first fault of a list whose map is valid, and which encodes no parts
 unfoldable pub fault_after_map : List ℕ → ObjectFault
 fault_after_map words =
-    from_sections (section_fault words) (from_sharing (shared_fault words)
-    (from_tables (definition_fault words)
-    (from_names (spelling_fault words) (from_links (linking_fault words)))))
+    o3_or (section_fault words) (o4_or (shared_fault words)
+    (o5_or (definition_fault words)
+    (o6_or (spelling_fault words) (o7_or_o8 (linking_fault words)))))
 
 -- the fault that is found before the parts are decoded: too few words, or an invalid map
-unfoldable pub outline_fault : List ℕ → Option ObjectFault
-outline_fault words =
-    if nat_lt (length words) older_map
+unfoldable pub length_or_map_fault : List ℕ → Option ObjectFault
+length_or_map_fault words =
+    if nat_lt (length words) older_map_words
     then Some (O1 (length words))
     else option_map O2 (map_fault words)
 
 -- the first fault of a list that encodes no parts
 unfoldable pub first_fault : List ℕ → ObjectFault
-first_fault words = from_outline (outline_fault words) (fault_after_map words)
+first_fault words = o1_or_o2_or (length_or_map_fault words) (fault_after_map words)
 
 -- The list encodes no parts.
 abbrev pub EncodesNothing : List ℕ → Type 0

@@ -4,7 +4,7 @@ use Rattle.obj36_parts.specs.ObjectSegment.{segment_limit}
 use Rattle.obj36.specs.declared.object.Lengths.{Lengths}
 
 -- no section is longer than a segment can be
-pub record AreSmall (l : Lengths) : Type 0 where
+pub record AreSegmentLengths (l : Lengths) : Type 0 where
   pub text : l.text ≤ segment_limit
   pub definition : l.definition ≤ segment_limit
   pub linkage : l.linkage ≤ segment_limit

@@ -12,19 +12,19 @@ use Rattle.obj36.specs.declared.fault.ObjectFault.TheVariants.{NoMemory}
 
 -- The parts that a list encodes, if there are any: the parts that are decoded from it, if encoding
 -- them yields the list again.
-unfoldable pub value_of : List ℕ → Option PartsFields
-value_of words =
+unfoldable pub encoded_parts : List ℕ → Option PartsFields
+encoded_parts words =
     let parts = parts_of words in
     if is_well_formed parts && pointwise nat_eq (words_of parts) words then Some parts else None
 
 -- the parts as a result, or the fault if there are none
-abbrev pub or_fault : Option PartsFields → ObjectFault → Result PartsFields ObjectFault
-or_fault (Some parts) fault = Ok parts
-or_fault None fault = Err fault
+abbrev pub parts_or_fault : Option PartsFields → ObjectFault → Result PartsFields ObjectFault
+parts_or_fault (Some parts) fault = Ok parts
+parts_or_fault None fault = Err fault
 
 -- the parts that a list encodes, or the first fault of the list
 unfoldable pub object_of : List ℕ → Result PartsFields ObjectFault
-object_of words = or_fault (value_of words) (first_fault words)
+object_of words = parts_or_fault (encoded_parts words) (first_fault words)
 
 -- The result is the object or the fault of the list. It may be NoMemory whatever the list is.
 abbrev pub IsObjectOf : List ℕ → Result PartsFields ObjectFault → Type 0

@@ -2,12 +2,12 @@
 -- dollar sign, and the entry.
 use Rattle.std.specs.Prelude.{ℕ, List, [], ◌++◌, codes, if◌then◌else◌}
 use Rattle.obj36_parts.specs.Fields.{LinkFields}
-use Rattle.obj36_parts.specs.Sections.{own_name}
+use Rattle.obj36_parts.specs.Sections.{starred_section_name}
 use Rattle.obj36_parts.specs.ObjectSegment.{has_name, has_entry}
 
 -- the text before the dollar sign: a segment, or a section of the object itself
 abbrev pub reference_subject : LinkFields → List ℕ
-reference_subject l = if has_name l.kind then l.name else own_name l.section
+reference_subject l = if has_name l.kind then l.name else starred_section_name l.section
 
 -- the text after the dollar sign: the entry, or nothing
 abbrev pub reference_entry : LinkFields → List ℕ

@@ -2,9 +2,9 @@
 
 ghost use Rattle.std.specs.Prelude.{ℕ, List, ◌≡◌, ◌+◌, ◌^◌, ◌<◌, length, Option, Some, None};
 ghost use Rattle.std.specs.Prelude.{IfSome, IfOk};
-ghost use Rattle.obj36.specs.Faults.{told_definition, told_linkage, definition_fault};
-ghost use Rattle.obj36.specs.Faults.{spelling_fault, linking_fault, from_links, from_names};
-ghost use Rattle.obj36.specs.Faults.{fault_after_map, outline_fault};
+ghost use Rattle.obj36.specs.Faults.{mapped_definition, mapped_linkage, definition_fault};
+ghost use Rattle.obj36.specs.Faults.{spelling_fault, linking_fault, o7_or_o8, o6_or};
+ghost use Rattle.obj36.specs.Faults.{fault_after_map, length_or_map_fault};
 
 use crate::fault::ObjectFault;
 use m36_word::{NoMemory, Word};
@@ -18,17 +18,17 @@ use obj36_read::tables::fault_of_tables;
 use std::alloc::Global;
 
 // The words of the definition section, where the map says that it is.
-#[tactic(auto, unfolding(crate::specs::Faults::told_definition))]
-fn definition_told(words: &[Word]) -> &[Word]
-    ensures { result.now ≡ told_definition words.now }
+#[tactic(auto, unfolding(crate::specs::Faults::mapped_definition))]
+fn definition_in_map(words: &[Word]) -> &[Word]
+    ensures { result.now ≡ mapped_definition words.now }
 {
     words_within(words, extents_in_map(words).definition)
 }
 
 // The words of the linkage section, where the map says that it is.
-#[tactic(auto, unfolding(crate::specs::Faults::told_linkage))]
+#[tactic(auto, unfolding(crate::specs::Faults::mapped_linkage))]
 fn linkage_words(words: &[Word]) -> &[Word]
-    ensures { result.now ≡ told_linkage words.now }
+    ensures { result.now ≡ mapped_linkage words.now }
 {
     words_within(words, extents_in_map(words).linkage)
 }
@@ -41,7 +41,7 @@ fn fault_of_definitions(alloc: Global, words: &[Word]) -> Result<Option<u64>, No
     ensures bound { IfOk result (λ place. IfSome place (λ p. p < 2 ^ 21)) }
 {
     let from = extents_in_map(words).definition.from;
-    let place = fault_of_tables(alloc, version(words), definition_told(words))?;
+    let place = fault_of_tables(alloc, version(words), definition_in_map(words))?;
     Ok(index_in_list(from, place))
 }
 
@@ -52,7 +52,7 @@ fn fault_of_spelling(words: &[Word]) -> Option<u64>
     ensures bound { IfSome result (λ p. p < 2 ^ 21) }
 {
     let from = extents_in_map(words).definition.from;
-    index_in_list(from, fault_of_names(definition_told(words)))
+    index_in_list(from, fault_of_names(definition_in_map(words)))
 }
 
 // The first invalid word of the links and the types of their expressions (O7), as an index in the
@@ -66,7 +66,7 @@ fn fault_of_linking(words: &[Word]) -> Option<u64>
     fault_of_links(
         version(words),
         told.definition.from,
-        definition_told(words),
+        definition_in_map(words),
         told.linkage.from,
         linkage_words(words),
     )
@@ -76,7 +76,7 @@ fn fault_of_linking(words: &[Word]) -> Option<u64>
 // links, or O8.
 fn fault_after_tables(words: &[Word]) -> ObjectFault
     ensures { result
-        ≡ from_names (spelling_fault words.now) (from_links (linking_fault words.now)) }
+        ≡ o6_or (spelling_fault words.now) (o7_or_o8 (linking_fault words.now)) }
 {
     if let Some(place) = fault_of_spelling(words) {
         return ObjectFault::O6(place as u32);
@@ -89,7 +89,7 @@ fn fault_after_tables(words: &[Word]) -> ObjectFault
 
 // The first fault of a list of words whose map is valid; O8 if no other code applies.
 #[tactic(auto, unfolding(crate::specs::Faults::fault_after_map))]
-pub(crate) fn fault_behind(alloc: Global, words: &[Word]) -> Result<ObjectFault, NoMemory>
+pub(crate) fn fault_with_valid_map(alloc: Global, words: &[Word]) -> Result<ObjectFault, NoMemory>
     ensures { IfOk result (λ fault. fault ≡ fault_after_map words.now) }
 {
     if let Some(place) = fault_of_sections(words) {
@@ -105,10 +105,10 @@ pub(crate) fn fault_behind(alloc: Global, words: &[Word]) -> Result<ObjectFault,
 }
 
 // The fault that is found before the parts are decoded: too few words, or an invalid map.
-#[tactic(auto, unfolding(crate::specs::Faults::outline_fault))]
-pub(crate) fn fault_of_outline(words: &[Word]) -> Option<ObjectFault>
+#[tactic(auto, unfolding(crate::specs::Faults::length_or_map_fault))]
+pub(crate) fn fault_of_length_or_map(words: &[Word]) -> Option<ObjectFault>
     requires { length words.now < 2 ^ 32 }
-    ensures { result ≡ outline_fault words.now }
+    ensures { result ≡ length_or_map_fault words.now }
 {
     if words.len() < 7 {
         return Some(ObjectFault::O1(words.len() as u32));

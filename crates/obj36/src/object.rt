@@ -7,21 +7,21 @@ ghost use Rattle.obj36_parts.specs.ObjectSegment.{definition_section, linkage_se
 ghost use Rattle.obj36_parts.specs.ObjectSegment.{symbol_section, section_words, map_part};
 ghost use Rattle.obj36_parts.specs.ObjectSegment.{words_of, is_well_formed, definition_named};
 ghost use Rattle.obj36_parts.specs.ObjectSegment.{Encodes, IsObject};
-ghost use Rattle.obj36_parts.specs.Halves.{joined};
+ghost use Rattle.obj36_parts.specs.Halves.{word_with_halves};
 ghost use Rattle.obj36_parts.specs.Sizes.{HasShortLists};
-ghost use Rattle.obj36.specs.Lengths.{AreSmall};
+ghost use Rattle.obj36.specs.Lengths.{AreSegmentLengths};
 ghost use Rattle.obj36_parts.specs.PartsFields.{PartsFields};
-ghost use Rattle.obj36.specs.Faults.{outline_fault, ObjectResult, IsReadAs, IsValueOf};
-ghost use Rattle.obj36.specs.ObjectOf.{value_of, IsObjectOf};
+ghost use Rattle.obj36.specs.Faults.{length_or_map_fault, ObjectResult, IsReadAs, IsValueOf};
+ghost use Rattle.obj36.specs.ObjectOf.{encoded_parts, IsObjectOf};
 ghost use Rattle.obj36_read.specs.Reading.{parts_of};
 ghost use Rattle.std.specs.Cmp.Lexicographic.{pointwise};
 
 use crate::fault::ObjectFault;
-use crate::judging::{fault_behind, fault_of_outline};
+use crate::judging::{fault_with_valid_map, fault_of_length_or_map};
 use m36_text::Name;
 use m36_word::{NoMemory, Word, Words};
 use obj36_parts::definition::Def;
-use obj36_parts::halves::word_of;
+use obj36_parts::halves::word_of_halves;
 use obj36_parts::link::Link;
 use obj36_parts::parts::Parts;
 use obj36_parts::section::Section;
@@ -95,10 +95,10 @@ struct Lengths {
 
 // Adds the map word of the static section, which only version 2 has.
 fn push_static_entry(out: &mut Words, newer: bool, offset: u64, length: u64) -> Result<(), NoMemory>
-    ensures { OnOk result (out.new ≡ out.old ++ (if newer then joined offset length ∷ [] else [])) }
+    ensures { OnOk result (out.new ≡ out.old ++ (if newer then word_with_halves offset length ∷ [] else [])) }
 {
     if newer {
-        out.push(word_of(offset, length))
+        out.push(word_of_halves(offset, length))
     } else {
         Ok(())
     }
@@ -107,7 +107,7 @@ fn push_static_entry(out: &mut Words, newer: bool, offset: u64, length: u64) -> 
 // Adds the map and the last word.
 #[tactic(auto, unfolding(obj36_parts::specs::ObjectSegment::map_part))]
 fn push_map(out: &mut Words, newer: bool, lengths: Lengths, bound: u64) -> Result<(), NoMemory>
-    requires { AreSmall lengths }
+    requires { AreSegmentLengths lengths }
     ensures { OnOk result (out.new ≡ out.old
         ++ map_part newer lengths.text lengths.definition lengths.linkage lengths.statics
         lengths.symbol bound) }
@@ -117,15 +117,15 @@ fn push_map(out: &mut Words, newer: bool, lengths: Lengths, bound: u64) -> Resul
     let symbol = statics + lengths.statics;
     let map = symbol + lengths.symbol;
     let front = [
-        word_of(0, version_of(newer) as u64),
-        word_of(0, lengths.text),
-        word_of(lengths.text, lengths.definition),
-        word_of(linkage, lengths.linkage),
+        word_of_halves(0, version_of(newer) as u64),
+        word_of_halves(0, lengths.text),
+        word_of_halves(lengths.text, lengths.definition),
+        word_of_halves(linkage, lengths.linkage),
     ];
     let back = [
-        word_of(symbol, lengths.symbol),
-        word_of(bound, 0),
-        word_of(map, 0),
+        word_of_halves(symbol, lengths.symbol),
+        word_of_halves(bound, 0),
+        word_of_halves(map, 0),
     ];
     push_all(out, &front)?;
     push_static_entry(out, newer, statics, lengths.statics)?;
@@ -140,7 +140,7 @@ fn lengths_of(parts: &Parts, definition: &[Word], linkage: &[Word], symbol: &[Wo
     ensures linkage { result.linkage ≡ length linkage.now }
     ensures statics { result.statics ≡ length (outer_statics parts.now) }
     ensures symbol { result.symbol ≡ length symbol.now }
-    ensures small { AreSmall result }
+    ensures small { AreSegmentLengths result }
 {
     Lengths {
         text: parts.text.slice().len() as u64,
@@ -174,7 +174,7 @@ fn push_sections(
 }
 
 // All words of an object. The sections are those of its parts.
-fn joined_sections(
+fn join_sections(
     alloc: Global,
     parts: &Parts,
     definition: &[Word],
@@ -204,7 +204,7 @@ fn are_same_words(words: &[Word], others: &[Word]) -> bool
 
 // Whether a list of words encodes the parts that were decoded from it. The sections are those of
 // the parts.
-fn is_spelled(
+fn encodes_decoded(
     alloc: Global,
     parts: &Parts,
     sections: &Sections,
@@ -213,12 +213,12 @@ fn is_spelled(
     requires object { IsObject parts.now sections.now.definition sections.now.linkage
         sections.now.symbol }
     requires spelled { parts.now ≡ parts_of w.now }
-    ensures { IfOk result (λ is. (if is then Some parts.now else None) ≡ value_of w.now) }
+    ensures { IfOk result (λ is. (if is then Some parts.now else None) ≡ encoded_parts w.now) }
 {
     let definition = sections.definition.slice();
     let linkage = sections.linkage.slice();
     let symbol = sections.symbol.slice();
-    let words = joined_sections(alloc, parts, definition, linkage, symbol)?;
+    let words = join_sections(alloc, parts, definition, linkage, symbol)?;
     let same = are_same_words(words.slice(), w);
     drop(words);
     Ok(same)
@@ -226,18 +226,18 @@ fn is_spelled(
 
 // The sections of the parts that were decoded from a list of words. None if the list does not
 // encode these parts.
-fn sections_found(alloc: Global, parts: &Parts, w: &[Word]) -> Result<Option<Sections>, NoMemory>
+fn sections_if_encoded(alloc: Global, parts: &Parts, w: &[Word]) -> Result<Option<Sections>, NoMemory>
     requires few { HasShortLists parts.now }
     requires spelled { parts.now ≡ parts_of w.now }
     ensures sections { IfOk result (λ found. IfSome found
         (λ s. IsObject parts.now s.definition s.linkage s.symbol)) }
-    ensures value { IfOk result (λ found. option_map (λ s. parts.now) found ≡ value_of w.now) }
+    ensures value { IfOk result (λ found. option_map (λ s. parts.now) found ≡ encoded_parts w.now) }
 {
     if !parts.is_well_formed() {
         return Ok(None);
     }
     let sections = sections_of(alloc, parts)?;
-    match is_spelled(alloc, parts, &sections, w) {
+    match encodes_decoded(alloc, parts, &sections, w) {
         Ok(true) => Ok(Some(sections)),
         Ok(false) => {
             drop(sections);
@@ -280,11 +280,11 @@ fn object_with(parts: Parts, sections: Option<Sections>) -> Option<Object>
 // The object that a list of words encodes; None if it encodes no parts.
 fn object_in(alloc: Global, w: &[Word]) -> Result<Option<Object>, NoMemory>
     requires { length w.now < 2 ^ 32 }
-    ensures value { IfOk result (λ found. found ≡ value_of w.now) }
+    ensures value { IfOk result (λ found. found ≡ encoded_parts w.now) }
     ensures found { IfOk result (λ found. IsValueOf w.now found) }
 {
     let parts = parts_in(alloc, w)?;
-    match sections_found(alloc, &parts, w) {
+    match sections_if_encoded(alloc, &parts, w) {
         Ok(sections) => Ok(object_with(parts, sections)),
         Err(cause) => {
             drop(parts);
@@ -296,14 +296,14 @@ fn object_in(alloc: Global, w: &[Word]) -> Result<Option<Object>, NoMemory>
 // The object that a list of words with a valid map encodes, or the first fault of the list.
 fn read_with_map(alloc: Global, w: &[Word]) -> Result<Object, ObjectFault>
     requires few { length w.now < 2 ^ 32 }
-    requires outline { outline_fault w.now ≡ None }
+    requires outline { length_or_map_fault w.now ≡ None }
     ensures says { ObjectResult w.now result }
     ensures accepts { (p : PartsFields) → Encodes p w.now → IsReadAs p result }
     ensures object { IsObjectOf w.now result }
 {
     match object_in(alloc, w)? {
         Some(object) => Ok(object),
-        None => Err(fault_behind(alloc, w)?),
+        None => Err(fault_with_valid_map(alloc, w)?),
     }
 }
 
@@ -317,7 +317,7 @@ impl Object {
         ensures accepts { (p : PartsFields) → Encodes p w.now → IsReadAs p result }
         ensures object { IsObjectOf w.now result }
     {
-        match fault_of_outline(w) {
+        match fault_of_length_or_map(w) {
             Some(fault) => Err(fault),
             None => read_with_map(alloc, w),
         }
@@ -344,7 +344,7 @@ impl Object {
         let definition = self.definition.slice();
         let linkage = self.linkage.slice();
         let symbol = self.symbol.slice();
-        joined_sections(alloc, &self.parts, definition, linkage, symbol)
+        join_sections(alloc, &self.parts, definition, linkage, symbol)
     }
 
     /// A law: the parts of each object are well formed.

@@ -2,18 +2,18 @@
 
 ghost use Rattle.std.specs.Prelude.{◌++◌, ◌≡◌, ◌≤◌, length, OnOk};
 ghost use Rattle.m36_text.specs.Texts.{name_limit};
-ghost use Rattle.obj36_parts.specs.Sections.{own_name};
+ghost use Rattle.obj36_parts.specs.Sections.{starred_section_name};
 ghost use Rattle.obj36.specs.References.{reference_subject, reference_entry, reference_text};
 
 use m36_outside::Text;
 use m36_word::NoMemory;
 use obj36_parts::link::Link;
-use obj36_parts::names::{has_its_entry, has_its_name};
+use obj36_parts::names::{kind_has_entry, kind_has_name};
 use obj36_parts::section::Section;
 
 // The name of a section of the object itself, as the assembler reads it.
-fn own_name(section: Section) -> &'static str
-    ensures text { result.now ≡ own_name section }
+fn starred_section_name(section: Section) -> &'static str
+    ensures text { result.now ≡ starred_section_name section }
     ensures len { length result.now ≤ name_limit }
 {
     match section {
@@ -30,10 +30,10 @@ pub fn subject(link: &Link) -> &[u8]
     ensures text { result.now ≡ reference_subject link.now }
     ensures len { length result.now ≤ name_limit }
 {
-    if has_its_name(link.kind as u64) {
+    if kind_has_name(link.kind as u64) {
         link.name.bytes()
     } else {
-        own_name(link.section).as_bytes()
+        starred_section_name(link.section).as_bytes()
     }
 }
 
@@ -42,7 +42,7 @@ pub fn entry(link: &Link) -> &[u8]
     ensures text { result.now ≡ reference_entry link.now }
     ensures len { length result.now ≤ name_limit }
 {
-    if has_its_entry(link.kind as u64) {
+    if kind_has_entry(link.kind as u64) {
         link.entry.bytes()
     } else {
         &[]

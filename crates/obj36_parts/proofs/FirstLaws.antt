@@ -8,7 +8,7 @@ use Rattle.obj36_parts.specs.Fields.{DefFields}
 use Rattle.obj36_parts.specs.declared.definition.Named.{Named}
 use Rattle.obj36_parts.specs.Names.{same, with_name, with_names, names_in}
 use Rattle.obj36_parts.specs.ObjectSegment.{definition_names, definition_named, are_distinct}
-use Rattle.obj36_parts.specs.Indexes.{with_first, AreFirsts}
+use Rattle.obj36_parts.specs.Indexes.{with_first_definition, AreFirsts}
 use Rattle.obj36_parts.proofs.NameTables.{with_names-append}
 use Rattle.obj36_parts.proofs.SizeLaws.{same_is, any_among, any_definition, definition_names-append}
 use Rattle.obj36_parts.proofs.IndexLaws.{names_in_last, looked, or_else, or_nothing, or_something, first_or_else, lookup_last, goes_last, distinct_by_count}
@@ -22,8 +22,8 @@ none_first firsts ds e f = record {
 
 -- ---- one more definition
 
-names_first : (firsts : List (List ℕ × DefFields)) (d : Named) → names_in (with_first firsts d) ≡ with_name (names_in firsts) d.name
-unfolding with_first with_name
+names_first : (firsts : List (List ℕ × DefFields)) (d : Named) → names_in (with_first_definition firsts d) ≡ with_name (names_in firsts) d.name
+unfolding with_first_definition with_name
 names_first firsts d = by (is_some (lookup (same d.name) firsts)) (list_any (same d.name) (names_in firsts)) (looked d.name firsts)
   where
     by : (b c : Bool) → b ≡ c → names_in (cond b firsts (firsts ++ (d.name, d.def) ∷ [])) ≡ cond c (names_in firsts) (names_in firsts ++ d.name ∷ [])
@@ -55,9 +55,9 @@ first_last ds firsts d name are false some =
     ∙ (λ i. or_else (are name i) (cond (nat_list_eq_equiv.symm name d.name i) (Some d.def) None))
     ∙ sym (named_last name ds d)
 
-pub first_more : (ds held all : List Named) (firsts newer : List (List ℕ × DefFields)) (d : Named) → AreFirsts ds firsts → held ≡ ds → all ≡ held ++ d ∷ [] → newer ≡ with_first firsts d
+pub first_more : (ds held all : List Named) (firsts newer : List (List ℕ × DefFields)) (d : Named) → AreFirsts ds firsts → held ≡ ds → all ≡ held ++ d ∷ [] → newer ≡ with_first_definition firsts d
     → AreFirsts all newer
-unfolding with_first with_names definition_names
+unfolding with_first_definition with_names definition_names
 first_more ds held all firsts newer d h e f n =
     let P : List Named → Type 0 = λ xs. AreFirsts xs newer in
     subst P (sym (f ∙ ap (λ (xs : List Named). xs ++ d ∷ []) e)) (record {
@@ -72,13 +72,13 @@ first_more ds held all firsts newer d h e f n =
 
 -- ---- what is put into the map
 
-pub first_kept : (firsts : List (List ℕ × DefFields)) (d : Named) → is_some (lookup (same d.name) firsts) ≡ true → firsts ≡ with_first firsts d
-unfolding with_first
+pub first_kept : (firsts : List (List ℕ × DefFields)) (d : Named) → is_some (lookup (same d.name) firsts) ≡ true → firsts ≡ with_first_definition firsts d
+unfolding with_first_definition
 first_kept firsts d some = sym (ap (λ b. cond b firsts (firsts ++ (d.name, d.def) ∷ [])) some)
 
 pub first_added : (firsts newer : List (List ℕ × DefFields)) (d : Named) (name : List ℕ) → is_some (lookup (same d.name) firsts) ≡ false → name ≡ d.name
-    → newer ≡ insert_entry same firsts name d.def → newer ≡ with_first firsts d
-unfolding with_first
+    → newer ≡ insert_entry same firsts name d.def → newer ≡ with_first_definition firsts d
+unfolding with_first_definition
 first_added firsts newer d name none e f =
     f ∙ ap (λ (n : List ℕ). insert_entry same firsts n d.def) e ∙ goes_last same firsts d.name d.def none
     ∙ sym (ap (λ b. cond b firsts (firsts ++ (d.name, d.def) ∷ [])) none)

@@ -14,9 +14,9 @@ use Rattle.obj36_parts.specs.declared.definition.Named.{Named}
 use Rattle.obj36_parts.specs.declared.section.Section.{Section}
 use Rattle.obj36_parts.specs.declared.section.Section.TheVariants.{Text, Linkage, Symbol, Static}
 use Rattle.obj36_parts.specs.Names.{same, with_name, with_names, names_in}
-use Rattle.obj36_parts.specs.Sections.{place_number}
+use Rattle.obj36_parts.specs.Sections.{section_number}
 use Rattle.obj36_parts.specs.ObjectSegment.{definition_names, link_names, all_link_names, are_distinct}
-use Rattle.obj36_parts.specs.Indexes.{same_link, with_place, AreIndexed}
+use Rattle.obj36_parts.specs.Indexes.{same_link, with_first_index, AreIndexed}
 use Rattle.obj36_parts.proofs.NameTables.{with_names-append, few_with, few_definitions}
 use Rattle.obj36_parts.proofs.SizeLaws.{same_is, same_self, all_link_names-append}
 
@@ -104,7 +104,7 @@ distinct_by_count keys ds e =
 
 -- ---- equality of links
 
-same_section_is : (a b : Section) → eqb (place_number a) (place_number b) ≡ true → a ≡ b
+same_section_is : (a b : Section) → eqb (section_number a) (section_number b) ≡ true → a ≡ b
 same_section_is Text Text e = refl
 same_section_is Text Linkage e = absurd cc
 same_section_is Text Symbol e = absurd cc
@@ -129,7 +129,7 @@ same_link_is a b e =
     let expr = and_parts _ (eqb a.expr b.expr) modifier.0 in
     let entry = and_parts _ (same a.entry b.entry) expr.0 in
     let name = and_parts _ (same a.name b.name) entry.0 in
-    let section = and_parts (eqb a.kind b.kind) (eqb (place_number a.section) (place_number b.section)) name.0 in
+    let section = and_parts (eqb a.kind b.kind) (eqb (section_number a.section) (section_number b.section)) name.0 in
     λ i. record {
       kind = eqb-true a.kind b.kind section.0 i;
       section = same_section_is a.section b.section section.1 i;
@@ -147,7 +147,7 @@ link_self l =
     (and_all _ (eqb l.expr l.expr)
     (and_all _ (same l.entry l.entry)
     (and_all _ (same l.name l.name)
-    (and_all (eqb l.kind l.kind) (eqb (place_number l.section) (place_number l.section)) (eq-eqb l.kind l.kind refl) (eq-eqb (place_number l.section) (place_number l.section) refl))
+    (and_all (eqb l.kind l.kind) (eqb (section_number l.section) (section_number l.section)) (eq-eqb l.kind l.kind refl) (eq-eqb (section_number l.section) (section_number l.section) refl))
     (same_self l.name)) (same_self l.entry)) (eq-eqb l.expr l.expr refl)) (eq-eqb l.modifier l.modifier refl)
 
 -- ---- the first indexes
@@ -242,14 +242,14 @@ module _ (eq : LinkFields → LinkFields → Bool) (same_eq : (a b : LinkFields)
   looked_same : (places : List (LinkFields × ℕ)) (link : LinkFields) → lookup (eq link) places ≡ lookup (same_link link) places
   looked_same places link = λ i. lookup (λ other. same_eq link other i) places
 
-  pub place_kept : (places : List (LinkFields × ℕ)) (link : LinkFields) (place : ℕ) → is_some (lookup (eq link) places) ≡ true → places ≡ with_place places link place
-  unfolding with_place
+  pub place_kept : (places : List (LinkFields × ℕ)) (link : LinkFields) (place : ℕ) → is_some (lookup (eq link) places) ≡ true → places ≡ with_first_index places link place
+  unfolding with_first_index
   place_kept places link place some =
       sym (ap (λ b. cond b places (places ++ (link, place) ∷ [])) (ap is_some (sym (looked_same places link)) ∙ some))
 
   pub place_added : (places newer : List (LinkFields × ℕ)) (link : LinkFields) (place : ℕ) → is_some (lookup (eq link) places) ≡ false
-      → newer ≡ insert_entry eq places link place → newer ≡ with_place places link place
-  unfolding with_place
+      → newer ≡ insert_entry eq places link place → newer ≡ with_first_index places link place
+  unfolding with_first_index
   place_added places newer link place none e =
       e ∙ goes_last eq places link place none
       ∙ sym (ap (λ b. cond b places (places ++ (link, place) ∷ [])) (ap is_some (sym (looked_same places link)) ∙ none))
@@ -267,9 +267,9 @@ none_indexed keys places links e f g = record {
 }
 
 pub indexed_more : (links held all : List LinkFields) (places newer : List (LinkFields × ℕ)) (keys kept new : List (List ℕ)) (link : LinkFields) (place : ℕ)
-    → AreIndexed links places keys → held ≡ links → all ≡ held ++ link ∷ [] → place ≡ length held → newer ≡ with_place places link place
+    → AreIndexed links places keys → held ≡ links → all ≡ held ++ link ∷ [] → place ≡ length held → newer ≡ with_first_index places link place
     → kept ≡ keys → new ≡ with_names kept (link_names link) → AreIndexed all newer new
-unfolding with_place all_link_names
+unfolding with_first_index all_link_names
 indexed_more links held all places newer keys kept new link place h e f p q k n =
     let P : List LinkFields → Type 0 = λ ls. AreIndexed ls newer new in
     let at : place ≡ length links = p ∙ ap length e in

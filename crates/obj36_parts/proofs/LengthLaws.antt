@@ -5,8 +5,8 @@ use Rattle.obj36_parts.specs.Fields.{LinkFields, RelocFields}
 use Rattle.obj36_parts.specs.PartsFields.{PartsFields}
 use Rattle.obj36_parts.specs.declared.definition.Named.{Named}
 use Rattle.obj36_parts.specs.Names.{with_names, all_name_words}
-use Rattle.obj36_parts.specs.ObjectSegment.{is_newer, inner_statics, outer_statics, definition_names, all_link_names, definition_words, expression_words, definition_part, definition_section, head_words, definition_head, first_expression_at, link_words, linkage_part, linkage_section, relocation_words, symbol_part, symbol_section, map_part, map_words, words_of, is_well_formed}
-use Rattle.obj36_parts.specs.Sizes.{names_length, HasShortLists, StaticsPastLinks}
+use Rattle.obj36_parts.specs.ObjectSegment.{is_newer, inner_statics, outer_statics, definition_names, all_link_names, definition_words, expression_words, definition_part, definition_section, head_words, definition_head_words, first_expression_at, link_words, linkage_part, linkage_section, relocation_words, symbol_part, symbol_section, map_part, map_words, words_of, is_well_formed}
+use Rattle.obj36_parts.specs.Sizes.{distinct_names_size, HasShortLists, LinkageEndsAfterLinks}
 use Rattle.obj36_parts.proofs.Formed.{is_formed}
 
 pub length-definition_words : (names : List (List ℕ)) (base : ℕ) (ds : List Named) (at : ℕ) → length (definition_words names base ds at) ≡ 2 * length ds
@@ -19,16 +19,16 @@ unfolding expression_words
 length-expression_words names base [] = refl
 length-expression_words names base (l ∷ ls) = omega (arith, length-expression_words names base ls)
 
-pub length-definition_part : (ds : List Named) (ls : List LinkFields) → length (definition_part ds ls) ≡ 2 + 2 * length ds + 2 * length ls + names_length (definition_names ds ++ all_link_names ls)
-unfolding definition_part names_length
+pub length-definition_part : (ds : List Named) (ls : List LinkFields) → length (definition_part ds ls) ≡ 2 + 2 * length ds + 2 * length ls + distinct_names_size (definition_names ds ++ all_link_names ls)
+unfolding definition_part distinct_names_size
 length-definition_part ds ls =
     let names = with_names [] (definition_names ds ++ all_link_names ls) in
     let base = first_expression_at (length ds) + 2 * length ls in
     omega (
       arith,
-      length-append (definition_words names base ds definition_head ++ expression_words names base ls) (all_name_words names),
-      length-append (definition_words names base ds definition_head) (expression_words names base ls),
-      length-definition_words names base ds definition_head,
+      length-append (definition_words names base ds definition_head_words ++ expression_words names base ls) (all_name_words names),
+      length-append (definition_words names base ds definition_head_words) (expression_words names base ls),
+      length-definition_words names base ds definition_head_words,
       length-expression_words names base ls,
     )
 
@@ -47,7 +47,7 @@ no_inner : (newer : Bool) (statics : List ℕ) → newer ≡ true → length (co
 no_inner true statics e = refl
 no_inner false statics e = absurd (true≢false (sym e))
 
-pub statics_past_links : StaticsPastLinks
+pub statics_past_links : LinkageEndsAfterLinks
 unfolding linkage_section
 statics_past_links p newer =
     omega (
@@ -78,7 +78,7 @@ fixed : (b : Bool) → 11 + cond b 8 7 ≡ cond b 19 18
 fixed true = refl
 fixed false = refl
 
-pub length-words_of : (p : PartsFields) → length (words_of p) ≡ cond (eqb p.version 2) 19 18 + length p.text + length p.statics + length p.relocations + (2 * length p.definitions + 4 * length p.links) + names_length (definition_names p.definitions ++ all_link_names p.links)
+pub length-words_of : (p : PartsFields) → length (words_of p) ≡ cond (eqb p.version 2) 19 18 + length p.text + length p.statics + length p.relocations + (2 * length p.definitions + 4 * length p.links) + distinct_names_size (definition_names p.definitions ++ all_link_names p.links)
 unfolding words_of map_words definition_section linkage_section symbol_section
 length-words_of p =
     let d = definition_section p in
@@ -102,7 +102,7 @@ length-words_of p =
 
 pub size_is : (p : PartsFields) (text statics : List ℕ) (ds : List Named) (ls : List LinkFields) (rs : List RelocFields) (f n : ℕ)
     → text ≡ p.text → statics ≡ p.statics → ds ≡ p.definitions → ls ≡ p.links → rs ≡ p.relocations → f ≡ cond (eqb p.version 2) 19 18
-    → n ≡ names_length (definition_names p.definitions ++ all_link_names p.links)
+    → n ≡ distinct_names_size (definition_names p.definitions ++ all_link_names p.links)
     → f + length text + length statics + length rs + (2 * length ds + 4 * length ls) + n ≡ length (words_of p)
 size_is p text statics ds ls rs f n t s d l r e names =
     omega (arith, length-words_of p, ap length t, ap length s, ap length d, ap length l, ap length r)

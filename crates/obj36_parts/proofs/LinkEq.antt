@@ -3,13 +3,13 @@ use Rattle.std.proofs.Common.{◌≡◌, Bool, true, false, ◌&&◌, eqb, refl,
 use Rattle.obj36_parts.specs.Fields.{LinkFields}
 use Rattle.obj36_parts.specs.declared.section.Section.{Section}
 use Rattle.obj36_parts.specs.declared.section.Section.TheVariants.{Text, Linkage, Symbol, Static}
-use Rattle.obj36_parts.specs.Sections.{place_number}
+use Rattle.obj36_parts.specs.Sections.{section_number}
 use Rattle.obj36_parts.specs.Names.{same}
 use Rattle.obj36_parts.specs.Indexes.{same_link}
 use Rattle.obj36_parts.specs.contracts.link.LinkPartialEq.TheImpl as linkeq
 use Rattle.obj36_parts.specs.contracts.section.SectionPartialEq.TheImpl as sectioneq
 
-same_section : (a b : Section) → (sectioneq.ghosts).eq a b ≡ eqb (place_number a) (place_number b)
+same_section : (a b : Section) → (sectioneq.ghosts).eq a b ≡ eqb (section_number a) (section_number b)
 same_section Text Text = refl
 same_section Text Linkage = refl
 same_section Text Symbol = refl
@@ -45,4 +45,4 @@ pub derived_same : (a b : LinkFields) → (linkeq.ghosts).eq a b ≡ same_link a
 unfolding same_link
 derived_same a b =
     ap (λ s. same a.name b.name && (same a.entry b.entry && (eqb a.expr b.expr && (eqb a.kind b.kind && (s && eqb a.modifier b.modifier))))) (same_section a.section b.section)
-    ∙ turned (same a.name b.name) (same a.entry b.entry) (eqb a.expr b.expr) (eqb a.kind b.kind) (eqb (place_number a.section) (place_number b.section)) (eqb a.modifier b.modifier)
+    ∙ turned (same a.name b.name) (same a.entry b.entry) (eqb a.expr b.expr) (eqb a.kind b.kind) (eqb (section_number a.section) (section_number b.section)) (eqb a.modifier b.modifier)

@@ -4,7 +4,7 @@ use Rattle.std.proofs.lemmas.List.{at_drop_more, at_drop_all, append-nil, length
 use Rattle.std.specs.List.{list_any}
 use Rattle.obj36_parts.specs.Fields.{LinkFields}
 use Rattle.obj36_parts.specs.declared.definition.Named.{Named}
-use Rattle.obj36_parts.specs.Names.{same, with_name, with_names, name_length, name_word, name_words_from, name_words, all_name_words}
+use Rattle.obj36_parts.specs.Names.{same, with_name, with_names, name_size, name_word, name_words_from, name_words, all_name_words}
 use Rattle.obj36_parts.specs.ObjectSegment.{definition_names, link_names, name_used, entry_used, all_link_names, has_name, has_entry}
 
 pub with_names-append : (names xs ys : List (List ℕ)) → with_names names (xs ++ ys) ≡ with_names (with_names names xs) ys
@@ -59,7 +59,7 @@ all_words out total name j count le so_far =
     sym (append-nil out) ∙ ap (λ n. out ++ name_words_from name j n) (sym none) ∙ so_far
 
 pub first_word : (out name : List ℕ) (count : ℕ) → count ≡ length name / 4 + 1 → out ++ name_words_from name 0 (count - 0) ≡ out ++ name_words name
-unfolding name_words name_length
+unfolding name_words name_size
 first_word out name count e = ap (λ n. out ++ name_words_from name 0 n) (let k : count - 0 ≡ length name / 4 + 1 = omega arith in k)
 
 pub name_pushed : (out next total name : List ℕ) (names : List (List ℕ)) (i : ℕ) → i < length names → name ≡ get_or names i name → next ≡ out ++ name_words name

@@ -3,9 +3,9 @@ use Rattle.std.proofs.Common.{ℕ, ◌≡◌, ◌+◌, ◌-◌, ◌^◌, ◌<◌
 use Rattle.std.proofs.lemmas.List.{at_drop_more, at_drop_all, append-nil, length-drop}
 use Rattle.obj36_parts.specs.Fields.{LinkFields, RelocFields}
 use Rattle.obj36_parts.specs.declared.definition.Named.{Named}
-use Rattle.obj36_parts.specs.Halves.{joined}
-use Rattle.obj36_parts.specs.Names.{place_of}
-use Rattle.obj36_parts.specs.ObjectSegment.{place_if_any, class_of, definition_words, subject_of, entry_place, expression_words, link_words, relocation_word, relocation_words}
+use Rattle.obj36_parts.specs.Halves.{word_with_halves}
+use Rattle.obj36_parts.specs.Names.{name_offset}
+use Rattle.obj36_parts.specs.ObjectSegment.{offset_if_any, class_of, definition_words, section_or_name_offset, entry_name_offset, expression_words, link_words, relocation_word, relocation_words}
 
 -- two words and the rest
 two_more : (out next total rest : List ℕ) (a b : ℕ) → next ≡ out ++ a ∷ b ∷ [] → out ++ a ∷ b ∷ rest ≡ total → next ++ rest ≡ total
@@ -17,22 +17,22 @@ one_more out next total rest a e so_far = ap (λ (o : List ℕ). o ++ rest) e �
 -- ---- definitions
 
 definition_step : (names : List (List ℕ)) (base : ℕ) (d : Named) (ds : List Named) (at : ℕ)
-    → definition_words names base (d ∷ ds) at ≡ joined (place_if_any (length ds) (at + 2)) (class_of d.def) ∷ joined d.def.value (place_of d.name names base) ∷ definition_words names base ds (at + 2)
+    → definition_words names base (d ∷ ds) at ≡ word_with_halves (offset_if_any (length ds) (at + 2)) (class_of d.def) ∷ word_with_halves d.def.value (name_offset d.name names base) ∷ definition_words names base ds (at + 2)
 unfolding definition_words
 definition_step names base d ds at = refl
 
 pub definition_more : (names : List (List ℕ)) (base : ℕ) (ds : List Named) (i at place : ℕ) (d : Named) (out next total : List ℕ) → i < length ds → d ≡ get_or ds i d
-    → place ≡ place_if_any (length ds - i - 1) (at + 2)
-    → next ≡ out ++ joined place (class_of d.def) ∷ joined d.def.value (place_of d.name names base) ∷ []
+    → place ≡ offset_if_any (length ds - i - 1) (at + 2)
+    → next ≡ out ++ word_with_halves place (class_of d.def) ∷ word_with_halves d.def.value (name_offset d.name names base) ∷ []
     → out ++ definition_words names base (drop i ds) at ≡ total → next ++ definition_words names base (drop (i + 1) ds) (at + 2) ≡ total
 definition_more names base ds i at place d out next total lt is p e so_far =
     let rest = drop (i + 1) ds in
     let left : length ds - i - 1 ≡ length rest = omega (arith, length-drop (i + 1) ds) in
-    let spelled : definition_words names base (drop i ds) at ≡ joined place (class_of d.def) ∷ joined d.def.value (place_of d.name names base) ∷ definition_words names base rest (at + 2) =
+    let spelled : definition_words names base (drop i ds) at ≡ word_with_halves place (class_of d.def) ∷ word_with_halves d.def.value (name_offset d.name names base) ∷ definition_words names base rest (at + 2) =
     at_drop_more (λ (xs : List Named). definition_words names base xs at) ds i d lt ∙ ap (λ (x : Named). definition_words names base (x ∷ rest) at) (sym is) ∙ definition_step names base d rest at
-    ∙ ap (λ n. joined n (class_of d.def) ∷ joined d.def.value (place_of d.name names base) ∷ definition_words names base rest (at + 2)) (ap (λ n. place_if_any n (at + 2)) (sym left) ∙ sym p)
+    ∙ ap (λ n. word_with_halves n (class_of d.def) ∷ word_with_halves d.def.value (name_offset d.name names base) ∷ definition_words names base rest (at + 2)) (ap (λ n. offset_if_any n (at + 2)) (sym left) ∙ sym p)
     in
-    two_more out next total (definition_words names base rest (at + 2)) (joined place (class_of d.def)) (joined d.def.value (place_of d.name names base)) e
+    two_more out next total (definition_words names base rest (at + 2)) (word_with_halves place (class_of d.def)) (word_with_halves d.def.value (name_offset d.name names base)) e
     (ap (λ (ws : List ℕ). out ++ ws) (sym spelled) ∙ so_far)
 
 pub definitions_done : (names : List (List ℕ)) (base : ℕ) (ds : List Named) (i at : ℕ) (out total : List ℕ) → length ds ≤ i → out ++ definition_words names base (drop i ds) at ≡ total → out ≡ total
@@ -42,19 +42,19 @@ definitions_done names base ds i at out total le so_far = sym (append-nil out) �
 -- ---- expressions
 
 expression_step : (names : List (List ℕ)) (base : ℕ) (l : LinkFields) (ls : List LinkFields)
-    → expression_words names base (l ∷ ls) ≡ joined l.kind (subject_of names base l) ∷ joined (entry_place names base l) l.expr ∷ expression_words names base ls
+    → expression_words names base (l ∷ ls) ≡ word_with_halves l.kind (section_or_name_offset names base l) ∷ word_with_halves (entry_name_offset names base l) l.expr ∷ expression_words names base ls
 unfolding expression_words
 expression_step names base l ls = refl
 
 pub expression_more : (names : List (List ℕ)) (base : ℕ) (ls : List LinkFields) (i : ℕ) (l : LinkFields) (out next total : List ℕ) → i < length ls → l ≡ get_or ls i l
-    → next ≡ out ++ joined l.kind (subject_of names base l) ∷ joined (entry_place names base l) l.expr ∷ []
+    → next ≡ out ++ word_with_halves l.kind (section_or_name_offset names base l) ∷ word_with_halves (entry_name_offset names base l) l.expr ∷ []
     → out ++ expression_words names base (drop i ls) ≡ total → next ++ expression_words names base (drop (i + 1) ls) ≡ total
 expression_more names base ls i l out next total lt is e so_far =
     let rest = drop (i + 1) ls in
-    let spelled : expression_words names base (drop i ls) ≡ joined l.kind (subject_of names base l) ∷ joined (entry_place names base l) l.expr ∷ expression_words names base rest =
+    let spelled : expression_words names base (drop i ls) ≡ word_with_halves l.kind (section_or_name_offset names base l) ∷ word_with_halves (entry_name_offset names base l) l.expr ∷ expression_words names base rest =
     at_drop_more (λ (xs : List LinkFields). expression_words names base xs) ls i l lt ∙ ap (λ (x : LinkFields). expression_words names base (x ∷ rest)) (sym is) ∙ expression_step names base l rest
     in
-    two_more out next total (expression_words names base rest) (joined l.kind (subject_of names base l)) (joined (entry_place names base l) l.expr) e
+    two_more out next total (expression_words names base rest) (word_with_halves l.kind (section_or_name_offset names base l)) (word_with_halves (entry_name_offset names base l) l.expr) e
     (ap (λ (ws : List ℕ). out ++ ws) (sym spelled) ∙ so_far)
 
 pub expressions_done : (names : List (List ℕ)) (base : ℕ) (ls : List LinkFields) (i : ℕ) (out total : List ℕ) → length ls ≤ i → out ++ expression_words names base (drop i ls) ≡ total → out ≡ total
@@ -63,19 +63,19 @@ expressions_done names base ls i out total le so_far = sym (append-nil out) ∙ 
 
 -- ---- links
 
-link_step : (l : LinkFields) (ls : List LinkFields) (at expression : ℕ) → link_words (l ∷ ls) at expression ≡ joined (2 ^ 18 - at) 38 ∷ joined expression l.modifier ∷ link_words ls (at + 2) (expression + 2)
+link_step : (l : LinkFields) (ls : List LinkFields) (at expression : ℕ) → link_words (l ∷ ls) at expression ≡ word_with_halves (2 ^ 18 - at) 38 ∷ word_with_halves expression l.modifier ∷ link_words ls (at + 2) (expression + 2)
 unfolding link_words
 link_step l ls at expression = refl
 
 pub link_more : (ls : List LinkFields) (i at expression : ℕ) (l : LinkFields) (out next total : List ℕ) → i < length ls → l ≡ get_or ls i l
-    → next ≡ out ++ joined (2 ^ 18 - at) 38 ∷ joined expression l.modifier ∷ []
+    → next ≡ out ++ word_with_halves (2 ^ 18 - at) 38 ∷ word_with_halves expression l.modifier ∷ []
     → out ++ link_words (drop i ls) at expression ≡ total → next ++ link_words (drop (i + 1) ls) (at + 2) (expression + 2) ≡ total
 link_more ls i at expression l out next total lt is e so_far =
     let rest = drop (i + 1) ls in
-    let spelled : link_words (drop i ls) at expression ≡ joined (2 ^ 18 - at) 38 ∷ joined expression l.modifier ∷ link_words rest (at + 2) (expression + 2) =
+    let spelled : link_words (drop i ls) at expression ≡ word_with_halves (2 ^ 18 - at) 38 ∷ word_with_halves expression l.modifier ∷ link_words rest (at + 2) (expression + 2) =
     at_drop_more (λ (xs : List LinkFields). link_words xs at expression) ls i l lt ∙ ap (λ (x : LinkFields). link_words (x ∷ rest) at expression) (sym is) ∙ link_step l rest at expression
     in
-    two_more out next total (link_words rest (at + 2) (expression + 2)) (joined (2 ^ 18 - at) 38) (joined expression l.modifier) e
+    two_more out next total (link_words rest (at + 2) (expression + 2)) (word_with_halves (2 ^ 18 - at) 38) (word_with_halves expression l.modifier) e
     (ap (λ (ws : List ℕ). out ++ ws) (sym spelled) ∙ so_far)
 
 pub links_done : (ls : List LinkFields) (i at expression : ℕ) (out total : List ℕ) → length ls ≤ i → out ++ link_words (drop i ls) at expression ≡ total → out ≡ total

@@ -6,9 +6,9 @@ use Rattle.std.proofs.lemmas.List.{length-append}
 use Rattle.std.proofs.lemmas.List.Folds.{list_any-append}
 use Rattle.obj36_parts.specs.Fields.{LinkFields}
 use Rattle.obj36_parts.specs.declared.definition.Named.{Named}
-use Rattle.obj36_parts.specs.Names.{same, with_name, with_names, name_length, name_words_from, name_words, all_name_words}
+use Rattle.obj36_parts.specs.Names.{same, with_name, with_names, name_size, name_words_from, name_words, all_name_words}
 use Rattle.obj36_parts.specs.ObjectSegment.{definition_names, link_names, all_link_names}
-use Rattle.obj36_parts.specs.Sizes.{names_length, all_length, other_length, others_length}
+use Rattle.obj36_parts.specs.Sizes.{distinct_names_size, total_names_size, undefined_name_size, undefined_names_size}
 use Rattle.obj36_parts.proofs.NameTables.{with_names-append}
 
 -- ---- names that are the same
@@ -69,17 +69,17 @@ unfolding name_words_from
 words_from_length name j zero = refl
 words_from_length name j (suc count) = ap suc (words_from_length name (suc j) count)
 
-pub length-name_words : (name : List ℕ) → length (name_words name) ≡ name_length name
+pub length-name_words : (name : List ℕ) → length (name_words name) ≡ name_size name
 unfolding name_words
-length-name_words name = words_from_length name 0 (name_length name)
+length-name_words name = words_from_length name 0 (name_size name)
 
-pub all_words_last : (names : List (List ℕ)) (name : List ℕ) → length (all_name_words (names ++ name ∷ [])) ≡ length (all_name_words names) + name_length name
+pub all_words_last : (names : List (List ℕ)) (name : List ℕ) → length (all_name_words (names ++ name ∷ [])) ≡ length (all_name_words names) + name_size name
 unfolding all_name_words
 all_words_last [] name = omega (arith, length-append (name_words name) [], length-name_words name)
 all_words_last (first ∷ names) name =
     omega (arith, length-append (name_words first) (all_name_words (names ++ name ∷ [])), length-append (name_words first) (all_name_words names), all_words_last names name)
 
-added_by : (names : List (List ℕ)) (x : List ℕ) (b : Bool) → length (all_name_words (cond b names (names ++ x ∷ []))) ≡ length (all_name_words names) + cond b 0 (name_length x)
+added_by : (names : List (List ℕ)) (x : List ℕ) (b : Bool) → length (all_name_words (cond b names (names ++ x ∷ []))) ≡ length (all_name_words names) + cond b 0 (name_size x)
 added_by names x true = omega arith
 added_by names x false = all_words_last names x
 
@@ -96,8 +96,8 @@ all_link_names-append [] ys = refl
 all_link_names-append (x ∷ xs) ys = ap (λ (ns : List (List ℕ)). link_names x ++ ns) (all_link_names-append xs ys) ∙ sym (append_assoc (link_names x) (all_link_names xs) (all_link_names ys))
 
 -- the words of names, one name after another
-all_length_is : (names : List (List ℕ)) → length (all_name_words names) ≡ all_length names
-unfolding all_name_words all_length
+all_length_is : (names : List (List ℕ)) → length (all_name_words names) ≡ total_names_size names
+unfolding all_name_words total_names_size
 all_length_is [] = refl
 all_length_is (name ∷ names) =
     omega (arith, length-append (name_words name) (all_name_words names), length-name_words name, all_length_is names)
@@ -107,13 +107,13 @@ named : List Named → List ℕ → Bool
 named ds x = list_any (λ d. same x d.name) ds
 
 others_last : (ds : List Named) (names : List (List ℕ)) (x : List ℕ)
-    → others_length ds (names ++ x ∷ []) ≡ others_length ds names + cond (named ds x) 0 (name_length x)
-unfolding others_length other_length named
+    → undefined_names_size ds (names ++ x ∷ []) ≡ undefined_names_size ds names + cond (named ds x) 0 (name_size x)
+unfolding undefined_names_size undefined_name_size named
 others_last ds [] x = omega arith
 others_last ds (name ∷ names) x = omega (arith, others_last ds names x)
 
 others_by : (ds : List Named) (names : List (List ℕ)) (x : List ℕ) (b : Bool)
-    → others_length ds (cond b names (names ++ x ∷ [])) ≡ others_length ds names + cond b 0 (cond (named ds x) 0 (name_length x))
+    → undefined_names_size ds (cond b names (names ++ x ∷ [])) ≡ undefined_names_size ds names + cond b 0 (cond (named ds x) 0 (name_size x))
 others_by ds names x true = omega arith
 others_by ds names x false = others_last ds names x
 
@@ -125,21 +125,21 @@ neither false c n = refl
 -- The names of the table are those of the definitions and those that only links use.
 record Beside (ds : List Named) (alone all : List (List ℕ)) : Type 0 where
   among : (x : List ℕ) → list_any (same x) all ≡ (named ds x || list_any (same x) alone)
-  long : length (all_name_words all) ≡ all_length (with_names [] (definition_names ds)) + others_length ds alone
+  long : length (all_name_words all) ≡ total_names_size (with_names [] (definition_names ds)) + undefined_names_size ds alone
 
 beside_none : (ds : List Named) → Beside ds [] (with_names [] (definition_names ds))
-unfolding others_length named
+unfolding undefined_names_size named
 beside_none ds = record {
   among = λ x. any_among x [] (definition_names ds) ∙ sym (any_definition x ds) ∙ sym (or_none (named ds x));
   long = omega (arith, all_length_is (with_names [] (definition_names ds)));
 }
 
 longer : (ds : List Named) (alone all : List (List ℕ)) (x : List ℕ) (b c : Bool) (a : ℕ) → b ≡ (named ds x || c)
-    → length (all_name_words all) ≡ a + others_length ds alone
-    → length (all_name_words (cond b all (all ++ x ∷ []))) ≡ a + others_length ds (cond c alone (alone ++ x ∷ []))
+    → length (all_name_words all) ≡ a + undefined_names_size ds alone
+    → length (all_name_words (cond b all (all ++ x ∷ []))) ≡ a + undefined_names_size ds (cond c alone (alone ++ x ∷ []))
 longer ds alone all x b c a e long =
-    let same_words : cond b 0 (name_length x) ≡ cond c 0 (cond (named ds x) 0 (name_length x)) =
-    ap (λ v. cond v 0 (name_length x)) e ∙ neither (named ds x) c (name_length x) in
+    let same_words : cond b 0 (name_size x) ≡ cond c 0 (cond (named ds x) 0 (name_size x)) =
+    ap (λ v. cond v 0 (name_size x)) e ∙ neither (named ds x) c (name_size x) in
     omega (arith, added_by all x b, others_by ds alone x c)
 
 beside_one : (ds : List Named) (alone all : List (List ℕ)) (x : List ℕ) → Beside ds alone all → Beside ds (with_name alone x) (with_name all x)
@@ -148,7 +148,7 @@ beside_one ds alone all x h = record {
   among = λ y.
       any_with y x all ∙ ap (λ b. b || same y x) (h.among y) ∙ or_assoc (named ds y) (list_any (same y) alone) (same y x)
       ∙ ap (λ b. named ds y || b) (sym (any_with y x alone));
-  long = longer ds alone all x (list_any (same x) all) (list_any (same x) alone) (all_length (with_names [] (definition_names ds))) (h.among x) h.long;
+  long = longer ds alone all x (list_any (same x) all) (list_any (same x) alone) (total_names_size (with_names [] (definition_names ds))) (h.among x) h.long;
 }
 
 beside_all : (ds : List Named) (alone all xs : List (List ℕ)) → Beside ds alone all → Beside ds (with_names alone xs) (with_names all xs)
@@ -157,14 +157,14 @@ beside_all ds alone all [] h = h
 beside_all ds alone all (x ∷ xs) h = beside_all ds (with_name alone x) (with_name all x) xs (beside_one ds alone all x h)
 
 pub length_of_both : (ds : List Named) (ls : List LinkFields)
-    → names_length (definition_names ds ++ all_link_names ls) ≡ all_length (with_names [] (definition_names ds)) + others_length ds (with_names [] (all_link_names ls))
-unfolding names_length
+    → distinct_names_size (definition_names ds ++ all_link_names ls) ≡ total_names_size (with_names [] (definition_names ds)) + undefined_names_size ds (with_names [] (all_link_names ls))
+unfolding distinct_names_size
 length_of_both ds ls =
     ap (λ (ns : List (List ℕ)). length (all_name_words ns)) (with_names-append [] (definition_names ds) (all_link_names ls))
     ∙ (beside_all ds [] (with_names [] (definition_names ds)) (all_link_names ls) (beside_none ds)).long
 
 pub length_told : (ds : List Named) (ls : List LinkFields) (own others : List (List ℕ)) (n m : ℕ)
-    → own ≡ with_names [] (definition_names ds) → others ≡ with_names [] (all_link_names ls) → n ≡ all_length own → m ≡ others_length ds others
-    → n + m ≡ names_length (definition_names ds ++ all_link_names ls)
+    → own ≡ with_names [] (definition_names ds) → others ≡ with_names [] (all_link_names ls) → n ≡ total_names_size own → m ≡ undefined_names_size ds others
+    → n + m ≡ distinct_names_size (definition_names ds ++ all_link_names ls)
 length_told ds ls own others n m e f g h =
-    omega (arith, length_of_both ds ls, g ∙ ap all_length e, h ∙ ap (λ (ns : List (List ℕ)). others_length ds ns) f)
+    omega (arith, length_of_both ds ls, g ∙ ap total_names_size e, h ∙ ap (λ (ns : List (List ℕ)). undefined_names_size ds ns) f)

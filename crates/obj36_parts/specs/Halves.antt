@@ -10,12 +10,12 @@ unfoldable pub right : ℕ → ℕ
 right w = w % 2 ^ 18
 
 -- bits 3 to 17, which can hold the offset after the number of a pointer register
-unfoldable pub offset_in : ℕ → ℕ
-offset_in w = left w % 2 ^ 15
+unfoldable pub bits_3_to_17 : ℕ → ℕ
+bits_3_to_17 w = left w % 2 ^ 15
 
 -- the word with these halves; of each number the low 18 bits are used
-unfoldable pub joined : ℕ → ℕ → ℕ
-joined l r = l % 2 ^ 18 * 2 ^ 18 + r % 2 ^ 18
+unfoldable pub word_with_halves : ℕ → ℕ → ℕ
+word_with_halves l r = l % 2 ^ 18 * 2 ^ 18 + r % 2 ^ 18
 
 -- quarter 0 to 3 of a word, nine bits each; quarter 0 is the leftmost
 unfoldable pub quarter : ℕ → ℕ → ℕ

@@ -2,7 +2,7 @@
 use Rattle.std.specs.Prelude.{ℕ, ◌≡◌, ◌+◌, ◌*◌, ◌^◌, Bool, ◌&&◌, nat_eq, List, [], position, is_some}
 use Rattle.std.specs.List.{list_any}
 use Rattle.std.specs.Map.{lookup}
-use Rattle.m36_text.specs.Once.{with_unless}
+use Rattle.m36_text.specs.Once.{appended_unless}
 use Rattle.obj36_parts.specs.Fields.{DefFields, LinkFields}
 use Rattle.obj36_parts.specs.declared.definition.Named.{Named}
 use Rattle.obj36_parts.specs.Names.{same, with_names, names_in}
@@ -12,8 +12,8 @@ use Rattle.obj36_parts.specs.ObjectSegment.{definition_named}
 
 -- the table of the first definition of each name, after one more definition, which is added unless
 -- the table has its name
-unfoldable pub with_first : List (List ℕ × DefFields) → Named → List (List ℕ × DefFields)
-with_first firsts d = with_unless (is_some (lookup (same d.name) firsts)) firsts (d.name, d.def)
+unfoldable pub with_first_definition : List (List ℕ × DefFields) → Named → List (List ℕ × DefFields)
+with_first_definition firsts d = appended_unless (is_some (lookup (same d.name) firsts)) firsts (d.name, d.def)
 
 -- The table has each name of the definitions once, with the place of its first definition.
 pub record AreFirsts (definitions : List Named) (firsts : List (List ℕ × DefFields)) : Type 0 where
@@ -21,8 +21,8 @@ pub record AreFirsts (definitions : List Named) (firsts : List (List ℕ × DefF
   pub firsts_are : (name : List ℕ) → lookup (same name) firsts ≡ definition_named name definitions
 
 -- all fields of a link but its names, as one number for its hash
-abbrev pub link_number : LinkFields → ℕ
-link_number l = l.expr + 2 ^ 18 * l.modifier + 2 ^ 24 * l.kind + 2 ^ 32 * class_number l.section
+abbrev pub link_hash_number : LinkFields → ℕ
+link_hash_number l = l.expr + 2 ^ 18 * l.modifier + 2 ^ 24 * l.kind + 2 ^ 32 * class_number l.section
 
 -- whether two links are equal in all fields
 unfoldable pub same_link : LinkFields → LinkFields → Bool
@@ -37,9 +37,9 @@ has_link link links = list_any (same_link link) links
 
 -- the table of the first index of each link, after one more link at the index `place`, which is
 -- added unless the table has it
-unfoldable pub with_place : List (LinkFields × ℕ) → LinkFields → ℕ → List (LinkFields × ℕ)
-with_place places link place =
-    with_unless (is_some (lookup (same_link link) places)) places (link, place)
+unfoldable pub with_first_index : List (LinkFields × ℕ) → LinkFields → ℕ → List (LinkFields × ℕ)
+with_first_index places link place =
+    appended_unless (is_some (lookup (same_link link) places)) places (link, place)
 
 -- The tables have the first index of each link, and the names that the links use.
 pub record AreIndexed (links : List LinkFields) (places : List (LinkFields × ℕ))

@@ -7,9 +7,9 @@ use Rattle.std.specs.List.{list_any, list_all}
 use Rattle.m36_text.specs.Once.{are_distinct_by}
 use Rattle.obj36_parts.specs.Fields.{DefFields, LinkFields, RelocFields}
 use Rattle.obj36_parts.specs.PartsFields.{PartsFields}
-use Rattle.obj36_parts.specs.Halves.{left, right, offset_in, joined}
-use Rattle.obj36_parts.specs.Names.{same, is_name, with_names, place_of, all_name_words}
-use Rattle.obj36_parts.specs.Sections.{class_number, entry_mark, place_number}
+use Rattle.obj36_parts.specs.Halves.{left, right, bits_3_to_17, word_with_halves}
+use Rattle.obj36_parts.specs.Names.{same, is_name, with_names, name_offset, all_name_words}
+use Rattle.obj36_parts.specs.Sections.{class_number, entry_mark, section_number}
 use Rattle.obj36_parts.specs.declared.section.Section.{Section}
 use Rattle.obj36_parts.specs.declared.section.Section.TheVariants.{Text, Linkage, Symbol, Static}
 use Rattle.obj36_parts.specs.declared.definition.Named.{Named}
@@ -49,16 +49,16 @@ abbrev pub head_words : ℕ
 head_words = 8
 
 -- the number of words of the head of a definition section
-abbrev pub definition_head : ℕ
-definition_head = 2
+abbrev pub definition_head_words : ℕ
+definition_head_words = 2
 
 -- the number of words of the head of a symbol section
-abbrev pub symbol_head : ℕ
-symbol_head = 1
+abbrev pub symbol_head_words : ℕ
+symbol_head_words = 1
 
 -- the offset of the first expression of a link, after the head and the definitions
 abbrev pub first_expression_at : ℕ → ℕ
-first_expression_at definitions = definition_head + 2 * definitions
+first_expression_at definitions = definition_head_words + 2 * definitions
 
 -- the type of a link to a section of the own object
 abbrev pub to_section : ℕ
@@ -89,9 +89,9 @@ abbrev pub has_section : ℕ → Bool
 has_section kind = nat_eq kind to_section || nat_eq kind to_own_entry
 
 -- an offset, or 0 if the count is 0
-unfoldable pub place_if_any : ℕ → ℕ → ℕ
-place_if_any zero at = 0
-place_if_any (suc count) at = at
+unfoldable pub offset_if_any : ℕ → ℕ → ℕ
+offset_if_any zero at = 0
+offset_if_any (suc count) at = at
 
 -- ---- the definition section
 
@@ -127,25 +127,25 @@ class_of d = class_number d.section + (if d.is_entry then entry_mark else 0)
 unfoldable pub definition_words : List (List ℕ) → ℕ → List Named → ℕ → List ℕ
 definition_words names base [] at = []
 definition_words names base (d ∷ ds) at =
-    joined (place_if_any (length ds) (at + 2)) (class_of d.def)
-    ∷ joined d.def.value (place_of d.name names base)
+    word_with_halves (offset_if_any (length ds) (at + 2)) (class_of d.def)
+    ∷ word_with_halves d.def.value (name_offset d.name names base)
     ∷ definition_words names base ds (at + 2)
 
 -- the right half of the first word of an expression: the section, or the offset of the name
-unfoldable pub subject_of : List (List ℕ) → ℕ → LinkFields → ℕ
-subject_of names base l =
-    if has_name l.kind then place_of l.name names base else place_number l.section
+unfoldable pub section_or_name_offset : List (List ℕ) → ℕ → LinkFields → ℕ
+section_or_name_offset names base l =
+    if has_name l.kind then name_offset l.name names base else section_number l.section
 
 -- the offset of the name of the entry of a link; 0 if it has none
-unfoldable pub entry_place : List (List ℕ) → ℕ → LinkFields → ℕ
-entry_place names base l = if has_entry l.kind then place_of l.entry names base else 0
+unfoldable pub entry_name_offset : List (List ℕ) → ℕ → LinkFields → ℕ
+entry_name_offset names base l = if has_entry l.kind then name_offset l.entry names base else 0
 
 -- The expressions of links, two words each: the type, the section or the offset of the name; the
 -- offset of the entry, and the number that is added.
 unfoldable pub expression_words : List (List ℕ) → ℕ → List LinkFields → List ℕ
 expression_words names base [] = []
 expression_words names base (l ∷ ls) =
-    joined l.kind (subject_of names base l) ∷ joined (entry_place names base l) l.expr
+    word_with_halves l.kind (section_or_name_offset names base l) ∷ word_with_halves (entry_name_offset names base l) l.expr
     ∷ expression_words names base ls
 
 -- the words of a definition section: its head, the definitions, the expressions of the links, and
@@ -155,9 +155,9 @@ definition_part ds ls =
     let names = with_names [] (definition_names ds ++ all_link_names ls) in
     let expressions = first_expression_at (length ds) in
     let base = expressions + 2 * length ls in
-    joined (place_if_any (length ds) definition_head) (length ds)
-    ∷ joined (place_if_any (length ls) expressions) (length ls)
-    ∷ definition_words names base ds definition_head
+    word_with_halves (offset_if_any (length ds) definition_head_words) (length ds)
+    ∷ word_with_halves (offset_if_any (length ls) expressions) (length ls)
+    ∷ definition_words names base ds definition_head_words
     ++ expression_words names base ls
     ++ all_name_words names
 
@@ -170,7 +170,7 @@ definition_section p = definition_part p.definitions p.links
 -- the first word of a link that is not snapped: 2^18 minus its offset, with tag 46 (octal), which
 -- is fault tag 2
 abbrev pub link_head : ℕ → ℕ
-link_head at = joined (2 ^ 18 - at) 0o46
+link_head at = word_with_halves (2 ^ 18 - at) 0o46
 
 -- The pointer register of references to links. It points to the linkage section of the segment that
 -- is executed.
@@ -182,19 +182,19 @@ linkage_register = 4
 unfoldable pub link_words : List LinkFields → ℕ → ℕ → List ℕ
 link_words [] at expression = []
 link_words (l ∷ ls) at expression =
-    link_head at ∷ joined expression l.modifier ∷ link_words ls (at + 2) (expression + 2)
+    link_head at ∷ word_with_halves expression l.modifier ∷ link_words ls (at + 2) (expression + 2)
 
 -- the offset of the first link after this many static words in the linkage section
 abbrev pub first_link_at : ℕ → ℕ
 first_link_at statics = head_words + statics
 
 -- the offset of the first link by the version; in the newer one no static words are before it
-abbrev pub first_link_by : Bool → ℕ → ℕ
-first_link_by newer statics = if newer then head_words else first_link_at statics
+abbrev pub first_link_in_version : Bool → ℕ → ℕ
+first_link_in_version newer statics = if newer then head_words else first_link_at statics
 
 -- the offset of link i, counted from 0, if the first one is at `first`
-abbrev pub word_of_link : ℕ → ℕ → ℕ
-word_of_link first i = first + 2 * i
+abbrev pub link_offset : ℕ → ℕ → ℕ
+link_offset first i = first + 2 * i
 
 -- the number of words of a linkage section with this many static words and links
 abbrev pub linkage_length : ℕ → ℕ → ℕ
@@ -204,7 +204,7 @@ linkage_length statics links = first_link_at statics + 2 * links
 -- begin at the offset `expressions` of the definition section
 unfoldable pub linkage_part : List ℕ → List LinkFields → ℕ → List ℕ
 linkage_part statics ls expressions =
-    0 ∷ joined (first_link_at (length statics)) (length ls) ∷ 0 ∷ 0 ∷ 0 ∷ 0 ∷ 0 ∷ 0 ∷ statics
+    0 ∷ word_with_halves (first_link_at (length statics)) (length ls) ∷ 0 ∷ 0 ∷ 0 ∷ 0 ∷ 0 ∷ 0 ∷ statics
     ++ link_words ls (first_link_at (length statics)) expressions
 
 -- the words of the linkage section of the object of these parts
@@ -235,7 +235,7 @@ unfoldable pub part_of : ℕ → ℕ → ℕ
 part_of part w =
     if nat_eq part left_part then left w
     else if nat_eq part right_part then right w
-    else offset_in w
+    else bits_3_to_17 w
 
 -- The unit of the section in the right half of a relocation: its number is multiplied by this. The
 -- section, the part and the target have three bits each.
@@ -253,9 +253,9 @@ target_unit = 2 ^ 9
 -- the word of a relocation
 unfoldable pub relocation_word : RelocFields → ℕ
 relocation_word r =
-    joined r.offset
-    (place_number r.section * section_unit + r.part * part_unit
-    + place_number r.target * target_unit)
+    word_with_halves r.offset
+    (section_number r.section * section_unit + r.part * part_unit
+    + section_number r.target * target_unit)
 
 -- the words of relocations, in order
 unfoldable pub relocation_words : List RelocFields → List ℕ
@@ -264,7 +264,7 @@ relocation_words (r ∷ rs) = relocation_word r ∷ relocation_words rs
 
 -- the words of a symbol section: the number of relocations, then the relocations
 unfoldable pub symbol_part : List RelocFields → List ℕ
-symbol_part rs = joined 0 (length rs) ∷ relocation_words rs
+symbol_part rs = word_with_halves 0 (length rs) ∷ relocation_words rs
 
 -- the words of the symbol section of the object of these parts
 unfoldable pub symbol_section : PartsFields → List ℕ
@@ -293,14 +293,14 @@ map_at text definition linkage statics symbol =
 -- entry bound. After it comes the last word, with the offset of the map.
 unfoldable pub map_part : Bool → ℕ → ℕ → ℕ → ℕ → ℕ → ℕ → List ℕ
 map_part newer text definition linkage statics symbol bound =
-    joined 0 (version_of newer)
-    ∷ joined 0 text
-    ∷ joined text definition
-    ∷ joined (linkage_at text definition) linkage
-    ∷ (if newer then joined (statics_at text definition linkage) statics ∷ [] else [])
-    ++ joined (symbol_at text definition linkage statics) symbol
-    ∷ joined bound 0
-    ∷ joined (map_at text definition linkage statics symbol) 0
+    word_with_halves 0 (version_of newer)
+    ∷ word_with_halves 0 text
+    ∷ word_with_halves text definition
+    ∷ word_with_halves (linkage_at text definition) linkage
+    ∷ (if newer then word_with_halves (statics_at text definition linkage) statics ∷ [] else [])
+    ++ word_with_halves (symbol_at text definition linkage statics) symbol
+    ∷ word_with_halves bound 0
+    ∷ word_with_halves (map_at text definition linkage statics symbol) 0
     ∷ []
 
 -- the map of the object of these parts, with the last word
@@ -348,59 +348,59 @@ unfoldable pub are_distinct : List (List ℕ) → Bool
 are_distinct names = are_distinct_by same names
 
 -- the greatest class of a definition, without the mark of an entry, in an object of this version
-abbrev pub last_class : ℕ → ℕ
-last_class version =
+abbrev pub greatest_class_number : ℕ → ℕ
+greatest_class_number version =
     if is_newer_version version then class_number Static else class_number Symbol
 
 -- the greatest number of a section in links and relocations of an object of this version
-abbrev pub last_place : ℕ → ℕ
-last_place version =
-    if is_newer_version version then place_number Static else place_number Linkage
+abbrev pub last_section_number : ℕ → ℕ
+last_section_number version =
+    if is_newer_version version then section_number Static else section_number Linkage
 
 -- whether an object of this version can have a definition
-unfoldable pub is_definition : ℕ → Named → Bool
-is_definition version d =
+unfoldable pub is_valid_definition : ℕ → Named → Bool
+is_valid_definition version d =
     is_name d.name && nat_lt d.def.value (2 ^ 18)
-    && nat_le (class_number d.def.section) (last_class version)
+    && nat_le (class_number d.def.section) (greatest_class_number version)
 
 -- Whether a link of this version can have this section. `used` says whether its type uses one;
 -- otherwise it is the text.
-abbrev pub is_section_where : Bool → ℕ → Section → Bool
-is_section_where used version section =
-    nat_le (place_number section) (if used then last_place version else 0)
+abbrev pub is_valid_link_section : Bool → ℕ → Section → Bool
+is_valid_link_section used version section =
+    nat_le (section_number section) (if used then last_section_number version else 0)
 
 -- Whether a link can have this name. `used` says whether its type uses one; otherwise it is empty.
-abbrev pub is_name_where : Bool → List ℕ → Bool
-is_name_where used name = if used then is_name name else nat_eq (length name) 0
+abbrev pub is_valid_link_name : Bool → List ℕ → Bool
+is_valid_link_name used name = if used then is_name name else nat_eq (length name) 0
 
 -- whether an object of this version can have a link
-unfoldable pub is_link : ℕ → LinkFields → Bool
-is_link version l =
+unfoldable pub is_valid_link : ℕ → LinkFields → Bool
+is_valid_link version l =
     (has_name l.kind || has_section l.kind)
-    && is_section_where (has_section l.kind) version l.section
-    && is_name_where (has_name l.kind) l.name
-    && is_name_where (has_entry l.kind) l.entry
+    && is_valid_link_section (has_section l.kind) version l.section
+    && is_valid_link_name (has_name l.kind) l.name
+    && is_valid_link_name (has_entry l.kind) l.entry
     && nat_lt l.expr (2 ^ 18)
     && nat_lt l.modifier (2 ^ 6)
 
 -- Whether the offset of a relocation is that of a word of the text or of a static word. `text`,
 -- `inner` and `outer` are the numbers of these words.
-unfoldable pub is_place : ℕ → ℕ → ℕ → Section → ℕ → Bool
-is_place text inner outer Text offset = nat_lt offset text
-is_place text inner outer Linkage offset =
+unfoldable pub is_relocatable : ℕ → ℕ → ℕ → Section → ℕ → Bool
+is_relocatable text inner outer Text offset = nat_lt offset text
+is_relocatable text inner outer Linkage offset =
     nat_le head_words offset && nat_lt offset (first_link_at inner)
-is_place text inner outer Static offset = nat_lt offset outer
-is_place text inner outer Symbol offset = false
+is_relocatable text inner outer Static offset = nat_lt offset outer
+is_relocatable text inner outer Symbol offset = false
 
 -- whether an object with these numbers of words can have a relocation
-unfoldable pub is_relocation : ℕ → ℕ → ℕ → ℕ → RelocFields → Bool
-is_relocation text inner outer version r =
-    is_place text inner outer r.section r.offset && nat_lt r.offset (2 ^ 18)
-    && nat_le r.part offset_part && nat_le (place_number r.target) (last_place version)
+unfoldable pub is_valid_relocation : ℕ → ℕ → ℕ → ℕ → RelocFields → Bool
+is_valid_relocation text inner outer version r =
+    is_relocatable text inner outer r.section r.offset && nat_lt r.offset (2 ^ 18)
+    && nat_le r.part offset_part && nat_le (section_number r.target) (last_section_number version)
 
 -- the number by which relocations are ordered
 unfoldable pub order_of : RelocFields → ℕ
-order_of r = (place_number r.section * 2 ^ 18 + r.offset) * 4 + r.part
+order_of r = (section_number r.section * 2 ^ 18 + r.offset) * 4 + r.part
 
 -- Whether relocations are in strictly rising order, from `least` on, and none has the order number
 -- `barred`. A relocation of the left half of a word bars that of its bits 3 to 17, since the two
@@ -424,11 +424,11 @@ is_well_formed p =
     && nat_le (length (words_of p)) segment_limit
     && nat_le p.entry_bound (length p.text)
     && (is_newer p || nat_eq (length p.statics % 2) 0)
-    && list_all (is_definition p.version) p.definitions
+    && list_all (is_valid_definition p.version) p.definitions
     && are_distinct (definition_names p.definitions)
-    && list_all (is_link p.version) p.links
+    && list_all (is_valid_link p.version) p.links
     && list_all
-    (is_relocation (length p.text) (length (inner_statics p)) (length (outer_statics p)) p.version)
+    (is_valid_relocation (length p.text) (length (inner_statics p)) (length (outer_statics p)) p.version)
     p.relocations
     && are_in_order p.relocations
 
@@ -458,5 +458,5 @@ pub record IsObject (p : PartsFields) (d k s : List ℕ) : Type 0 where
 
 -- Different parts have different words. (Parts have only one list of words, since this is
 -- `words_of` of them.)
-abbrev pub ValuesApart : Type 0
-ValuesApart = (p q : PartsFields) (words : List ℕ) → Encodes p words → Encodes q words → p ≡ q
+abbrev pub WordsDetermineParts : Type 0
+WordsDetermineParts = (p q : PartsFields) (words : List ℕ) → Encodes p words → Encodes q words → p ≡ q

@@ -15,15 +15,15 @@ abbrev pub entry_mark : ℕ
 entry_mark = 8
 
 -- the number of a section in links and relocations, which never refer to the symbol section
-abbrev pub place_number : Section → ℕ
-place_number Text = 0
-place_number Linkage = 1
-place_number Static = 2
-place_number Symbol = 3
+abbrev pub section_number : Section → ℕ
+section_number Text = 0
+section_number Linkage = 1
+section_number Static = 2
+section_number Symbol = 3
 
 -- whether two sections are the same
 abbrev pub same_section : Section → Section → Bool
-same_section a b = nat_eq (place_number a) (place_number b)
+same_section a b = nat_eq (section_number a) (section_number b)
 
 -- the name of a section after `use`, and before its lines in a listing
 abbrev pub section_name : Section → List ℕ
@@ -33,8 +33,8 @@ section_name Symbol = codes "symbol"
 section_name Static = codes "static"
 
 -- the name of a section as the segment of an operand
-abbrev pub own_name : Section → List ℕ
-own_name section = codes "*" ++ section_name section
+abbrev pub starred_section_name : Section → List ℕ
+starred_section_name section = codes "*" ++ section_name section
 
 -- whether a section is the text
 abbrev pub is_text_section : Section → Bool

@@ -4,16 +4,16 @@ ghost use Rattle.std.specs.Prelude.{ℕ, true, ◌≡◌, ◌+◌, ◌*◌, ◌^
 ghost use Rattle.std.specs.Prelude.{◌&&◌, ◌||◌, not, nat_eq, nat_le, length, if◌then◌else◌};
 ghost use Rattle.std.specs.List.{list_all};
 ghost use Rattle.obj36_parts.specs.Names.{is_name};
-ghost use Rattle.obj36_parts.specs.ObjectSegment.{has_section, last_class, last_place, offset_part};
-ghost use Rattle.obj36_parts.specs.ObjectSegment.{is_section_where, is_name_where};
-ghost use Rattle.obj36_parts.specs.ObjectSegment.{is_definition, is_link, is_place, is_relocation};
-ghost use Rattle.obj36_parts.specs.Sections.{place_number};
+ghost use Rattle.obj36_parts.specs.ObjectSegment.{has_section, greatest_class_number, last_section_number, offset_part};
+ghost use Rattle.obj36_parts.specs.ObjectSegment.{is_valid_link_section, is_valid_link_name};
+ghost use Rattle.obj36_parts.specs.ObjectSegment.{is_valid_definition, is_valid_link, is_relocatable, is_valid_relocation};
+ghost use Rattle.obj36_parts.specs.Sections.{section_number};
 ghost use Rattle.obj36_parts.specs.ObjectSegment.{order_of, are_in_order, left_part};
 ghost use Rattle.obj36_parts.specs.ObjectSegment.{definition_names, are_distinct};
 
 use crate::definition::{Defs, Named};
 use crate::link::Link;
-use crate::names::{has_its_entry, has_its_name};
+use crate::names::{kind_has_entry, kind_has_name};
 use crate::relocation::Reloc;
 use crate::section::Section;
 use crate::sections::{HEAD_WORDS, class, number};
@@ -22,22 +22,22 @@ use m36_text::texts::is_name;
 
 /// The greatest class of a definition in an object of this version.
 pub fn greatest_class(version: u8) -> u64
-    ensures { result ≡ last_class version }
+    ensures { result ≡ greatest_class_number version }
 {
     if version == 2 { 3 } else { 2 }
 }
 
 /// The greatest number of a section in links and relocations of this version.
-pub fn greatest_place(version: u8) -> u64
-    ensures { result ≡ last_place version }
+pub fn greatest_section_number(version: u8) -> u64
+    ensures { result ≡ last_section_number version }
 {
     if version == 2 { 2 } else { 1 }
 }
 
 // Whether an object of this version can have a definition, by its name, value and section.
-#[tactic(auto, unfolding(crate::specs::ObjectSegment::is_definition))]
+#[tactic(auto, unfolding(crate::specs::ObjectSegment::is_valid_definition))]
 fn is_good_definition(version: u8, definition: &Named) -> bool
-    ensures { result ≡ is_definition version definition.now }
+    ensures { result ≡ is_valid_definition version definition.now }
 {
     let def = definition.def;
     is_name(definition.name.bytes())
@@ -47,7 +47,7 @@ fn is_good_definition(version: u8, definition: &Named) -> bool
 
 // Whether an object of this version can have each of these definitions.
 fn are_good_definitions(version: u8, definitions: &[Named]) -> bool
-    ensures { result ≡ list_all (is_definition version) definitions.now }
+    ensures { result ≡ list_all (is_valid_definition version) definitions.now }
 {
     let mut rest = definitions;
     while let [first, others @ ..] = rest {
@@ -60,15 +60,15 @@ fn are_good_definitions(version: u8, definitions: &[Named]) -> bool
 }
 
 /// Whether a link of this type refers to a section of its own object.
-pub fn has_its_section(kind: u64) -> bool
+pub fn kind_has_section(kind: u64) -> bool
     ensures { result ≡ has_section kind }
 {
     kind == 1 || kind == 5
 }
 
 // Whether a link can have this name; one that its type does not use is empty.
-fn is_good_text(used: bool, name: &Name) -> bool
-    ensures { result ≡ is_name_where used name.now }
+fn is_good_name(used: bool, name: &Name) -> bool
+    ensures { result ≡ is_valid_link_name used name.now }
 {
     if used {
         is_name(name.bytes())
@@ -79,32 +79,32 @@ fn is_good_text(used: bool, name: &Name) -> bool
 
 // Whether a link of this version can have this section; one that its type does not use is the text.
 fn is_good_section(used: bool, version: u8, section: Section) -> bool
-    ensures { result ≡ is_section_where used version section }
+    ensures { result ≡ is_valid_link_section used version section }
 {
     if used {
-        number(section) <= greatest_place(version)
+        number(section) <= greatest_section_number(version)
     } else {
         number(section) == 0
     }
 }
 
 // Whether an object of this version can have a link.
-#[tactic(auto, unfolding(crate::specs::ObjectSegment::is_link))]
+#[tactic(auto, unfolding(crate::specs::ObjectSegment::is_valid_link))]
 fn is_good_link(version: u8, link: &Link) -> bool
-    ensures { result ≡ is_link version link.now }
+    ensures { result ≡ is_valid_link version link.now }
 {
     let kind = link.kind as u64;
-    (has_its_name(kind) || has_its_section(kind))
-        && is_good_section(has_its_section(kind), version, link.section)
-        && is_good_text(has_its_name(kind), &link.name)
-        && is_good_text(has_its_entry(kind), &link.entry)
+    (kind_has_name(kind) || kind_has_section(kind))
+        && is_good_section(kind_has_section(kind), version, link.section)
+        && is_good_name(kind_has_name(kind), &link.name)
+        && is_good_name(kind_has_entry(kind), &link.entry)
         && link.expr < 1 << 18
         && link.modifier < 1 << 6
 }
 
 // Whether an object of this version can have each of these links.
 fn are_good_links(version: u8, links: &[Link]) -> bool
-    ensures { result ≡ list_all (is_link version) links.now }
+    ensures { result ≡ list_all (is_valid_link version) links.now }
 {
     let mut rest = links;
     while let [first, others @ ..] = rest {
@@ -118,7 +118,7 @@ fn are_good_links(version: u8, links: &[Link]) -> bool
 
 /// The bounds for the places of relocations, and the version of the object.
 #[derive(Clone, Copy)]
-pub(crate) struct Room {
+pub(crate) struct RelocationBounds {
     /// The number of words of the text.
     pub text: usize,
     /// The number of static words in the linkage section.
@@ -130,9 +130,9 @@ pub(crate) struct Room {
 }
 
 // Whether the offset of a relocation is that of a word of the text or of a static word.
-#[tactic(auto, unfolding(crate::specs::ObjectSegment::is_place))]
-fn is_good_place(room: Room, section: Section, offset: u32) -> bool
-    ensures { result ≡ is_place room.text room.inner room.outer section offset }
+#[tactic(auto, unfolding(crate::specs::ObjectSegment::is_relocatable))]
+fn is_relocatable_word(room: RelocationBounds, section: Section, offset: u32) -> bool
+    ensures { result ≡ is_relocatable room.text room.inner room.outer section offset }
 {
     let offset = offset as usize;
     let head = HEAD_WORDS as usize;
@@ -145,20 +145,20 @@ fn is_good_place(room: Room, section: Section, offset: u32) -> bool
 }
 
 // Whether an object with these bounds can have a relocation.
-#[tactic(auto, unfolding(crate::specs::ObjectSegment::is_relocation))]
-fn is_good_relocation(room: Room, relocation: &Reloc) -> bool
-    ensures { result ≡ is_relocation room.text room.inner room.outer room.version relocation.now }
+#[tactic(auto, unfolding(crate::specs::ObjectSegment::is_valid_relocation))]
+fn is_good_relocation(room: RelocationBounds, relocation: &Reloc) -> bool
+    ensures { result ≡ is_valid_relocation room.text room.inner room.outer room.version relocation.now }
 {
-    is_good_place(room, relocation.section, relocation.offset)
+    is_relocatable_word(room, relocation.section, relocation.offset)
         && relocation.offset < 1 << 18
         && relocation.part <= 2
-        && number(relocation.target) <= greatest_place(room.version)
+        && number(relocation.target) <= greatest_section_number(room.version)
 }
 
 // Whether an object with these bounds can have each of these relocations.
-fn are_good_relocations(room: Room, relocations: &[Reloc]) -> bool
+fn are_good_relocations(room: RelocationBounds, relocations: &[Reloc]) -> bool
     ensures { result
-        ≡ list_all (is_relocation room.text room.inner room.outer room.version) relocations.now }
+        ≡ list_all (is_valid_relocation room.text room.inner room.outer room.version) relocations.now }
 {
     let mut rest = relocations;
     while let [first, others @ ..] = rest {
@@ -172,7 +172,7 @@ fn are_good_relocations(room: Room, relocations: &[Reloc]) -> bool
 
 // The number by which relocations are ordered: first by section, then by offset, then by part.
 #[tactic(auto, unfolding(crate::specs::ObjectSegment::order_of))]
-fn order(relocation: &Reloc) -> u64
+fn order_number(relocation: &Reloc) -> u64
     ensures value { result ≡ order_of relocation.now }
     ensures bound { result < 2 ^ 40 }
 {
@@ -205,7 +205,7 @@ fn are_in_order(relocations: &[Reloc]) -> bool
     let mut barred = 3;
     let mut rest = relocations;
     while let [first, others @ ..] = rest {
-        let place = order(first);
+        let place = order_number(first);
         if !may_follow(least, barred, place) {
             return false;
         }
@@ -218,20 +218,20 @@ fn are_in_order(relocations: &[Reloc]) -> bool
 
 // Whether definitions, links and relocations may be those of an object.
 pub(crate) fn are_good_tables(
-    room: Room,
+    room: RelocationBounds,
     definitions: &Defs,
     links: &[Link],
     relocations: &[Reloc],
 ) -> bool
     ensures { result
-        ≡ (list_all (is_definition room.version) definitions.now
+        ≡ (list_all (is_valid_definition room.version) definitions.now
         && are_distinct (definition_names definitions.now)
-        && list_all (is_link room.version) links.now
-        && list_all (is_relocation room.text room.inner room.outer room.version) relocations.now
+        && list_all (is_valid_link room.version) links.now
+        && list_all (is_valid_relocation room.text room.inner room.outer room.version) relocations.now
         && are_in_order relocations.now) }
 {
     are_good_definitions(room.version, definitions.items())
-        && definitions.have_own_names()
+        && definitions.has_distinct_names()
         && are_good_links(room.version, links)
         && are_good_relocations(room, relocations)
         && are_in_order(relocations)

@@ -5,7 +5,7 @@ ghost use Rattle.std.specs.Vec.{vec_len, vec_capacity};
 ghost use Rattle.obj36_parts.specs.Names.{with_names};
 ghost use Rattle.obj36_parts.specs.ObjectSegment.{definition_names, are_distinct, definition_named};
 ghost use Rattle.obj36_parts.specs.ObjectSegment.{has_definition};
-ghost use Rattle.obj36_parts.specs.Indexes.{with_first};
+ghost use Rattle.obj36_parts.specs.Indexes.{with_first_definition};
 
 use crate::section::Section;
 use indexmap::IndexMap;
@@ -90,8 +90,8 @@ impl Defs {
         ensures err { OnErr result (self.new ≡ self.old) }
     {
         self.items.reserve(1)?;
-        note_first(&mut self.firsts, &x)?;
-        put(&mut self.items, x);
+        add_first_definition(&mut self.firsts, &x)?;
+        push_within_capacity(&mut self.items, x);
         Ok(())
     }
 
@@ -124,7 +124,7 @@ impl Defs {
     }
 
     /// Whether all definitions have different names.
-    pub fn have_own_names(&self) -> bool
+    pub fn has_distinct_names(&self) -> bool
         ensures { result ≡ are_distinct (definition_names self.now) }
     {
         self.firsts.len() == self.items.len()
@@ -132,11 +132,11 @@ impl Defs {
 }
 
 // Records the place of a definition, unless its name has one already.
-fn note_first(
+fn add_first_definition(
     firsts: &mut IndexMap<Name, Def, HashSeed>,
     definition: &Named,
 ) -> Result<(), NoMemory>
-    ensures ok { OnOk result (firsts.new.entries ≡ with_first firsts.old.entries definition.now) }
+    ensures ok { OnOk result (firsts.new.entries ≡ with_first_definition firsts.old.entries definition.now) }
     ensures err { OnErr result (firsts.new.entries ≡ firsts.old.entries) }
 {
     if firsts.contains_key(&definition.name) {
@@ -147,7 +147,7 @@ fn note_first(
 }
 
 /// Adds an item; the vector has room for it.
-pub fn put<T: Drop>(items: &mut Vec<T>, x: T)
+pub fn push_within_capacity<T: Drop>(items: &mut Vec<T>, x: T)
     requires { vec_len items.old < vec_capacity items.old }
     ensures { items.new.items ≡ items.old.items ++ x ∷ [] }
 {

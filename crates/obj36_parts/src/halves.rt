@@ -1,7 +1,7 @@
 //! Words as halves of 18 bits.
 
 ghost use Rattle.std.specs.Prelude.{ℕ, ◌≡◌, ◌+◌, ◌*◌, ◌/◌, ◌%◌, ◌^◌, ◌<◌};
-ghost use Rattle.obj36_parts.specs.Halves.{left, right, joined};
+ghost use Rattle.obj36_parts.specs.Halves.{left, right, word_with_halves};
 
 use m36_word::Word;
 
@@ -31,9 +31,9 @@ pub fn right_of(w: Word) -> u64
 }
 
 /// The word with these halves. Of each number the low 18 bits are used.
-#[tactic(auto, unfolding(crate::specs::Halves::joined))]
-pub fn word_of(left: u64, right: u64) -> Word
-    ensures { result ≡ joined left right }
+#[tactic(auto, unfolding(crate::specs::Halves::word_with_halves))]
+pub fn word_of_halves(left: u64, right: u64) -> Word
+    ensures { result ≡ word_with_halves left right }
 {
     Word::low(left % HALF * HALF + right % HALF)
 }

@@ -7,13 +7,13 @@ ghost use Rattle.m36_text.specs.Seeds.{name_writes};
 ghost use Rattle.obj36_parts.specs.Names.{with_name, with_names};
 ghost use Rattle.obj36_parts.specs.ObjectSegment.{name_used, entry_used, link_names};
 ghost use Rattle.obj36_parts.specs.ObjectSegment.{all_link_names};
-ghost use Rattle.obj36_parts.specs.Indexes.{link_number, same_link, has_link, with_place};
+ghost use Rattle.obj36_parts.specs.Indexes.{link_hash_number, same_link, has_link, with_first_index};
 ghost use Rattle.std.specs.Cmp.Rules.{hashing};
 ghost use Rattle.std.specs.Hash as fed;
 ghost use Rattle.std.proofs.Common.{rules};
 
-use crate::definition::put;
-use crate::names::{has_its_entry, has_its_name};
+use crate::definition::push_within_capacity;
+use crate::names::{kind_has_entry, kind_has_name};
 use crate::section::Section;
 use crate::sections::class;
 use indexmap::{IndexMap, IndexSet};
@@ -70,20 +70,20 @@ impl Model for Link {
 
 impl Hash for Link {
     ghost hash_input = { λ l.
-        fed.u64 (link_number l) ++ name_writes l.name ++ name_writes l.entry };
+        fed.u64 (link_hash_number l) ++ name_writes l.name ++ name_writes l.entry };
 
     ghost respects_eq = { Prim.search (hashing, rules) };
 
     fn hash<H: Hasher>(&self, state: &mut H) {
-        state.write_u64(number_of(self));
+        state.write_u64(hash_number(self));
         self.name.hash(state);
         self.entry.hash(state);
     }
 }
 
 // All fields of a link but its names, as one number for its hash.
-fn number_of(link: &Link) -> u64
-    ensures { result ≡ link_number link.now }
+fn hash_number(link: &Link) -> u64
+    ensures { result ≡ link_hash_number link.now }
 {
     link.expr as u64
         + ((link.modifier as u64) << 18)
@@ -148,9 +148,9 @@ impl Links {
     {
         self.items.reserve(1)?;
         self.names.reserve(2)?;
-        note_place(&mut self.places, &x, self.items.len() as u64)?;
-        note_names(&mut self.names, &x);
-        put(&mut self.items, x);
+        add_first_index(&mut self.places, &x, self.items.len() as u64)?;
+        add_names_of_link(&mut self.names, &x);
+        push_within_capacity(&mut self.items, x);
         Ok(())
     }
 
@@ -186,12 +186,12 @@ impl Links {
 }
 
 // Records the index of a link, unless it has one already.
-fn note_place(
+fn add_first_index(
     places: &mut IndexMap<Link, u64, HashSeed>,
     link: &Link,
     place: u64,
 ) -> Result<(), NoMemory>
-    ensures ok { OnOk result (places.new.entries ≡ with_place places.old.entries link.now place) }
+    ensures ok { OnOk result (places.new.entries ≡ with_first_index places.old.entries link.now place) }
     ensures err { OnErr result (places.new.entries ≡ places.old.entries) }
 {
     if places.contains_key(link) {
@@ -203,7 +203,7 @@ fn note_place(
 
 // Adds a name to the set; the set has room for it.
 #[tactic(auto, unfolding(crate::specs::Names::with_name))]
-fn note_name(names: &mut IndexSet<Name, HashSeed>, name: &Name)
+fn add_name_to_set(names: &mut IndexSet<Name, HashSeed>, name: &Name)
     requires { 0 < spare names.old }
     ensures keys { names.new.keys ≡ with_name names.old.keys name.now }
     ensures room { spare names.old ≤ spare names.new + 1 }
@@ -216,33 +216,33 @@ fn note_name(names: &mut IndexSet<Name, HashSeed>, name: &Name)
 
 // Adds the name of a segment that a link uses, if it uses one. There is room for it.
 #[tactic(auto, unfolding(crate::specs::ObjectSegment::name_used, crate::specs::Names::with_names))]
-fn note_subject(names: &mut IndexSet<Name, HashSeed>, link: &Link)
+fn add_segment_name(names: &mut IndexSet<Name, HashSeed>, link: &Link)
     requires { 0 < spare names.old }
     ensures keys { names.new.keys ≡ with_names names.old.keys (name_used link.now) }
     ensures room { spare names.old ≤ spare names.new + 1 }
 {
-    if has_its_name(link.kind as u64) {
-        note_name(names, &link.name);
+    if kind_has_name(link.kind as u64) {
+        add_name_to_set(names, &link.name);
     }
 }
 
 // Adds the name of an entry that a link uses, if it uses one. There is room for it.
 #[tactic(auto, unfolding(crate::specs::ObjectSegment::entry_used, crate::specs::Names::with_names))]
-fn note_entry(names: &mut IndexSet<Name, HashSeed>, link: &Link)
+fn add_entry_name(names: &mut IndexSet<Name, HashSeed>, link: &Link)
     requires { 0 < spare names.old }
     ensures { names.new.keys ≡ with_names names.old.keys (entry_used link.now) }
 {
-    if has_its_entry(link.kind as u64) {
-        note_name(names, &link.entry);
+    if kind_has_entry(link.kind as u64) {
+        add_name_to_set(names, &link.entry);
     }
 }
 
 // Adds the names that a link uses to the set; the set has room for two.
 #[tactic(auto, unfolding(crate::specs::ObjectSegment::link_names), using(crate::proofs::NameTables::added_then))]
-fn note_names(names: &mut IndexSet<Name, HashSeed>, link: &Link)
+fn add_names_of_link(names: &mut IndexSet<Name, HashSeed>, link: &Link)
     requires { 2 ≤ spare names.old }
     ensures { names.new.keys ≡ with_names names.old.keys (link_names link.now) }
 {
-    note_subject(names, link);
-    note_entry(names, link);
+    add_segment_name(names, link);
+    add_entry_name(names, link);
 }

@@ -2,10 +2,10 @@
 
 ghost use Rattle.std.specs.Prelude.{ℕ, [], ◌∷◌, ◌++◌, ◌≡◌, ◌+◌, ◌-◌, ◌*◌, ◌^◌, ◌<◌, ◌≤◌};
 ghost use Rattle.std.specs.Prelude.{length, OnOk};
-ghost use Rattle.obj36_parts.specs.Halves.{joined};
+ghost use Rattle.obj36_parts.specs.Halves.{word_with_halves};
 ghost use Rattle.obj36_parts.specs.ObjectSegment.{link_words, linkage_part};
 
-use crate::halves::word_of;
+use crate::halves::word_of_halves;
 use crate::link::Link;
 use crate::sections::{HEAD_WORDS, LINK_TAG, push_all, push_pair};
 use m36_word::{NoMemory, Word, Words};
@@ -24,8 +24,8 @@ fn push_links(out: &mut Words, links: &[Link], first: u64, expressions: u64) -> 
         let offset = (1u64 << 18).saturating_sub(at);
         push_pair(
             out,
-            word_of(offset, LINK_TAG),
-            word_of(expression, link.modifier as u64),
+            word_of_halves(offset, LINK_TAG),
+            word_of_halves(expression, link.modifier as u64),
         )?;
         at += 2;
         expression += 2;
@@ -36,10 +36,10 @@ fn push_links(out: &mut Words, links: &[Link], first: u64, expressions: u64) -> 
 // Adds the head of the section. The first of `count` links is at the offset `first`.
 fn push_linkage_header(out: &mut Words, first: u64, count: u64) -> Result<(), NoMemory>
     ensures { OnOk result
-        (out.new ≡ out.old ++ 0 ∷ joined first count ∷ 0 ∷ 0 ∷ 0 ∷ 0 ∷ 0 ∷ 0 ∷ []) }
+        (out.new ≡ out.old ++ 0 ∷ word_with_halves first count ∷ 0 ∷ 0 ∷ 0 ∷ 0 ∷ 0 ∷ 0 ∷ []) }
 {
     let zero = Word::ZERO;
-    let head = word_of(first, count);
+    let head = word_of_halves(first, count);
     push_all(out, &[zero, head, zero, zero, zero, zero, zero, zero])
 }
 

@@ -3,7 +3,7 @@
 ghost use Rattle.std.specs.Prelude.{ℕ, [], ◌++◌, ◌≡◌, ◌+◌, ◌-◌, ◌*◌, ◌^◌, ◌<◌, ◌≤◌, length};
 ghost use Rattle.std.specs.Prelude.{OnOk, IfOk};
 ghost use Rattle.m36_text.specs.Texts.{name_limit};
-ghost use Rattle.obj36_parts.specs.Names.{with_name, with_names, place_of, name_length, unit_of};
+ghost use Rattle.obj36_parts.specs.Names.{with_name, with_names, name_offset, name_size, name_quarter};
 ghost use Rattle.obj36_parts.specs.Names.{name_word, name_words, all_name_words};
 ghost use Rattle.obj36_parts.specs.ObjectSegment.{definition_names, link_names, all_link_names};
 ghost use Rattle.obj36_parts.specs.ObjectSegment.{has_name, has_entry};
@@ -17,23 +17,23 @@ use std::alloc::Global;
 use std::marker::Model;
 
 /// Whether a link of this type has the name of a segment.
-pub fn has_its_name(kind: u64) -> bool
+pub fn kind_has_name(kind: u64) -> bool
     ensures { result ≡ has_name kind }
 {
     kind == 3 || kind == 4
 }
 
 /// Whether a link of this type has the name of an entry.
-pub fn has_its_entry(kind: u64) -> bool
+pub fn kind_has_entry(kind: u64) -> bool
     ensures { result ≡ has_entry kind }
 {
     kind == 4 || kind == 5
 }
 
 // The number of words of a name: 1 to 9.
-#[tactic(auto, unfolding(crate::specs::Names::name_length))]
-pub(crate) fn length_of(name: &Name) -> u64
-    ensures value { result ≡ name_length name.now }
+#[tactic(auto, unfolding(crate::specs::Names::name_size))]
+pub(crate) fn size_of_name(name: &Name) -> u64
+    ensures value { result ≡ name_size name.now }
     ensures bound { result ≤ 9 }
 {
     name.bytes().len() as u64 / 4 + 1
@@ -83,13 +83,13 @@ impl NameTable {
             return Ok(());
         }
         self.places.insert(name.copied(), self.next)?;
-        self.next += length_of(name);
+        self.next += size_of_name(name);
         Ok(())
     }
 
     // The offset of a name; for a name that is not in the table, the offset after the last one.
     pub(crate) fn place(&self, name: &Name) -> u64
-        ensures { result ≡ place_of name.now self.now.names self.now.base }
+        ensures { result ≡ name_offset name.now self.now.names self.now.base }
     {
         self.places.get(name).copied().unwrap_or(self.next)
     }
@@ -126,10 +126,10 @@ fn add_link(table: &mut NameTable, link: &Link) -> Result<(), NoMemory>
     ensures few { OnOk result (length table.new.names ≤ length table.old.names + 2) }
     ensures base { table.new.base ≡ table.old.base }
 {
-    if has_its_name(link.kind as u64) {
+    if kind_has_name(link.kind as u64) {
         table.add(&link.name)?;
     }
-    if has_its_entry(link.kind as u64) {
+    if kind_has_entry(link.kind as u64) {
         table.add(&link.entry)?;
     }
     Ok(())
@@ -164,7 +164,7 @@ fn add_names(table: &mut NameTable, definitions: &[Named], links: &[Link]) -> Re
 
 // The names of definitions and links, each once, in order of first use, from the offset `base` on.
 // They are hashed with this seed.
-pub(crate) fn names_used(
+pub(crate) fn name_table(
     alloc: Global,
     seed: HashSeed,
     definitions: &[Named],
@@ -191,10 +191,10 @@ pub(crate) fn names_used(
 
 // Part i of the nine-bit parts of a name: part 0 is its length, then its characters follow, then
 // zeros.
-#[tactic(auto, unfolding(crate::specs::Names::unit_of))]
-fn unit(name: &[u8], i: usize) -> u64
+#[tactic(auto, unfolding(crate::specs::Names::name_quarter))]
+fn quarter_of_name(name: &[u8], i: usize) -> u64
     requires { length name.now ≤ name_limit }
-    ensures value { result ≡ unit_of name.now i }
+    ensures value { result ≡ name_quarter name.now i }
     ensures bound { result < 2 ^ 9 }
 {
     if i == 0 {
@@ -214,8 +214,8 @@ fn word(name: &[u8], j: usize) -> Word
     requires small { j < 9 }
     ensures { result ≡ name_word name.now j }
 {
-    let front = (unit(name, 4 * j) << 27) + (unit(name, 4 * j + 1) << 18);
-    let back = (unit(name, 4 * j + 2) << 9) + unit(name, 4 * j + 3);
+    let front = (quarter_of_name(name, 4 * j) << 27) + (quarter_of_name(name, 4 * j + 1) << 18);
+    let back = (quarter_of_name(name, 4 * j + 2) << 9) + quarter_of_name(name, 4 * j + 3);
     Word::low(front + back)
 }
 

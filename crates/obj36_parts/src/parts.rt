@@ -6,12 +6,12 @@ ghost use Rattle.obj36_parts.specs.ObjectSegment.{inner_statics, outer_statics, 
 ghost use Rattle.obj36_parts.specs.ObjectSegment.{is_newer_version, words_of, is_well_formed};
 ghost use Rattle.obj36_parts.specs.Sizes.{HasShortLists};
 
-use crate::checks::{Room, are_good_tables};
+use crate::checks::{RelocationBounds, are_good_tables};
 use crate::definition::Defs;
 use crate::link::Links;
 use crate::relocation::Relocs;
 use crate::sections::{HEAD_WORDS, SEGMENT_LIMIT};
-use crate::size::length_of_names;
+use crate::size::size_of_distinct_names;
 use m36_word::{Word, Words};
 use std::marker::Model;
 
@@ -119,7 +119,7 @@ impl Parts {
         let statics = self.statics.slice().len() as u64;
         let relocations = self.relocations.items().len() as u64;
         let tables = 2 * definitions.len() as u64 + 4 * links.len() as u64;
-        let names = length_of_names(&self.definitions, &self.links);
+        let names = size_of_distinct_names(&self.definitions, &self.links);
         fixed_length(self.version) + text + statics + relocations + tables + names
     }
 
@@ -136,7 +136,7 @@ impl Parts {
         let statics = self.statics.slice();
         let links = self.links.items();
         let relocations = self.relocations.items();
-        let room = Room {
+        let room = RelocationBounds {
             text,
             inner: self.inner_statics().len(),
             outer: self.outer_statics().len(),

@@ -2,24 +2,24 @@
 
 ghost use Rattle.std.specs.Prelude.{ℕ, [], ◌∷◌, ◌++◌, ◌≡◌, ◌+◌, ◌-◌, ◌*◌, ◌^◌, ◌<◌, ◌≤◌};
 ghost use Rattle.std.specs.Prelude.{length, replicate, OnOk, IfOk};
-ghost use Rattle.obj36_parts.specs.Halves.{joined};
-ghost use Rattle.obj36_parts.specs.Names.{place_of, with_names};
-ghost use Rattle.obj36_parts.specs.Sections.{class_number, place_number, is_text_section, rank};
+ghost use Rattle.obj36_parts.specs.Halves.{word_with_halves};
+ghost use Rattle.obj36_parts.specs.Names.{name_offset, with_names};
+ghost use Rattle.obj36_parts.specs.Sections.{class_number, section_number, is_text_section, rank};
 ghost use Rattle.obj36_parts.specs.Sections.{later_section};
 ghost use Rattle.obj36_parts.specs.ObjectSegment.{version_of, padded_to_even};
-ghost use Rattle.obj36_parts.specs.ObjectSegment.{place_if_any};
+ghost use Rattle.obj36_parts.specs.ObjectSegment.{offset_if_any};
 ghost use Rattle.obj36_parts.specs.ObjectSegment.{class_of};
-ghost use Rattle.obj36_parts.specs.ObjectSegment.{definition_words, subject_of, entry_place};
+ghost use Rattle.obj36_parts.specs.ObjectSegment.{definition_words, section_or_name_offset, entry_name_offset};
 ghost use Rattle.obj36_parts.specs.ObjectSegment.{definition_names, all_link_names, first_expression_at};
 ghost use Rattle.obj36_parts.specs.ObjectSegment.{expression_words, definition_part};
 ghost use Rattle.obj36_parts.specs.ObjectSegment.{linkage_part, relocation_word};
-ghost use Rattle.obj36_parts.specs.ObjectSegment.{symbol_part, definition_head};
+ghost use Rattle.obj36_parts.specs.ObjectSegment.{symbol_part, definition_head_words};
 
 use crate::definition::{Def, Named};
-use crate::halves::word_of;
+use crate::halves::word_of_halves;
 use crate::link::Link;
 use crate::linkage::push_linkage;
-use crate::names::{NameTable, has_its_entry, has_its_name, names_used, push_names};
+use crate::names::{NameTable, kind_has_entry, kind_has_name, name_table, push_names};
 use crate::relocation::Reloc;
 use crate::section::Section;
 use m36_text::HashSeed;
@@ -56,7 +56,7 @@ pub fn class(section: Section) -> u64
 
 /// The number of a section in links and relocations.
 pub fn number(section: Section) -> u64
-    ensures value { result ≡ place_number section }
+    ensures value { result ≡ section_number section }
     ensures bound { result ≤ 3 }
 {
     match section {
@@ -104,9 +104,9 @@ pub fn later_section(a: Section, b: Section) -> Section
 }
 
 // The offset of a table of `count` items, which is 0 if there are none.
-#[tactic(auto, unfolding(crate::specs::ObjectSegment::place_if_any))]
-fn place_unless_empty(count: usize, at: u64) -> u64
-    ensures { result ≡ place_if_any count at }
+#[tactic(auto, unfolding(crate::specs::ObjectSegment::offset_if_any))]
+fn offset_unless_empty(count: usize, at: u64) -> u64
+    ensures { result ≡ offset_if_any count at }
 {
     if count == 0 { 0 } else { at }
 }
@@ -155,7 +155,7 @@ pub fn push_zeros(out: &mut Words, count: u64) -> Result<(), NoMemory>
 }
 
 /// Adds a zero word if the number of words is odd.
-pub fn push_evening(out: &mut Words) -> Result<(), NoMemory>
+pub fn pad_to_even(out: &mut Words) -> Result<(), NoMemory>
     ensures { OnOk result (out.new ≡ padded_to_even out.old) }
 {
     if out.slice().len() % 2 == 0 {
@@ -180,16 +180,16 @@ fn push_definition(
     definition: &Named,
     next: u64,
 ) -> Result<(), NoMemory>
-    ensures { OnOk result (out.new ≡ out.old ++ joined next (class_of definition.now.def)
-        ∷ joined definition.now.def.value
-        (place_of definition.now.name table.now.names table.now.base) ∷ []) }
+    ensures { OnOk result (out.new ≡ out.old ++ word_with_halves next (class_of definition.now.def)
+        ∷ word_with_halves definition.now.def.value
+        (name_offset definition.now.name table.now.names table.now.base) ∷ []) }
 {
     let def = definition.def;
     let place = table.place(&definition.name);
     push_pair(
         out,
-        word_of(next, class_with_entry(&def)),
-        word_of(def.value as u64, place),
+        word_of_halves(next, class_with_entry(&def)),
+        word_of_halves(def.value as u64, place),
     )
 }
 
@@ -203,11 +203,11 @@ fn push_definitions(
     ensures { OnOk result
         (out.new
         ≡ out.old
-        ++ definition_words table.now.names table.now.base definitions.now definition_head) }
+        ++ definition_words table.now.names table.now.base definitions.now definition_head_words) }
 {
     let mut at = 2;
     for (i, definition) in definitions.iter().enumerate() {
-        let next = place_unless_empty(definitions.len() - i - 1, at + 2);
+        let next = offset_unless_empty(definitions.len() - i - 1, at + 2);
         push_definition(out, table, definition, next)?;
         at += 2;
     }
@@ -215,11 +215,11 @@ fn push_definitions(
 }
 
 // The right half of the first word of an expression: the offset of a name, or a section.
-#[tactic(auto, unfolding(crate::specs::ObjectSegment::subject_of))]
+#[tactic(auto, unfolding(crate::specs::ObjectSegment::section_or_name_offset))]
 fn subject(table: &NameTable, link: &Link) -> u64
-    ensures { result ≡ subject_of table.now.names table.now.base link.now }
+    ensures { result ≡ section_or_name_offset table.now.names table.now.base link.now }
 {
-    if has_its_name(link.kind as u64) {
+    if kind_has_name(link.kind as u64) {
         table.place(&link.name)
     } else {
         number(link.section)
@@ -227,11 +227,11 @@ fn subject(table: &NameTable, link: &Link) -> u64
 }
 
 // The offset of the name of the entry of a link; 0 if it has none.
-#[tactic(auto, unfolding(crate::specs::ObjectSegment::entry_place))]
+#[tactic(auto, unfolding(crate::specs::ObjectSegment::entry_name_offset))]
 fn entry(table: &NameTable, link: &Link) -> u64
-    ensures { result ≡ entry_place table.now.names table.now.base link.now }
+    ensures { result ≡ entry_name_offset table.now.names table.now.base link.now }
 {
-    if has_its_entry(link.kind as u64) {
+    if kind_has_entry(link.kind as u64) {
         table.place(&link.entry)
     } else {
         0
@@ -241,11 +241,11 @@ fn entry(table: &NameTable, link: &Link) -> u64
 // Adds the two words of the expression of a link.
 fn push_expression(out: &mut Words, table: &NameTable, link: &Link) -> Result<(), NoMemory>
     ensures { OnOk result (out.new ≡ out.old
-        ++ joined link.now.kind (subject_of table.now.names table.now.base link.now)
-        ∷ joined (entry_place table.now.names table.now.base link.now) link.now.expr ∷ []) }
+        ++ word_with_halves link.now.kind (section_or_name_offset table.now.names table.now.base link.now)
+        ∷ word_with_halves (entry_name_offset table.now.names table.now.base link.now) link.now.expr ∷ []) }
 {
-    let first = word_of(link.kind as u64, subject(table, link));
-    let second = word_of(entry(table, link), link.expr as u64);
+    let first = word_of_halves(link.kind as u64, subject(table, link));
+    let second = word_of_halves(entry(table, link), link.expr as u64);
     push_pair(out, first, second)
 }
 
@@ -262,7 +262,7 @@ fn push_expressions(out: &mut Words, table: &NameTable, links: &[Link]) -> Resul
 
 // Adds the definition section of these definitions and links. The table has their names.
 #[tactic(auto, unfolding(crate::specs::ObjectSegment::definition_part))]
-fn push_section(
+fn push_definition_section(
     out: &mut Words,
     table: &NameTable,
     definitions: &[Named],
@@ -279,12 +279,12 @@ fn push_section(
     let expressions = 2 + 2 * definitions.len() as u64;
     push_pair(
         out,
-        word_of(
-            place_unless_empty(definitions.len(), 2),
+        word_of_halves(
+            offset_unless_empty(definitions.len(), 2),
             definitions.len() as u64,
         ),
-        word_of(
-            place_unless_empty(links.len(), expressions),
+        word_of_halves(
+            offset_unless_empty(links.len(), expressions),
             links.len() as u64,
         ),
     )?;
@@ -294,7 +294,7 @@ fn push_section(
 }
 
 // The definition section of these definitions and links. The table has their names.
-fn words_by_table(
+fn definition_section_words(
     alloc: Global,
     table: &NameTable,
     definitions: &[Named],
@@ -309,7 +309,7 @@ fn words_by_table(
     ensures { IfOk result (λ words. words ≡ definition_part definitions.now links.now) }
 {
     let mut out = Words::new(alloc);
-    match push_section(&mut out, table, definitions, links) {
+    match push_definition_section(&mut out, table, definitions, links) {
         Ok(()) => Ok(out),
         Err(cause) => {
             // Dropped explicitly, so that the drop is proved once for its type.
@@ -333,8 +333,8 @@ pub fn definition_words_of(
 {
     let expressions = 2 + 2 * definitions.len() as u64;
     let base = expressions + 2 * links.len() as u64;
-    let table = names_used(alloc, seed, definitions, links, base)?;
-    let words = words_by_table(alloc, &table, definitions, links);
+    let table = name_table(alloc, seed, definitions, links, base)?;
+    let words = definition_section_words(alloc, &table, definitions, links);
     drop(table);
     words
 }
@@ -375,7 +375,7 @@ fn word_of_relocation(relocation: &Reloc) -> Word
     let place = number(relocation.section) << 15;
     let part = (relocation.part as u64) << 12;
     let target = number(relocation.target) << 9;
-    word_of(relocation.offset as u64, place + part + target)
+    word_of_halves(relocation.offset as u64, place + part + target)
 }
 
 // Adds the symbol section of these relocations.
@@ -383,7 +383,7 @@ fn word_of_relocation(relocation: &Reloc) -> Word
 fn push_symbol(out: &mut Words, relocations: &[Reloc]) -> Result<(), NoMemory>
     ensures { OnOk result (out.new ≡ out.old ++ symbol_part relocations.now) }
 {
-    out.push(word_of(0, relocations.len() as u64))?;
+    out.push(word_of_halves(0, relocations.len() as u64))?;
     for relocation in relocations {
         out.push(word_of_relocation(relocation))?;
     }

@@ -8,7 +8,7 @@ use Rattle.obj36_parts.specs.Fields.{LinkFields, RelocFields}
 use Rattle.obj36_parts.specs.PartsFields.{PartsFields}
 use Rattle.obj36_parts.specs.Halves.{left, right, quarter}
 use Rattle.obj36_parts.specs.ObjectSegment.{is_newer_version, version_of, has_name, has_entry}
-use Rattle.obj36_parts.specs.ObjectSegment.{head_words, definition_head, symbol_head}
+use Rattle.obj36_parts.specs.ObjectSegment.{head_words, definition_head_words, symbol_head_words}
 use Rattle.obj36_parts.specs.Sections.{entry_mark}
 use Rattle.obj36_parts.specs.ObjectSegment.{first_expression_at, section_unit}
 use Rattle.obj36_parts.specs.ObjectSegment.{part_unit, target_unit}
@@ -19,26 +19,26 @@ use Rattle.obj36_parts.specs.declared.definition.Named.{Named}
 -- ---- names
 
 -- part i of nine bits, counted from the left end of the word `at`
-unfoldable pub unit_at : List ℕ → ℕ → ℕ → ℕ
-unit_at words at i = quarter (slice_index words (at + i / 4)) (i % 4)
+unfoldable pub quarter_at : List ℕ → ℕ → ℕ → ℕ
+quarter_at words at i = quarter (slice_index words (at + i / 4)) (i % 4)
 
 -- `count` characters from part i on, each of which keeps its low eight bits
 unfoldable pub characters : List ℕ → ℕ → ℕ → ℕ → List ℕ
 characters words at i zero = []
-characters words at i (suc count) = unit_at words at i % 2 ^ 8 ∷ characters words at (i + 1) count
+characters words at i (suc count) = quarter_at words at i % 2 ^ 8 ∷ characters words at (i + 1) count
 
 -- the name at an index; a length over 32 is taken as 32
 unfoldable pub name_at : List ℕ → ℕ → List ℕ
-name_at words at = characters words at 1 (min (unit_at words at 0) name_limit)
+name_at words at = characters words at 1 (min (quarter_at words at 0) name_limit)
 
 -- ---- sections by their numbers
 
 -- the section of a definition with this number; numbers over 2 are the static section
-unfoldable pub class_with : ℕ → Section
-class_with zero = Text
-class_with (suc zero) = Linkage
-class_with (suc (suc zero)) = Symbol
-class_with (suc (suc (suc n))) = Static
+unfoldable pub section_of_class_number : ℕ → Section
+section_of_class_number zero = Text
+section_of_class_number (suc zero) = Linkage
+section_of_class_number (suc (suc zero)) = Symbol
+section_of_class_number (suc (suc (suc n))) = Static
 
 -- the section with this number in an expression or a relocation; numbers over 2 are the symbol
 -- section
@@ -58,7 +58,7 @@ definition_at words at =
     record {
       name = name_at words (right second);
       def = record {
-        section = class_with (first % entry_mark);
+        section = section_of_class_number (first % entry_mark);
         value = left second;
         is_entry = nat_le entry_mark first;
       };
@@ -110,12 +110,12 @@ relocations_in words at (suc count) =
 -- ---- the whole
 
 -- the number of words of a map of version 1, with the last word
-abbrev pub older_map : ℕ
-older_map = 7
+abbrev pub older_map_words : ℕ
+older_map_words = 7
 
 -- the number of words of a map of version 2, with the last word
-abbrev pub newer_map : ℕ
-newer_map = 8
+abbrev pub newer_map_words : ℕ
+newer_map_words = 8
 
 -- the index in the map of the word that describes the text
 abbrev pub text_index : ℕ
@@ -142,20 +142,20 @@ abbrev pub bound_index : ℕ → ℕ
 bound_index version = if is_newer_version version then 6 else 5
 
 -- the index of the map, which the last word has
-unfoldable pub map_place : List ℕ → ℕ
-map_place words = left (slice_index words (length words - 1))
+unfoldable pub map_index : List ℕ → ℕ
+map_index words = left (slice_index words (length words - 1))
 
 -- the version, which depends on how far the map is from the end
 unfoldable pub version_in : List ℕ → ℕ
-version_in words = version_of (nat_eq (map_place words + newer_map) (length words))
+version_in words = version_of (nat_eq (map_index words + newer_map_words) (length words))
 
 -- word i of the map, counted from 0
 abbrev pub map_word : List ℕ → ℕ → ℕ
-map_word words i = slice_index words (map_place words + i)
+map_word words i = slice_index words (map_index words + i)
 
 -- the length of the section that word i of the map describes
-unfoldable pub length_of_part : List ℕ → ℕ → ℕ
-length_of_part words i = right (map_word words i)
+unfoldable pub section_length_in_map : List ℕ → ℕ → ℕ
+section_length_in_map words i = right (map_word words i)
 
 -- a number of items, in the right half of word i of a section; it is reduced to the number of words
 -- of the list
@@ -164,21 +164,21 @@ count_of_items words part i = min (right (slice_index part i)) (length words)
 
 -- the rest of the list from the definition section on
 unfoldable pub from_definition : List ℕ → List ℕ
-from_definition words = drop (length_of_part words text_index) words
+from_definition words = drop (section_length_in_map words text_index) words
 
 -- the rest of the list from the linkage section on
 unfoldable pub from_linkage : List ℕ → List ℕ
-from_linkage words = drop (length_of_part words definition_index) (from_definition words)
+from_linkage words = drop (section_length_in_map words definition_index) (from_definition words)
 
 -- the rest of the list after the linkage section
 unfoldable pub from_statics : List ℕ → List ℕ
-from_statics words = drop (length_of_part words linkage_index) (from_linkage words)
+from_statics words = drop (section_length_in_map words linkage_index) (from_linkage words)
 
 -- the rest of the list from the symbol section on
 unfoldable pub from_symbol : List ℕ → List ℕ
 from_symbol words =
     if is_newer_version (version_in words)
-    then drop (length_of_part words statics_index) (from_statics words)
+    then drop (section_length_in_map words statics_index) (from_statics words)
     else from_statics words
 
 -- the offset of the first link, which word 1 of a linkage section has
@@ -194,7 +194,7 @@ first_link_in_head words = link_start (from_linkage words)
 unfoldable pub statics_in : List ℕ → List ℕ
 statics_in words =
     if is_newer_version (version_in words)
-    then take (length_of_part words statics_index) (from_statics words)
+    then take (section_length_in_map words statics_index) (from_statics words)
     else take (first_link_in_head words - head_words) (drop head_words (from_linkage words))
 
 -- the entry bound, which a word of the map has
@@ -207,12 +207,12 @@ parts_of words =
     let definition = from_definition words in
     let count = count_of_items words definition 0 in
     record {
-      text = take (length_of_part words text_index) words;
+      text = take (section_length_in_map words text_index) words;
       statics = statics_in words;
-      definitions = definitions_in definition definition_head count;
+      definitions = definitions_in definition definition_head_words count;
       links = links_in definition (first_expression_at count) (from_linkage words)
           (first_link_in_head words) (count_of_items words definition 1);
-      relocations = relocations_in (from_symbol words) symbol_head
+      relocations = relocations_in (from_symbol words) symbol_head_words
           (count_of_items words (from_symbol words) 0);
       entry_bound = bound_in words;
       version = version_in words;

@@ -14,6 +14,6 @@ pub mod linking;
 mod lists;
 pub mod map;
 pub mod reading;
-mod repeats;
+mod first_repeat;
 pub mod spelling;
 pub mod tables;

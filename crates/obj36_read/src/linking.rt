@@ -6,39 +6,39 @@ ghost use Rattle.std.specs.Prelude.{IfSome};
 ghost use Rattle.obj36_read.specs.TableFaults.{earlier, expression_count};
 ghost use Rattle.obj36_read.specs.TableFaults.{first_expression};
 ghost use Rattle.obj36_read.specs.Reading.{link_start};
-ghost use Rattle.obj36_read.specs.LinkFaults.{is_type, type_faults, link_count};
-ghost use Rattle.obj36_read.specs.LinkFaults.{is_head, is_link_at, link_faults, linkage_fault};
+ghost use Rattle.obj36_read.specs.LinkFaults.{is_expression_type, first_bad_type, link_count};
+ghost use Rattle.obj36_read.specs.LinkFaults.{is_head, is_valid_link_at, first_bad_link, linkage_fault};
 ghost use Rattle.obj36_read.specs.LinkFaults.{behind, links_fault};
 
 use crate::reading::word_at;
-use crate::tables::{count_of_expressions, earlier_of, expression_first, place_if};
+use crate::tables::{count_of_expressions, earlier_of, first_expression_offset, index_if};
 use m36_word::Word;
-use obj36_parts::checks::{greatest_place, has_its_section};
-use obj36_parts::halves::{left_of, right_of, word_of};
-use obj36_parts::names::has_its_name;
+use obj36_parts::checks::{greatest_section_number, kind_has_section};
+use obj36_parts::halves::{left_of, right_of, word_of_halves};
+use obj36_parts::names::kind_has_name;
 use obj36_parts::sections::{HEAD_WORDS, LINK_TAG};
 
 // ---- types of expressions
 
 // Whether a word is the first of a valid expression.
-#[tactic(auto, unfolding(crate::specs::LinkFaults::is_type))]
+#[tactic(auto, unfolding(crate::specs::LinkFaults::is_expression_type))]
 fn is_good_type(version: u8, word: Word) -> bool
-    ensures { result ≡ is_type version word }
+    ensures { result ≡ is_expression_type version word }
 {
     let kind = left_of(word);
-    has_its_name(kind) || (has_its_section(kind) && right_of(word) <= greatest_place(version))
+    kind_has_name(kind) || (kind_has_section(kind) && right_of(word) <= greatest_section_number(version))
 }
 
 // The first expression whose type or section is invalid.
 fn fault_of_types(version: u8, d: &[Word]) -> Option<u64>
     ensures value { result
-        ≡ type_faults version d.now (expression_count d.now) (first_expression d.now) }
+        ≡ first_bad_type version d.now (expression_count d.now) (first_expression d.now) }
     ensures bound { IfSome result (λ p. p < 2 ^ 20) }
 {
     let mut found = None;
-    let mut at = expression_first(d);
+    let mut at = first_expression_offset(d);
     for _ in 0..count_of_expressions(d) {
-        let here = place_if(!is_good_type(version, word_at(d, at)), at);
+        let here = index_if(!is_good_type(version, word_at(d, at)), at);
         found = earlier_of(found, here);
         at += 2;
     }
@@ -81,25 +81,25 @@ fn is_good_head(version: u8, d: &[Word], k: &[Word]) -> bool
 }
 
 // Whether the link at `at` is valid and has its expression at `expression`.
-#[tactic(auto, unfolding(crate::specs::LinkFaults::is_link_at))]
+#[tactic(auto, unfolding(crate::specs::LinkFaults::is_valid_link_at))]
 fn is_good_link(k: &[Word], at: u64, expression: u64) -> bool
     requires { at < 2 ^ 20 }
-    ensures { result ≡ is_link_at k.now at expression }
+    ensures { result ≡ is_valid_link_at k.now at expression }
 {
     let even = word_at(k, at);
     let odd = word_at(k, at + 1);
     let offset = (1u64 << 18).saturating_sub(at);
-    even.value() == word_of(offset, LINK_TAG).value()
+    even.value() == word_of_halves(offset, LINK_TAG).value()
         && left_of(odd) == expression
         && right_of(odd) < 1 << 6
 }
 
 // The first of `count` links from `start` on that is not valid.
-fn fault_of_each(k: &[Word], start: u64, expressions: u64, count: u64) -> Option<u64>
+fn first_link_fault(k: &[Word], start: u64, expressions: u64, count: u64) -> Option<u64>
     requires start { start < 2 ^ 18 }
     requires expressions { expressions < 2 ^ 18 }
     requires count { count < 2 ^ 18 }
-    ensures value { result ≡ link_faults k.now start expressions count }
+    ensures value { result ≡ first_bad_link k.now start expressions count }
     ensures bound { IfSome result (λ p. p < 2 ^ 20) }
 {
     let mut at = start;
@@ -121,7 +121,7 @@ fn fault_of_linkage(version: u8, d: &[Word], k: &[Word]) -> Option<u64>
     ensures bound { IfSome result (λ p. p < 2 ^ 20) }
 {
     if is_good_head(version, d, k) {
-        fault_of_each(k, start_of_links(k), expression_first(d), count_of_links(k))
+        first_link_fault(k, start_of_links(k), first_expression_offset(d), count_of_links(k))
     } else {
         Some(1)
     }
@@ -142,7 +142,7 @@ pub fn index_in_list(from: u64, place: Option<u64>) -> Option<u64>
 
 // The lesser of two indexes, each of which may be missing. As `earlier_of`, but for indexes in the
 // whole list, whose bound is larger.
-fn first_place(first: Option<u64>, second: Option<u64>) -> Option<u64>
+fn lesser_list_index(first: Option<u64>, second: Option<u64>) -> Option<u64>
     requires first { IfSome first (λ p. p < 2 ^ 21) }
     requires second { IfSome second (λ p. p < 2 ^ 21) }
     ensures value { result ≡ earlier first second }
@@ -167,5 +167,5 @@ pub fn fault_of_links(version: u8, d_from: u64, d: &[Word], k_from: u64, k: &[Wo
 {
     let types = index_in_list(d_from, fault_of_types(version, d));
     let links = index_in_list(k_from, fault_of_linkage(version, d, k));
-    first_place(types, links)
+    lesser_list_index(types, links)
 }

@@ -4,8 +4,8 @@ ghost use Rattle.std.specs.Prelude.{ℕ, [], ◌++◌, ◌≡◌, ◌^◌, ◌<�
 ghost use Rattle.obj36_read.specs.Reading.{parts_of};
 
 use crate::reading::{
-    bound, count_in_head, definition_on, first_link_offset, front, length_in_map, linkage_on,
-    read_definitions, read_links, read_relocations, statics, symbol_on, version,
+    bound, count_in_head, words_from_definition, first_link_offset, first_words, length_in_map, words_from_linkage,
+    read_definitions, read_links, read_relocations, statics, words_from_symbol, version,
 };
 use m36_text::HashSeed;
 use m36_word::{NoMemory, Word, Words};
@@ -27,7 +27,7 @@ pub(crate) struct Lists {
 }
 
 // Empty lists. Their names and links will be hashed with this seed.
-pub(crate) fn no_lists(alloc: Global, seed: HashSeed) -> Lists
+pub(crate) fn empty_lists(alloc: Global, seed: HashSeed) -> Lists
     ensures text { result.text ≡ [] }
     ensures statics { result.statics ≡ [] }
     ensures definitions { result.definitions ≡ [] }
@@ -51,14 +51,14 @@ fn read_tables(definitions: &mut Defs, links: &mut Links, words: &[Word]) -> Res
         (definitions.new ≡ definitions.old ++ (parts_of words.now).definitions) }
     ensures links { OnOk result (links.new ≡ links.old ++ (parts_of words.now).links) }
 {
-    let from = definition_on(words);
+    let from = words_from_definition(words);
     let count = count_in_head(words, from, 0);
     read_definitions(definitions, from, count)?;
     read_links(
         links,
         from,
         2 + 2 * count,
-        linkage_on(words),
+        words_from_linkage(words),
         first_link_offset(words),
         count_in_head(words, from, 1),
     )
@@ -77,8 +77,8 @@ pub(crate) fn read_lists(lists: &mut Lists, words: &[Word]) -> Result<(), NoMemo
     ensures relocations { OnOk result
         (lists.new.relocations ≡ lists.old.relocations ++ (parts_of words.now).relocations) }
 {
-    let symbol = symbol_on(words);
-    push_all(&mut lists.text, front(words, length_in_map(words, 1)))?;
+    let symbol = words_from_symbol(words);
+    push_all(&mut lists.text, first_words(words, length_in_map(words, 1)))?;
     push_all(&mut lists.statics, statics(words))?;
     read_tables(&mut lists.definitions, &mut lists.links, words)?;
     read_relocations(

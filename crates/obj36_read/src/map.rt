@@ -4,15 +4,15 @@ ghost use Rattle.std.specs.Prelude.{ℕ, ◌≡◌, ◌+◌, ◌-◌, ◌^◌, �
 ghost use Rattle.std.specs.Prelude.{length, Option, Some, None};
 ghost use Rattle.std.specs.Prelude.{IfSome, if◌then◌else◌};
 ghost use Rattle.obj36_parts.specs.ObjectSegment.{is_newer_version};
-ghost use Rattle.obj36_read.specs.MapFaults.{extent_at, is_in_map, is_bound};
-ghost use Rattle.obj36_read.specs.Reading.{symbol_index, statics_index, newer_map};
-ghost use Rattle.obj36_read.specs.MapFaults.{nowhere, fixed_fault, map_fault};
-ghost use Rattle.obj36_read.specs.MapFaults.{is_outside, section_fault, extents_of, covers};
-ghost use Rattle.obj36_read.specs.MapFaults.{covering, first_shared, shared_fault, extent_words};
-ghost use Rattle.obj36_read.specs.Near.{AreNear};
+ghost use Rattle.obj36_read.specs.MapFaults.{extent_at, locates_map, is_valid_entry_bound};
+ghost use Rattle.obj36_read.specs.Reading.{symbol_index, statics_index, newer_map_words};
+ghost use Rattle.obj36_read.specs.MapFaults.{absent_extent, map_word_fault, map_fault};
+ghost use Rattle.obj36_read.specs.MapFaults.{is_bad_extent, section_fault, extents_of, covers};
+ghost use Rattle.obj36_read.specs.MapFaults.{sections_covering, first_shared_word, shared_fault, extent_words};
+ghost use Rattle.obj36_read.specs.Near.{AllFitHalfWords};
 
 use crate::reading::{
-    NEWER_MAP, OLDER_MAP, behind, front, index_of_bound, length_in_map, place_of_map, version,
+    NEWER_MAP, OLDER_MAP, behind, first_words, index_of_bound, length_in_map, index_of_map, version,
     word_at,
 };
 use m36_word::Word;
@@ -40,14 +40,14 @@ pub struct Extents {
 }
 
 // Where the section is that word i of the map describes.
-#[tactic(auto, unfolding(crate::specs::MapFaults::extent_at, crate::specs::Reading::length_of_part))]
+#[tactic(auto, unfolding(crate::specs::MapFaults::extent_at, crate::specs::Reading::section_length_in_map))]
 fn extent_in_map(words: &[Word], i: u64) -> Extent
-    requires { i < newer_map }
+    requires { i < newer_map_words }
     ensures value { result ≡ extent_at words.now i }
     ensures from { result.from < 2 ^ 18 }
     ensures count { result.count < 2 ^ 18 }
 {
-    let word = word_at(words, place_of_map(words) + i);
+    let word = word_at(words, index_of_map(words) + i);
     Extent {
         from: left_of(word),
         count: right_of(word),
@@ -58,34 +58,34 @@ fn extent_in_map(words: &[Word], i: u64) -> Extent
 
 // Whether the last word locates a map: from there to the end there are as many words as a map of
 // either version has, with the last word.
-#[tactic(auto, unfolding(crate::specs::MapFaults::is_in_map))]
+#[tactic(auto, unfolding(crate::specs::MapFaults::locates_map))]
 fn has_map_length(words: &[Word]) -> bool
-    ensures { result ≡ is_in_map words.now }
+    ensures { result ≡ locates_map words.now }
 {
-    let map = place_of_map(words);
+    let map = index_of_map(words);
     let count = words.len() as u64;
     map + OLDER_MAP == count || map + NEWER_MAP == count
 }
 
 // Whether the map word with the entry bound is valid: its right half is 0, and the bound is at most
 // the length of the text.
-#[tactic(auto, unfolding(crate::specs::MapFaults::is_bound))]
+#[tactic(auto, unfolding(crate::specs::MapFaults::is_valid_entry_bound))]
 fn is_good_bound(words: &[Word], bound: Word) -> bool
-    ensures { result ≡ is_bound words.now bound }
+    ensures { result ≡ is_valid_entry_bound words.now bound }
 {
     right_of(bound) == 0 && left_of(bound) <= length_in_map(words, 1)
 }
 
 // The first invalid word of a map with a valid length: that of the version, that of the entry
 // bound, or the last word.
-#[tactic(auto, unfolding(crate::specs::MapFaults::fixed_fault, m36_text::specs::Lines::first_met))]
-fn fault_of_fixed(words: &[Word], version: u8) -> Option<u64>
+#[tactic(auto, unfolding(crate::specs::MapFaults::map_word_fault, m36_text::specs::Lines::first_true_case))]
+fn fault_of_map_words(words: &[Word], version: u8) -> Option<u64>
     requires some { 1 ≤ length words.now }
     requires few { length words.now < 2 ^ 32 }
-    ensures value { result ≡ fixed_fault words.now version }
+    ensures value { result ≡ map_word_fault words.now version }
     ensures bound { IfSome result (λ p. p < 2 ^ 32) }
 {
-    let map = place_of_map(words);
+    let map = index_of_map(words);
     let last = words.len() as u64 - 1;
     if word_at(words, map).value() != version as u64 {
         return Some(map);
@@ -110,7 +110,7 @@ pub fn fault_of_map(words: &[Word]) -> Option<u64>
     ensures bound { IfSome result (λ p. p < 2 ^ 32) }
 {
     if has_map_length(words) {
-        fault_of_fixed(words, version(words))
+        fault_of_map_words(words, version(words))
     } else {
         Some(words.len() as u64 - 1)
     }
@@ -126,7 +126,7 @@ const SYMBOL_HEAD: u64 = 1;
 // The index in the map of the word that describes the symbol section.
 fn index_of_symbol(version: u8) -> u64
     ensures value { result ≡ symbol_index version }
-    ensures bound { result < newer_map }
+    ensures bound { result < newer_map_words }
 {
     if version == 2 { 5 } else { 4 }
 }
@@ -134,7 +134,7 @@ fn index_of_symbol(version: u8) -> u64
 // Where the static section is; in version 1, which has none, an empty one at word 0.
 fn extent_of_statics(words: &[Word], version: u8) -> Extent
     ensures value { result
-        ≡ (if is_newer_version version then extent_at words.now statics_index else nowhere) }
+        ≡ (if is_newer_version version then extent_at words.now statics_index else absent_extent) }
     ensures from { result.from < 2 ^ 18 }
     ensures count { result.count < 2 ^ 18 }
 {
@@ -149,7 +149,7 @@ fn extent_of_statics(words: &[Word], version: u8) -> Extent
 #[tactic(auto, unfolding(crate::specs::MapFaults::extents_of))]
 pub fn extents_in_map(words: &[Word]) -> Extents
     ensures value { result ≡ extents_of words.now }
-    ensures small { AreNear result }
+    ensures small { AllFitHalfWords result }
 {
     let version = version(words);
     Extents {
@@ -162,37 +162,37 @@ pub fn extents_in_map(words: &[Word]) -> Extents
 }
 
 // Whether a section ends past the map, which begins at `map`, or has fewer than `least` words.
-#[tactic(auto, unfolding(crate::specs::MapFaults::is_outside))]
-fn leaves(map: u64, e: Extent, least: u64) -> bool
+#[tactic(auto, unfolding(crate::specs::MapFaults::is_bad_extent))]
+fn is_bad_section(map: u64, e: Extent, least: u64) -> bool
     requires from { e.from < 2 ^ 18 }
     requires count { e.count < 2 ^ 18 }
-    ensures { result ≡ is_outside map e least }
+    ensures { result ≡ is_bad_extent map e least }
 {
     map < e.from + e.count || e.count < least
 }
 
 /// The map word of the first section that ends past the beginning of the map or is too short for
 /// its head.
-#[tactic(auto, unfolding(crate::specs::MapFaults::section_fault, m36_text::specs::Lines::first_met))]
+#[tactic(auto, unfolding(crate::specs::MapFaults::section_fault, m36_text::specs::Lines::first_true_case))]
 pub fn fault_of_sections(words: &[Word]) -> Option<u64>
     ensures value { result ≡ section_fault words.now }
     ensures bound { IfSome result (λ p. p < 2 ^ 32) }
 {
-    let map = place_of_map(words);
+    let map = index_of_map(words);
     let e = extents_in_map(words);
-    if leaves(map, e.text, 0) {
+    if is_bad_section(map, e.text, 0) {
         return Some(map + 1);
     }
-    if leaves(map, e.definition, DEFINITION_HEAD) {
+    if is_bad_section(map, e.definition, DEFINITION_HEAD) {
         return Some(map + 2);
     }
-    if leaves(map, e.linkage, HEAD_WORDS) {
+    if is_bad_section(map, e.linkage, HEAD_WORDS) {
         return Some(map + 3);
     }
-    if leaves(map, e.statics, 0) {
+    if is_bad_section(map, e.statics, 0) {
         return Some(map + 4);
     }
-    if leaves(map, e.symbol, SYMBOL_HEAD) {
+    if is_bad_section(map, e.symbol, SYMBOL_HEAD) {
         return Some(map + index_of_symbol(version(words)));
     }
     None
@@ -211,10 +211,10 @@ fn has_word(e: Extent, at: u64) -> bool
 }
 
 // The number of sections that have the word at an index.
-#[tactic(auto, unfolding(crate::specs::MapFaults::covering))]
+#[tactic(auto, unfolding(crate::specs::MapFaults::sections_covering))]
 fn sections_with(e: &Extents, at: u64) -> u64
-    requires { AreNear e.now }
-    ensures { result ≡ covering e.now at }
+    requires { AllFitHalfWords e.now }
+    ensures { result ≡ sections_covering e.now at }
 {
     has_word(e.text, at) as u64
         + has_word(e.definition, at) as u64
@@ -224,13 +224,13 @@ fn sections_with(e: &Extents, at: u64) -> u64
 }
 
 /// The first word that is in two sections.
-#[tactic(auto, unfolding(crate::specs::MapFaults::shared_fault, crate::specs::MapFaults::first_shared))]
+#[tactic(auto, unfolding(crate::specs::MapFaults::shared_fault, crate::specs::MapFaults::first_shared_word))]
 pub fn fault_of_sharing(words: &[Word]) -> Option<u64>
     ensures value { result ≡ shared_fault words.now }
     ensures bound { IfSome result (λ p. p < 2 ^ 32) }
 {
     let e = extents_in_map(words);
-    for at in 0..place_of_map(words) {
+    for at in 0..index_of_map(words) {
         if 2 <= sections_with(&e, at) {
             return Some(at);
         }
@@ -243,5 +243,5 @@ pub fn fault_of_sharing(words: &[Word]) -> Option<u64>
 pub fn words_within(words: &[Word], e: Extent) -> &[Word]
     ensures { result.now ≡ extent_words words.now e }
 {
-    front(behind(words, e.from), e.count)
+    first_words(behind(words, e.from), e.count)
 }

@@ -4,22 +4,22 @@ ghost use Rattle.std.specs.Prelude.{ℕ, [], ◌≡◌, ◌+◌, ◌-◌, ◌*�
 ghost use Rattle.std.specs.Prelude.{◌≤◌, ◌++◌, min, length, take, drop, slice_index, if◌then◌else◌, IfOk, OnOk};
 ghost use Rattle.obj36_parts.specs.declared.section.Section.TheVariants.{Text};
 ghost use Rattle.obj36_parts.specs.Halves.{quarter};
-ghost use Rattle.obj36_read.specs.Reading.{unit_at, characters, name_at, class_with};
+ghost use Rattle.obj36_read.specs.Reading.{quarter_at, characters, name_at, section_of_class_number};
 ghost use Rattle.obj36_read.specs.Reading.{section_with, definition_at, definitions_in, link_at};
-ghost use Rattle.obj36_read.specs.Reading.{links_in, relocation_in, relocations_in, map_place};
-ghost use Rattle.obj36_read.specs.Reading.{version_in, length_of_part, count_of_items, from_definition};
+ghost use Rattle.obj36_read.specs.Reading.{links_in, relocation_in, relocations_in, map_index};
+ghost use Rattle.obj36_read.specs.Reading.{version_in, section_length_in_map, count_of_items, from_definition};
 ghost use Rattle.obj36_read.specs.Reading.{from_linkage, from_statics, from_symbol, first_link_in_head};
-ghost use Rattle.obj36_read.specs.Reading.{statics_in, bound_index, bound_in, parts_of, newer_map};
+ghost use Rattle.obj36_read.specs.Reading.{statics_in, bound_index, bound_in, parts_of, newer_map_words};
 ghost use Rattle.m36_text.specs.Texts.{name_limit};
-ghost use Rattle.obj36_parts.specs.ObjectSegment.{definition_head, symbol_head};
+ghost use Rattle.obj36_parts.specs.ObjectSegment.{definition_head_words, symbol_head_words};
 
-use crate::lists::{no_lists, parts_with, read_lists};
+use crate::lists::{empty_lists, parts_with, read_lists};
 use m36_text::{HashSeed, LONGEST_NAME, Name};
 use m36_word::{NoMemory, Word};
 use obj36_parts::definition::{Def, Defs, Named};
 use obj36_parts::halves::{left_of, right_of};
 use obj36_parts::link::{Link, Links};
-use obj36_parts::names::{has_its_entry, has_its_name};
+use obj36_parts::names::{kind_has_entry, kind_has_name};
 use obj36_parts::parts::Parts;
 use obj36_parts::relocation::{Reloc, Relocs};
 use obj36_parts::section::Section;
@@ -55,7 +55,7 @@ pub fn behind(words: &[Word], count: u64) -> &[Word]
 }
 
 /// The first `count` words; all if there are fewer.
-pub fn front(words: &[Word], count: u64) -> &[Word]
+pub fn first_words(words: &[Word], count: u64) -> &[Word]
     ensures { result.now ≡ take count words.now }
 {
     if count <= words.len() as u64 {
@@ -84,11 +84,11 @@ fn part(word: Word, i: u64) -> u64
 }
 
 // Part i of nine bits, counted from 0 at the left end of the word `at`.
-#[tactic(auto, unfolding(crate::specs::Reading::unit_at))]
-pub(crate) fn unit(words: &[Word], at: u64, i: u64) -> u64
+#[tactic(auto, unfolding(crate::specs::Reading::quarter_at))]
+pub(crate) fn quarter_from(words: &[Word], at: u64, i: u64) -> u64
     requires at { at < 2 ^ 32 }
     requires i { i < 2 ^ 32 }
-    ensures value { result ≡ unit_at words.now at i }
+    ensures value { result ≡ quarter_at words.now at i }
     ensures bound { result < 2 ^ 9 }
 {
     part(word_at(words, at + i / 4), i % 4)
@@ -101,7 +101,7 @@ fn put_characters(words: &[Word], at: u64, count: usize, bytes: &mut [u8; 32])
     ensures { take count bytes.new ≡ characters words.now at 1 count }
 {
     for i in 0..count {
-        bytes[i] = (unit(words, at, i as u64 + 1) % (1 << 8)) as u8;
+        bytes[i] = (quarter_from(words, at, i as u64 + 1) % (1 << 8)) as u8;
     }
 }
 
@@ -111,7 +111,7 @@ fn name(words: &[Word], at: u64) -> Name
     requires { at < 2 ^ 32 }
     ensures { result ≡ name_at words.now at }
 {
-    let count = unit(words, at, 0).min(LONGEST_NAME as u64) as usize;
+    let count = quarter_from(words, at, 0).min(LONGEST_NAME as u64) as usize;
     let mut bytes = [0; 32];
     put_characters(words, at, count, &mut bytes);
     match Name::new(&bytes[..count]) {
@@ -123,9 +123,9 @@ fn name(words: &[Word], at: u64) -> Name
 // ---- sections by their numbers
 
 // The section of a definition with this number; numbers over 2 are the static section.
-#[tactic(auto, unfolding(crate::specs::Reading::class_with))]
+#[tactic(auto, unfolding(crate::specs::Reading::section_of_class_number))]
 fn section_of_class(class: u64) -> Section
-    ensures { result ≡ class_with class }
+    ensures { result ≡ section_of_class_number class }
 {
     match class {
         0 => Section::Text,
@@ -173,7 +173,7 @@ fn definition(words: &[Word], at: u64) -> Named
 pub(crate) fn read_definitions(found: &mut Defs, words: &[Word], count: u64) -> Result<(), NoMemory>
     requires { count < 2 ^ 32 }
     ensures { OnOk result
-        (found.new ≡ found.old ++ definitions_in words.now definition_head count) }
+        (found.new ≡ found.old ++ definitions_in words.now definition_head_words count) }
 {
     let mut at = 2;
     for _ in 0..count {
@@ -221,11 +221,11 @@ fn link(words: &[Word], at: u64, linkage: &[Word], place: u64) -> Link
     let odd = word_at(linkage, place + 1);
     let kind = (left_of(first) % (1 << 8)) as u8;
     Link {
-        name: name_if(has_its_name(kind as u64), words, right_of(first)),
-        entry: name_if(has_its_entry(kind as u64), words, left_of(second)),
+        name: name_if(kind_has_name(kind as u64), words, right_of(first)),
+        entry: name_if(kind_has_entry(kind as u64), words, left_of(second)),
         expr: right_of(second) as u32,
         kind,
-        section: section_unless(has_its_name(kind as u64), right_of(first)),
+        section: section_unless(kind_has_name(kind as u64), right_of(first)),
         modifier: (right_of(odd) % (1 << 6)) as u8,
     }
 }
@@ -279,7 +279,7 @@ pub(crate) fn read_relocations(
 ) -> Result<(), NoMemory>
     requires { count < 2 ^ 32 }
     ensures { OnOk result
-        (found.new ≡ found.old ++ relocations_in words.now symbol_head count) }
+        (found.new ≡ found.old ++ relocations_in words.now symbol_head_words count) }
 {
     let mut at = 1;
     for _ in 0..count {
@@ -292,9 +292,9 @@ pub(crate) fn read_relocations(
 // ---- the whole
 
 // The index of the map, which the last word has.
-#[tactic(auto, unfolding(crate::specs::Reading::map_place))]
-pub(crate) fn place_of_map(words: &[Word]) -> u64
-    ensures value { result ≡ map_place words.now }
+#[tactic(auto, unfolding(crate::specs::Reading::map_index))]
+pub(crate) fn index_of_map(words: &[Word]) -> u64
+    ensures value { result ≡ map_index words.now }
     ensures bound { result < 2 ^ 18 }
 {
     left_of(word_at(words, (words.len() as u64).saturating_sub(1)))
@@ -305,17 +305,17 @@ pub(crate) fn place_of_map(words: &[Word]) -> u64
 pub fn version(words: &[Word]) -> u8
     ensures { result ≡ version_in words.now }
 {
-    version_of(place_of_map(words) + NEWER_MAP == words.len() as u64)
+    version_of(index_of_map(words) + NEWER_MAP == words.len() as u64)
 }
 
 /// The length of a section, which word `i` of the map has.
-#[tactic(auto, unfolding(crate::specs::Reading::length_of_part))]
+#[tactic(auto, unfolding(crate::specs::Reading::section_length_in_map))]
 pub fn length_in_map(words: &[Word], i: u64) -> u64
-    requires { i < newer_map }
-    ensures value { result ≡ length_of_part words.now i }
+    requires { i < newer_map_words }
+    ensures value { result ≡ section_length_in_map words.now i }
     ensures bound { result < 2 ^ 18 }
 {
-    right_of(word_at(words, place_of_map(words) + i))
+    right_of(word_at(words, index_of_map(words) + i))
 }
 
 // A number of items, in the right half of word i of a section; it is reduced to the number of words
@@ -330,7 +330,7 @@ pub(crate) fn count_in_head(words: &[Word], part: &[Word], i: u64) -> u64
 
 // The rest of the list from the definition section on.
 #[tactic(auto, unfolding(crate::specs::Reading::from_definition))]
-pub(crate) fn definition_on(words: &[Word]) -> &[Word]
+pub(crate) fn words_from_definition(words: &[Word]) -> &[Word]
     ensures { result.now ≡ from_definition words.now }
 {
     behind(words, length_in_map(words, 1))
@@ -338,29 +338,29 @@ pub(crate) fn definition_on(words: &[Word]) -> &[Word]
 
 // The rest of the list from the linkage section on.
 #[tactic(auto, unfolding(crate::specs::Reading::from_linkage))]
-pub(crate) fn linkage_on(words: &[Word]) -> &[Word]
+pub(crate) fn words_from_linkage(words: &[Word]) -> &[Word]
     ensures { result.now ≡ from_linkage words.now }
 {
-    behind(definition_on(words), length_in_map(words, 2))
+    behind(words_from_definition(words), length_in_map(words, 2))
 }
 
 // The rest of the list after the linkage section.
 #[tactic(auto, unfolding(crate::specs::Reading::from_statics))]
-fn statics_on(words: &[Word]) -> &[Word]
+fn words_from_statics(words: &[Word]) -> &[Word]
     ensures { result.now ≡ from_statics words.now }
 {
-    behind(linkage_on(words), length_in_map(words, 3))
+    behind(words_from_linkage(words), length_in_map(words, 3))
 }
 
 // The rest of the list from the symbol section on.
 #[tactic(auto, unfolding(crate::specs::Reading::from_symbol))]
-pub(crate) fn symbol_on(words: &[Word]) -> &[Word]
+pub(crate) fn words_from_symbol(words: &[Word]) -> &[Word]
     ensures { result.now ≡ from_symbol words.now }
 {
     if version(words) == 2 {
-        behind(statics_on(words), length_in_map(words, 4))
+        behind(words_from_statics(words), length_in_map(words, 4))
     } else {
-        statics_on(words)
+        words_from_statics(words)
     }
 }
 
@@ -370,7 +370,7 @@ pub(crate) fn first_link_offset(words: &[Word]) -> u64
     ensures value { result ≡ first_link_in_head words.now }
     ensures bound { result < 2 ^ 18 }
 {
-    left_of(word_at(linkage_on(words), 1))
+    left_of(word_at(words_from_linkage(words), 1))
 }
 
 // The static words, from the section that has them.
@@ -379,17 +379,17 @@ pub(crate) fn statics(words: &[Word]) -> &[Word]
     ensures { result.now ≡ statics_in words.now }
 {
     if version(words) == 2 {
-        front(statics_on(words), length_in_map(words, 4))
+        first_words(words_from_statics(words), length_in_map(words, 4))
     } else {
-        let inner = behind(linkage_on(words), HEAD_WORDS);
-        front(inner, first_link_offset(words).saturating_sub(HEAD_WORDS))
+        let inner = behind(words_from_linkage(words), HEAD_WORDS);
+        first_words(inner, first_link_offset(words).saturating_sub(HEAD_WORDS))
     }
 }
 
 /// The index of the word with the entry bound in the map.
 pub fn index_of_bound(version: u8) -> u64
     ensures value { result ≡ bound_index version }
-    ensures bound { result < newer_map }
+    ensures bound { result < newer_map_words }
 {
     if version == 2 { 6 } else { 5 }
 }
@@ -401,7 +401,7 @@ pub(crate) fn bound(words: &[Word]) -> u64
     ensures bound { result < 2 ^ 18 }
 {
     let i = index_of_bound(version(words));
-    left_of(word_at(words, place_of_map(words) + i))
+    left_of(word_at(words, index_of_map(words) + i))
 }
 
 /// Decodes the parts that a list of fewer than 2^32 words may encode. Fails only with `NoMemory`.
@@ -410,8 +410,8 @@ pub fn parts_in(alloc: Global, words: &[Word]) -> Result<Parts, NoMemory>
     ensures { IfOk result (λ p. p ≡ parts_of words.now) }
 {
     // All names and links are decoded from these words, so their digest is the seed.
-    let seed = HashSeed::of_words(alloc, definition_on(words))?;
-    let mut lists = no_lists(alloc, seed);
+    let seed = HashSeed::of_words(alloc, words_from_definition(words))?;
+    let mut lists = empty_lists(alloc, seed);
     match read_lists(&mut lists, words) {
         Ok(()) => Ok(parts_with(lists, words)),
         Err(cause) => {

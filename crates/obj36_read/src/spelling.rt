@@ -10,21 +10,21 @@ ghost use Rattle.obj36_read.specs.TableFaults.{first_expression, are_characters,
 ghost use Rattle.obj36_read.specs.TableFaults.{is_name_at, name_fault, defined_names_fault};
 ghost use Rattle.obj36_read.specs.TableFaults.{expression_fault, linked_names_fault, names_fault};
 
-use crate::reading::{unit, word_at};
+use crate::reading::{quarter_from, word_at};
 use crate::tables::{
-    count_of_definitions, count_of_expressions, definition_behind, definition_first, earlier_of,
-    expression_first, is_within, place_if, place_of_name,
+    count_of_definitions, count_of_expressions, next_definition_offset, first_definition_offset, earlier_of,
+    first_expression_offset, is_name_within, index_if, offset_of_name,
 };
 use m36_text::{LONGEST_NAME, is_name_character};
 use m36_word::Word;
 use obj36_parts::halves::{left_of, right_of};
-use obj36_parts::names::{has_its_entry, has_its_name};
+use obj36_parts::names::{kind_has_entry, kind_has_name};
 
 // Whether a part of nine bits is a character that a name can have.
-fn is_name_unit(unit: u64) -> bool
-    ensures { result ≡ is_name_character unit }
+fn is_name_quarter(quarter_from: u64) -> bool
+    ensures { result ≡ is_name_character quarter_from }
 {
-    unit < 1 << 8 && is_name_character(unit as u8)
+    quarter_from < 1 << 8 && is_name_character(quarter_from as u8)
 }
 
 // Whether `count` nine-bit parts, from part `from` of the word `at` on, are characters of a name.
@@ -35,7 +35,7 @@ fn have_name_bytes(d: &[Word], at: u64, from: u64, count: u64) -> bool
     ensures { result ≡ are_characters d.now at from count }
 {
     for i in 0..count {
-        if !is_name_unit(unit(d, at, from + i)) {
+        if !is_name_quarter(quarter_from(d, at, from + i)) {
             return false;
         }
     }
@@ -50,7 +50,7 @@ fn have_zeros(d: &[Word], at: u64, from: u64, count: u64) -> bool
     ensures { result ≡ are_zeros d.now at from count }
 {
     for i in 0..count {
-        if unit(d, at, from + i) != 0 {
+        if quarter_from(d, at, from + i) != 0 {
             return false;
         }
     }
@@ -63,8 +63,8 @@ fn has_good_name(d: &[Word], at: u64) -> bool
     requires { at < 2 ^ 20 }
     ensures { result ≡ is_name_at d.now at }
 {
-    let length = unit(d, at, 0);
-    is_within(d, at)
+    let length = quarter_from(d, at, 0);
+    is_name_within(d, at)
         && 1 <= length
         && length <= LONGEST_NAME as u64
         && have_name_bytes(d, at, 1, length)
@@ -83,7 +83,7 @@ fn fault_of_name(d: &[Word], holder: u64, at: u64) -> Option<u64>
     if d.len() as u64 <= at {
         return Some(holder);
     }
-    place_if(!has_good_name(d, at), at)
+    index_if(!has_good_name(d, at), at)
 }
 
 // The first fault of the names of definitions.
@@ -93,11 +93,11 @@ fn fault_of_defined_names(d: &[Word]) -> Option<u64>
     ensures bound { IfSome result (λ p. p < 2 ^ 20) }
 {
     let mut found = None;
-    let mut at = definition_first(d);
+    let mut at = first_definition_offset(d);
     for _ in 0..count_of_definitions(d) {
-        let here = fault_of_name(d, at + 1, place_of_name(d, at));
+        let here = fault_of_name(d, at + 1, offset_of_name(d, at));
         found = earlier_of(found, here);
-        at = definition_behind(d, at);
+        at = next_definition_offset(d, at);
     }
     found
 }
@@ -126,8 +126,8 @@ fn fault_of_expression(d: &[Word], at: u64) -> Option<u64>
     let first = word_at(d, at);
     let second = word_at(d, at + 1);
     let kind = left_of(first);
-    let name = fault_of_name_if(has_its_name(kind), d, at, right_of(first));
-    let entry = fault_of_name_if(has_its_entry(kind), d, at + 1, left_of(second));
+    let name = fault_of_name_if(kind_has_name(kind), d, at, right_of(first));
+    let entry = fault_of_name_if(kind_has_entry(kind), d, at + 1, left_of(second));
     earlier_of(name, entry)
 }
 
@@ -138,7 +138,7 @@ fn fault_of_linked_names(d: &[Word]) -> Option<u64>
     ensures bound { IfSome result (λ p. p < 2 ^ 20) }
 {
     let mut found = None;
-    let mut at = expression_first(d);
+    let mut at = first_expression_offset(d);
     for _ in 0..count_of_expressions(d) {
         let here = fault_of_expression(d, at);
         found = earlier_of(found, here);

@@ -3,15 +3,15 @@
 ghost use Rattle.std.specs.Prelude.{ℕ, ◌≡◌, ◌+◌, ◌-◌, ◌*◌, ◌/◌, ◌^◌, ◌<◌, ◌&&◌};
 ghost use Rattle.std.specs.Prelude.{◌||◌, min, length, Option, Some};
 ghost use Rattle.std.specs.Prelude.{None, IfSome, IfOk};
-ghost use Rattle.obj36_read.specs.TableFaults.{earlier, where_bad, definition_count};
-ghost use Rattle.obj36_read.specs.TableFaults.{first_definition, next_definition, is_member};
+ghost use Rattle.obj36_read.specs.TableFaults.{earlier, index_if_bad, definition_count};
+ghost use Rattle.obj36_read.specs.TableFaults.{first_definition, next_definition, has_room_for_definition};
 ghost use Rattle.obj36_read.specs.TableFaults.{chain_fault, count_fault, expression_count};
-ghost use Rattle.obj36_read.specs.TableFaults.{first_expression, leaves_section, class_at};
-ghost use Rattle.obj36_read.specs.TableFaults.{class_faults, name_place, lies_within, is_at_head};
+ghost use Rattle.obj36_read.specs.TableFaults.{first_expression, expressions_leave_section, class_at};
+ghost use Rattle.obj36_read.specs.TableFaults.{first_bad_class, name_offset_at, name_is_within, is_at_head};
 ghost use Rattle.obj36_read.specs.TableFaults.{members_fault, table_fault};
 
-use crate::reading::{unit, word_at};
-use crate::repeats::fault_of_repeats;
+use crate::reading::{quarter_from, word_at};
+use crate::first_repeat::fault_of_repeats;
 use m36_word::{NoMemory, Word};
 use obj36_parts::checks::greatest_class;
 use obj36_parts::halves::{left_of, right_of};
@@ -33,9 +33,9 @@ pub(crate) fn earlier_of(first: Option<u64>, second: Option<u64>) -> Option<u64>
 }
 
 // The index, if the word there is bad.
-pub(crate) fn place_if(bad: bool, at: u64) -> Option<u64>
+pub(crate) fn index_if(bad: bool, at: u64) -> Option<u64>
     requires { at < 2 ^ 20 }
-    ensures value { result ≡ where_bad bad at }
+    ensures value { result ≡ index_if_bad bad at }
     ensures bound { IfSome result (λ p. p < 2 ^ 20) }
 {
     if bad { Some(at) } else { None }
@@ -54,7 +54,7 @@ pub(crate) fn count_of_definitions(d: &[Word]) -> u64
 
 // The offset of the first definition, from the head of the section.
 #[tactic(auto, unfolding(crate::specs::TableFaults::first_definition))]
-pub(crate) fn definition_first(d: &[Word]) -> u64
+pub(crate) fn first_definition_offset(d: &[Word]) -> u64
     ensures value { result ≡ first_definition d.now }
     ensures bound { result < 2 ^ 18 }
 {
@@ -63,7 +63,7 @@ pub(crate) fn definition_first(d: &[Word]) -> u64
 
 // The offset of the next definition, 0 after the last.
 #[tactic(auto, unfolding(crate::specs::TableFaults::next_definition))]
-pub(crate) fn definition_behind(d: &[Word], at: u64) -> u64
+pub(crate) fn next_definition_offset(d: &[Word], at: u64) -> u64
     ensures value { result ≡ next_definition d.now at }
     ensures bound { result < 2 ^ 18 }
 {
@@ -71,10 +71,10 @@ pub(crate) fn definition_behind(d: &[Word], at: u64) -> u64
 }
 
 // Whether a definition at an offset is within the section.
-#[tactic(auto, unfolding(crate::specs::TableFaults::is_member))]
-fn is_inside(d: &[Word], at: u64) -> bool
+#[tactic(auto, unfolding(crate::specs::TableFaults::has_room_for_definition))]
+fn is_definition_within(d: &[Word], at: u64) -> bool
     requires { at < 2 ^ 18 }
-    ensures { result ≡ is_member d.now at }
+    ensures { result ≡ has_room_for_definition d.now at }
 {
     at != 0 && at + 2 <= d.len() as u64
 }
@@ -83,7 +83,7 @@ fn is_inside(d: &[Word], at: u64) -> bool
 // `at` of a next one. There is no fault if this is 0. If it is a further definition, the fault is
 // that of word 0, and if it is not within the section, that of `holder`.
 #[tactic(auto, unfolding(crate::specs::TableFaults::chain_fault))]
-fn end_of_chain(d: &[Word], holder: u64, at: u64) -> Option<u64>
+fn fault_at_end_of_chain(d: &[Word], holder: u64, at: u64) -> Option<u64>
     requires holder { holder < 2 ^ 18 }
     requires at { at < 2 ^ 18 }
     ensures value { result ≡ chain_fault d.now 0 holder at }
@@ -91,7 +91,7 @@ fn end_of_chain(d: &[Word], holder: u64, at: u64) -> Option<u64>
 {
     if at == 0 {
         None
-    } else if is_inside(d, at) {
+    } else if is_definition_within(d, at) {
         Some(0)
     } else {
         Some(holder)
@@ -106,15 +106,15 @@ fn fault_of_chain(d: &[Word], count: u64) -> Option<u64>
     ensures bound { IfSome result (λ p. p < 2 ^ 20) }
 {
     let mut holder = 0;
-    let mut at = definition_first(d);
+    let mut at = first_definition_offset(d);
     for _ in 0..count {
-        if !is_inside(d, at) {
+        if !is_definition_within(d, at) {
             return Some(0);
         }
         holder = at;
-        at = definition_behind(d, at);
+        at = next_definition_offset(d, at);
     }
-    end_of_chain(d, holder, at)
+    fault_at_end_of_chain(d, holder, at)
 }
 
 // The fault of the number of definitions, or of their chain.
@@ -143,7 +143,7 @@ pub(crate) fn count_of_expressions(d: &[Word]) -> u64
 
 // The offset of the first expression, from the head of the section.
 #[tactic(auto, unfolding(crate::specs::TableFaults::first_expression))]
-pub(crate) fn expression_first(d: &[Word]) -> u64
+pub(crate) fn first_expression_offset(d: &[Word]) -> u64
     ensures value { result ≡ first_expression d.now }
     ensures bound { result < 2 ^ 18 }
 {
@@ -151,11 +151,11 @@ pub(crate) fn expression_first(d: &[Word]) -> u64
 }
 
 // Whether the table of expressions is not within the section.
-#[tactic(auto, unfolding(crate::specs::TableFaults::leaves_section))]
+#[tactic(auto, unfolding(crate::specs::TableFaults::expressions_leave_section))]
 fn expressions_leave(d: &[Word]) -> bool
-    ensures { result ≡ leaves_section d.now }
+    ensures { result ≡ expressions_leave_section d.now }
 {
-    let first = expression_first(d);
+    let first = first_expression_offset(d);
     let length = d.len() as u64;
     length <= first || length < first + 2 * count_of_expressions(d)
 }
@@ -178,15 +178,15 @@ fn class_of_definition(d: &[Word], at: u64) -> u64
 // The first definition whose class is over `last`.
 fn fault_of_classes(d: &[Word], last: u64) -> Option<u64>
     ensures value { result
-        ≡ class_faults last d.now (definition_count d.now) (first_definition d.now) }
+        ≡ first_bad_class last d.now (definition_count d.now) (first_definition d.now) }
     ensures bound { IfSome result (λ p. p < 2 ^ 20) }
 {
     let mut found = None;
-    let mut at = definition_first(d);
+    let mut at = first_definition_offset(d);
     for _ in 0..count_of_definitions(d) {
-        let here = place_if(last < class_of_definition(d, at), at);
+        let here = index_if(last < class_of_definition(d, at), at);
         found = earlier_of(found, here);
-        at = definition_behind(d, at);
+        at = next_definition_offset(d, at);
     }
     found
 }
@@ -194,23 +194,23 @@ fn fault_of_classes(d: &[Word], last: u64) -> Option<u64>
 // ---- names that occur twice
 
 // The offset of the name of a definition.
-#[tactic(auto, unfolding(crate::specs::TableFaults::name_place))]
-pub(crate) fn place_of_name(d: &[Word], at: u64) -> u64
+#[tactic(auto, unfolding(crate::specs::TableFaults::name_offset_at))]
+pub(crate) fn offset_of_name(d: &[Word], at: u64) -> u64
     requires { at < 2 ^ 20 }
-    ensures value { result ≡ name_place d.now at }
+    ensures value { result ≡ name_offset_at d.now at }
     ensures bound { result < 2 ^ 18 }
 {
     right_of(word_at(d, at + 1))
 }
 
 // Whether the name that begins at an offset is within the section.
-#[tactic(auto, unfolding(crate::specs::TableFaults::lies_within))]
-pub(crate) fn is_within(d: &[Word], at: u64) -> bool
+#[tactic(auto, unfolding(crate::specs::TableFaults::name_is_within))]
+pub(crate) fn is_name_within(d: &[Word], at: u64) -> bool
     requires { at < 2 ^ 20 }
-    ensures { result ≡ lies_within d.now at }
+    ensures { result ≡ name_is_within d.now at }
 {
     let length = d.len() as u64;
-    at < length && at + unit(d, at, 0) / 4 + 1 <= length
+    at < length && at + quarter_from(d, at, 0) / 4 + 1 <= length
 }
 
 // ---- all of them
@@ -222,7 +222,7 @@ fn fault_of_members(alloc: Global, version: u8, d: &[Word]) -> Result<Option<u64
     ensures value { IfOk result (λ place. place ≡ members_fault version d.now) }
     ensures bound { IfOk result (λ place. IfSome place (λ p. p < 2 ^ 20)) }
 {
-    let table = place_if(expressions_leave(d), 1);
+    let table = index_if(expressions_leave(d), 1);
     let classes = fault_of_classes(d, greatest_class(version));
     let repeated = fault_of_repeats(alloc, d)?;
     Ok(earlier_of(table, earlier_of(classes, repeated)))

@@ -35,7 +35,7 @@ fn link(entry: &str) -> Link {
 // Adds a definition. Returns whether all names are different.
 fn add_definition(definitions: &mut Defs, text: &str) -> Result<bool, NoMemory> {
     definitions.push(definition(text))?;
-    Ok(definitions.have_own_names())
+    Ok(definitions.has_distinct_names())
 }
 
 fn has_name(definitions: &Defs, text: &str) -> bool {

@@ -1,7 +1,7 @@
 -- From what a call did to a world, the clauses of the trait of the object that was called.
 use Rattle.std.proofs.Common.{◌≡◌, ℕ, ◌≤◌, ◌<◌, ◌^◌, ◌⊎◌, List, [], length, Option, Some, None, refl, sym, ap, arith}
 use Rattle.m36_outside.specs.Passing.{joined, PieceGives, PutTakes, TakesLines}
-use Rattle.m36_outside.specs.Piece.{preceded, PieceResult, PieceHasCause}
+use Rattle.m36_outside.specs.Piece.{prepended, PieceResult, PieceHasCause}
 use Rattle.m36_outside.specs.Put.{PutResult, PutHasCause}
 use Rattle.m36_outside.specs.declared.lines.Piece.{Piece}
 use Rattle.m36_outside.specs.declared.lines.Piece.TheVariants as piece
@@ -70,7 +70,7 @@ is_put_block put.Failed pieces old new did = record {
 
 -- ---- a call for the next piece
 
-left_kept : (old new : Option (List ℕ)) → old ≡ preceded [] new → new ≡ old
+left_kept : (old new : Option (List ℕ)) → old ≡ prepended [] new → new ≡ old
 left_kept old None is = sym is
 left_kept old (Some left) is = sym is
 

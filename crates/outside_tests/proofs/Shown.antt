@@ -8,7 +8,7 @@ use Rattle.m36_outside.specs.declared.folder.ReadAnswer.TheVariants.{Read}
 use Rattle.m36_outside.specs.declared.sink.Put.{Put}
 use Rattle.m36_outside.specs.declared.sink.Put.TheVariants as put
 use Rattle.m36_world.specs.Follow.{Follow}
-use Rattle.m36_world.specs.Logs.{TakesAll}
+use Rattle.m36_world.specs.Logs.{AddsOutputs}
 use Rattle.m36_world.specs.CallEvents.{put_events}
 use Rattle.m36_world.specs.Seen.{Seen}
 use Rattle.m36_world.specs.declared.event.Event.TheVariants.{FileRead, Output, OutputFailed}
@@ -35,7 +35,7 @@ pub record Shown (result : Result Put ReadAnswer) (name : List ℕ) (old new : S
 pub shown :
     (result : Result Put ReadAnswer) (name : List ℕ) (old new : Seen)
     → Shows result name old new → Shown result name old new
-unfolding TakesAll
+unfolding AddsOutputs
 shown (Ok put.Done) name old new (bytes, some) =
     let logs = follow_logs (FileRead name (Read bytes) ∷ Output bytes ∷ []) old new some in
     let one = logs.outputs in let two = one.goes_on in record {

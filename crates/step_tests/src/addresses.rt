@@ -6,7 +6,7 @@ ghost use Rattle.std.specs.Prelude.{◌≡◌, ◌<◌, ◌^◌, [], IfOk};
 use crate::setting::{DBR, NO_INDICATORS, at, put};
 use m36_core::Core;
 use m36_desc::Ptr;
-use m36_ea::{effective, pending};
+use m36_ea::{form_address, pending_tally};
 use m36_inst::Inst;
 use m36_model::{At, Fault, Final, Formed, Halt, Ppr, Refs, Regs, Tally};
 use m36_walk::Walk;
@@ -68,7 +68,7 @@ fn form(walk: &mut Walk, regs: &Regs, word: u64) -> Result<Formed, Halt>
     ensures { walk.new.dbr ≡ walk.old.dbr }
 {
     let mut refs = Refs::new();
-    effective(walk, regs, &Inst::of_word(Word::low(word)), &mut refs)
+    form_address(walk, regs, &Inst::of_word(Word::low(word)), &mut refs)
 }
 
 /// The result of an address formation that ends at `at` and uses no tally word.
@@ -164,7 +164,7 @@ fn tally_words_count(rt: HostRuntime) -> Result<(), NoMemory> {
     let regs = regs(0, 0, NO_POINTER);
     let plain = ends_at(at(1, 0o100, 0));
     let found = address(rt.alloc(), &regs, &[(0o50, 0o000100000200)], 0o000010235051)?;
-    assert!(rt; found == Ok(plain) && pending(&plain).is_none());
+    assert!(rt; found == Ok(plain) && pending_tally(&plain).is_none());
     for (before, word, operand, after, runout) in TALLIES {
         let counted = Formed {
             tally: Some(Tally {
@@ -177,7 +177,7 @@ fn tally_words_count(rt: HostRuntime) -> Result<(), NoMemory> {
         };
         let found = address(rt.alloc(), &regs, &[(0o50, before)], word)?;
         assert!(rt; found == Ok(counted), "{word:o} {before:o}");
-        assert!(rt; pending(&counted).is_some_and(|it| it.place == 0o50));
+        assert!(rt; pending_tally(&counted).is_some_and(|it| it.place == 0o50));
     }
     Ok(())
 }

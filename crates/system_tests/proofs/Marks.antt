@@ -4,7 +4,7 @@ use Rattle.std.proofs.lemmas.Bool.{cases_eq}
 use Rattle.std.proofs.lemmas.List.{get_or-set_same, get_or-set_other}
 use Rattle.m36_model.specs.Core.{unmarked}
 use Rattle.m36_page.specs.Fields.{PagerFields}
-use Rattle.m36_page.specs.Residence.{spot_of, Reads}
+use Rattle.m36_page.specs.Residence.{spot_of, AgreesWithCore}
 
 unmarked_used : (w v : ℕ) → w < 2 ^ 36 → w / 512 % 2 ≡ 0 → v ≡ (w + 512) % 2 ^ 36 → unmarked v ≡ unmarked w
 unfolding unmarked
@@ -12,8 +12,8 @@ unmarked_used w v low off is = omega (arith, low, off, is)
 
 pub used_reads :
     (p : PagerFields) (core : List ℕ) (place w v : ℕ)
-    → Reads p core → place < length core → w ≡ get_or core place 0 → w < 2 ^ 36
-    → w / 512 % 2 ≡ 0 → v ≡ (w + 512) % 2 ^ 36 → Reads p (set core place v)
+    → AgreesWithCore p core → place < length core → w ≡ get_or core place 0 → w < 2 ^ 36
+    → w / 512 % 2 ≡ 0 → v ≡ (w + 512) % 2 ^ 36 → AgreesWithCore p (set core place v)
 used_reads p core place w v reads inside is low off put = record {
   pages = λ seg page has.
       elim (reads.pages seg page has) [

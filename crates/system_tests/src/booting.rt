@@ -1,7 +1,7 @@
 //! Booted images of a catalog with two segments, and folders that cannot be booted.
 
 ghost use Rattle.std.specs.Prelude.{IfOk};
-ghost use Rattle.m36_page.specs.Residence.{HasFrames, Reads};
+ghost use Rattle.m36_page.specs.Residence.{HasFrames, AgreesWithCore};
 
 use crate::running::{text_of, words_of};
 use m36_boot::{BootFault, Image, lay};
@@ -275,7 +275,7 @@ fn laid(
     start: &str,
     second: Second,
 ) -> Result<Image, BootFault>
-    ensures reads { IfOk result (λ image. Reads image.pager image.core) }
+    ensures reads { IfOk result (λ image. AgreesWithCore image.pager image.core) }
     ensures frames { IfOk result (λ image. HasFrames image.pager image.core) }
 {
     let catalog = catalog(alloc, frames, main, start)?;
@@ -299,7 +299,7 @@ fn first_causes(rt: HostRuntime) {
 // A word of a segment, as a number.
 fn number_at(image: &Image, seg: u16, word: u32) -> Option<u64>
     requires frames { HasFrames image.now.pager image.now.core }
-    requires reads { Reads image.now.pager image.now.core }
+    requires reads { AgreesWithCore image.now.pager image.now.core }
 {
     let word = image.pager.content(&image.core, seg, word)?;
     Some(word.value())
@@ -322,7 +322,7 @@ fn has_core_words(image: &Image) -> bool {
 
 fn has_segment_words(image: &Image) -> bool
     requires frames { HasFrames image.now.pager image.now.core }
-    requires reads { Reads image.now.pager image.now.core }
+    requires reads { AgreesWithCore image.now.pager image.now.core }
 {
     for (seg, word, number) in segment_words() {
         if number_at(image, *seg, *word) != *number {

@@ -2,7 +2,7 @@
 //! Frames 1 and 2 of core take pages.
 
 ghost use Rattle.std.specs.Prelude.{◌≡◌, IfOk, length};
-ghost use Rattle.m36_page.specs.Residence.{HasFrames, Reads};
+ghost use Rattle.m36_page.specs.Residence.{HasFrames, AgreesWithCore};
 
 use m36_core::Core;
 use m36_model::{At, Kind, Reference, Refs};
@@ -101,7 +101,7 @@ struct Paged {
 
 // A pager whose pages are all absent, with its core.
 fn laid(alloc: Global) -> Result<Paged, NoMemory>
-    ensures reads { IfOk result (λ p. Reads p.pager p.core) }
+    ensures reads { IfOk result (λ p. AgreesWithCore p.pager p.core) }
     ensures frames { IfOk result (λ p. HasFrames p.pager p.core) }
     ensures first { IfOk result (λ p. p.pager.first ≡ 1) }
     ensures count { IfOk result (λ p. length p.pager.holders ≡ 2) }
@@ -125,7 +125,7 @@ fn core_number(core: &Core, place: usize) -> Option<u64> {
 // The value of a word of a segment.
 fn number_at(paged: &Paged, seg: u16, word: u32) -> Option<u64>
     requires frames { HasFrames paged.now.pager paged.now.core }
-    requires reads { Reads paged.now.pager paged.now.core }
+    requires reads { AgreesWithCore paged.now.pager paged.now.core }
 {
     let word = paged.pager.content(&paged.core, seg, word)?;
     Some(word.value())
@@ -146,9 +146,9 @@ const BRINGINGS: &[Bringing] = &[
 // Whether bringing in a page has the result of the row.
 fn brings(paged: &mut Paged, row: &Bringing) -> bool
     requires frames { HasFrames paged.old.pager paged.old.core }
-    requires reads { Reads paged.old.pager paged.old.core }
+    requires reads { AgreesWithCore paged.old.pager paged.old.core }
     ensures frames { HasFrames paged.new.pager paged.new.core }
-    ensures reads { Reads paged.new.pager paged.new.core }
+    ensures reads { AgreesWithCore paged.new.pager paged.new.core }
 {
     let (seg, page, first, second, due) = *row;
     if !paged.pager.has_page(seg, page) {
@@ -160,9 +160,9 @@ fn brings(paged: &mut Paged, row: &Bringing) -> bool
 
 fn brings_all(paged: &mut Paged) -> bool
     requires frames { HasFrames paged.old.pager paged.old.core }
-    requires reads { Reads paged.old.pager paged.old.core }
+    requires reads { AgreesWithCore paged.old.pager paged.old.core }
     ensures frames { HasFrames paged.new.pager paged.new.core }
-    ensures reads { Reads paged.new.pager paged.new.core }
+    ensures reads { AgreesWithCore paged.new.pager paged.new.core }
 {
     for row in BRINGINGS {
         if !brings(paged, row) {
@@ -175,9 +175,9 @@ fn brings_all(paged: &mut Paged) -> bool
 // Sets a word of a segment. Returns whether there is such a word.
 fn sets(paged: &mut Paged, seg: u16, word: u32, number: u64) -> bool
     requires frames { HasFrames paged.old.pager paged.old.core }
-    requires reads { Reads paged.old.pager paged.old.core }
+    requires reads { AgreesWithCore paged.old.pager paged.old.core }
     ensures frames { HasFrames paged.new.pager paged.new.core }
-    ensures reads { Reads paged.new.pager paged.new.core }
+    ensures reads { AgreesWithCore paged.new.pager paged.new.core }
 {
     let Ok(page) = u16::try_from(word / 1024) else {
         return false;
@@ -207,7 +207,7 @@ const SEGMENT_WORDS: &[(u16, u32, Option<u64>)] = &[
 
 fn has_words(paged: &Paged) -> bool
     requires frames { HasFrames paged.now.pager paged.now.core }
-    requires reads { Reads paged.now.pager paged.now.core }
+    requires reads { AgreesWithCore paged.now.pager paged.now.core }
 {
     for (seg, word, number) in SEGMENT_WORDS {
         if number_at(paged, *seg, *word) != *number {
@@ -244,7 +244,7 @@ fn is_in(core: &Core) -> bool {
 // Whether that page is absent, and still has its changed word.
 fn is_away(paged: &Paged) -> bool
     requires frames { HasFrames paged.now.pager paged.now.core }
-    requires reads { Reads paged.now.pager paged.now.core }
+    requires reads { AgreesWithCore paged.now.pager paged.now.core }
 {
     paged.core.len() == 3072
         && core_number(&paged.core, 17) == Some(1)
@@ -254,7 +254,7 @@ fn is_away(paged: &Paged) -> bool
 // Whether a page with a changed word is brought in with it, and evicted with it.
 fn is_put_away(paged: &mut Paged) -> bool
     requires frames { HasFrames paged.old.pager paged.old.core }
-    requires reads { Reads paged.old.pager paged.old.core }
+    requires reads { AgreesWithCore paged.old.pager paged.old.core }
     requires first { paged.old.pager.first ≡ 1 }
     requires count { length paged.old.pager.holders ≡ 2 }
 {
@@ -339,9 +339,9 @@ const USED: u64 = 512;
 #[tactic(auto, using(crate::proofs::Marks::used_reads))]
 fn use_page(paged: &mut Paged, place: u32) -> bool
     requires frames { HasFrames paged.old.pager paged.old.core }
-    requires reads { Reads paged.old.pager paged.old.core }
+    requires reads { AgreesWithCore paged.old.pager paged.old.core }
     ensures frames { HasFrames paged.new.pager paged.new.core }
-    ensures reads { Reads paged.new.pager paged.new.core }
+    ensures reads { AgreesWithCore paged.new.pager paged.new.core }
 {
     if place >= paged.core.len() {
         return false;
@@ -356,9 +356,9 @@ fn use_page(paged: &mut Paged, place: u32) -> bool
 
 fn is_used_first(paged: &mut Paged, used: Option<u32>) -> bool
     requires frames { HasFrames paged.old.pager paged.old.core }
-    requires reads { Reads paged.old.pager paged.old.core }
+    requires reads { AgreesWithCore paged.old.pager paged.old.core }
     ensures frames { HasFrames paged.new.pager paged.new.core }
-    ensures reads { Reads paged.new.pager paged.new.core }
+    ensures reads { AgreesWithCore paged.new.pager paged.new.core }
 {
     match used {
         Some(place) => use_page(paged, place),
@@ -369,9 +369,9 @@ fn is_used_first(paged: &mut Paged, used: Option<u32>) -> bool
 // Whether bringing in a page leaves the frames as the row says.
 fn chooses(paged: &mut Paged, row: &Choice) -> bool
     requires frames { HasFrames paged.old.pager paged.old.core }
-    requires reads { Reads paged.old.pager paged.old.core }
+    requires reads { AgreesWithCore paged.old.pager paged.old.core }
     ensures frames { HasFrames paged.new.pager paged.new.core }
-    ensures reads { Reads paged.new.pager paged.new.core }
+    ensures reads { AgreesWithCore paged.new.pager paged.new.core }
 {
     if !is_used_first(paged, row.used) || !paged.pager.has_page(row.seg, row.page) {
         return false;
@@ -385,7 +385,7 @@ fn chooses(paged: &mut Paged, row: &Choice) -> bool
 // The index of the first row of `CHOICES` that does not hold.
 fn first_wrong(paged: &mut Paged) -> Option<usize>
     requires frames { HasFrames paged.old.pager paged.old.core }
-    requires reads { Reads paged.old.pager paged.old.core }
+    requires reads { AgreesWithCore paged.old.pager paged.old.core }
 {
     for (i, row) in CHOICES.iter().enumerate() {
         if !chooses(paged, row) {

@@ -1,16 +1,16 @@
 use Rattle.std.proofs.Common.{◌≡◌, ◌≤◌, length}
 use Rattle.obj36_parts.specs.ObjectSegment.{section_limit}
-use Rattle.alm_lines.specs.Spots.{start, HasRoom}
+use Rattle.alm_lines.specs.Spots.{start, HasRoomForLines}
 use Rattle.alm_asm.specs.Links.{links_from}
-use Rattle.alm_asm.specs.LineValues.{seen_from}
+use Rattle.alm_asm.specs.LineValues.{values_from}
 use Rattle.alm_asm.specs.Growth.{growth_refusal}
 use Rattle.alm_asm.proofs.growth.take_lines.Given as goal
 
 -- the refusal of the rest is that of all
 abbrev pub invariant-loop-rest : goal.invariant-loop-rest
 invariant-loop-rest l = record {
-  room : HasRoom (length l.rest) l.spot;
-  seen : l.left ≡ seen_from l.text l.tables.symbols l.tables.links l.spot l.rest;
+  room : HasRoomForLines (length l.rest) l.spot;
+  seen : l.left ≡ values_from l.text l.tables.symbols l.tables.links l.spot l.rest;
   links : links_from l.text l.tables.symbols l.growth.links l.spot l.rest ≡ l.tables.links;
   definition : l.growth.definition ≤ section_limit;
   symbol : l.growth.symbol ≤ section_limit;

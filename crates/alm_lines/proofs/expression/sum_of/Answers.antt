@@ -1,13 +1,13 @@
 use Rattle.std.proofs.Common.{◌≡◌, ◌+◌, ◌-◌, length, take, drop, arith, rules}
 use Rattle.std.proofs.lemmas.Grind.{common_steps}
 use Rattle.std.proofs.lemmas.List.{length-take, length-drop}
-use Rattle.alm_lines.specs.Expressions.{added}
+use Rattle.alm_lines.specs.Expressions.{with_terms}
 use Rattle.alm_lines.proofs.SumLaws.{sum_more}
 use Rattle.alm_lines.proofs.expression.sum_of.Goals as goal
 
 -- one more term is added, and one fewer is left
 pub loop-rest-preserved : goal.loop-rest-preserved
-unfolding added
+unfolding with_terms
 loop-rest-preserved c =
     let rest = c.loop-rest.rest.now in
     let more = length (take (length rest - 1) (drop 1 rest)) in

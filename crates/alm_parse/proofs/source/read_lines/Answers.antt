@@ -17,14 +17,14 @@ returns-in-Err-Refused-clause-says c =
 pub returns-then-last-clause-says : goal.returns-then-last-clause-says
 returns-then-last-clause-says c =
     let within : c.loop-row.row-index < length c.args.rows.now = omega arith in
-    last_here c.args.text.now c.args.rows.now c.loop-row.lines c.push.new.self c.loop-row.row-index no_row c.in-Ok.line within c.in-Ok.ensures.value (sym c.names_end-last.ensures ∙ c.if-last.true) c.loop-row.invariant.whole c.in_ok-push-in-Ok.ensures.ok
+    last_here c.args.text.now c.args.rows.now c.loop-row.lines c.push.new.self c.loop-row.row-index no_row c.in-Ok.line within c.in-Ok.ensures.value (sym c.is_end_operation-last.ensures ∙ c.if-last.true) c.loop-row.invariant.whole c.in_ok-push-in-Ok.ensures.ok
 
 pub loop-row-preserved : goal.loop-row-preserved
 loop-row-preserved c =
     let within : c.loop-row.row-index < length c.args.rows.now = omega arith in
     record {
       count = grind (arith, common_steps, line_more);
-      whole = next_here c.args.text.now c.args.rows.now c.loop-row.lines c.push.new.self c.loop-row.row-index no_row c.in-Ok.line within c.in-Ok.ensures.value (sym c.names_end-last.ensures ∙ c.if-last.false) c.loop-row.invariant.whole c.in_ok-push-in-Ok.ensures.ok;
+      whole = next_here c.args.text.now c.args.rows.now c.loop-row.lines c.push.new.self c.loop-row.row-index no_row c.in-Ok.line within c.in-Ok.ensures.value (sym c.is_end_operation-last.ensures ∙ c.if-last.false) c.loop-row.invariant.whole c.in_ok-push-in-Ok.ensures.ok;
     }
 
 pub returns-then-last-clause-count : goal.returns-then-last-clause-count

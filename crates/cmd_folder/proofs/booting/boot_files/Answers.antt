@@ -2,7 +2,7 @@
 use Rattle.std.proofs.Common.{◌≡◌, ℕ, List, refl, subst, rules}
 use Rattle.m36_boot.specs.Refusals.{ReportsFault, boot_answer}
 use Rattle.m36_super.specs.Library.{Library}
-use Rattle.m36_super.specs.BootSays.{IsBooted}
+use Rattle.m36_super.specs.BootResult.{IsBooted}
 use Rattle.cmd_folder.specs.declared.booting.BootedFolder.{BootedFolder}
 use Rattle.cmd_folder.specs.Folder.{FolderFields}
 use Rattle.cmd_folder.proofs.FolderBoots.{booted_given, booted_not}

@@ -1,7 +1,7 @@
 use Rattle.std.proofs.Common.{◌≡◌, [], drop, length}
 use Rattle.m36_program.specs.Performs.{Leads}
 use Rattle.m36_program.specs.Program.{May}
-use Rattle.m36_files.specs.EachFile.{each_onto}
+use Rattle.m36_files.specs.EachFile.{read_each}
 use Rattle.cmd_folder.specs.FolderProgram.{segment_words}
 use Rattle.cmd_folder.proofs.reading.read_files.Given as goal
 
@@ -11,7 +11,7 @@ invariant-loop-i g l =
     let seen = g.W.World.seen in
     record {
       left : (may : May)
-          → Leads {may = may} (each_onto segment_words l.files (drop l.i l.catalog.segments)) (each_onto segment_words [] l.catalog.segments) (seen l.fn.world)
+          → Leads {may = may} (read_each segment_words l.files (drop l.i l.catalog.segments)) (read_each segment_words [] l.catalog.segments) (seen l.fn.world)
           (seen l.world);
       count : length l.files ≡ l.i;
     }

@@ -2,7 +2,7 @@ use Rattle.std.proofs.Common.{◌≡◌, ◌+◌}
 use Rattle.m36_super.specs.declared.coming.NextEvent.TheVariants.{Step}
 use Rattle.m36_super.specs.SuperFields.{booted_of}
 use Rattle.cmd_folder.specs.RunProgram.{run_from}
-use Rattle.cmd_folder.specs.RunSays.{IsShown, run_of}
+use Rattle.cmd_folder.specs.RunSays.{IsConsoleTextPut, run_of}
 use Rattle.cmd_folder.proofs.RunLoop.{Left}
 use Rattle.cmd_folder.proofs.running.run.Given as goal
 
@@ -19,5 +19,5 @@ invariant-steps g l =
       count : l.taken + l.left ≡ l.steps;
       next : l.system.coming ≡ Step;
       same : l.system.lib ≡ l.fn.system.lib;
-      shown : IsShown l.output l.block;
+      shown : IsConsoleTextPut l.output l.block;
     }

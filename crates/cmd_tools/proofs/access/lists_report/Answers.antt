@@ -5,7 +5,7 @@ use Rattle.cmd_tools.proofs.access.lists_report.Goals as goal
 
 pub returns-in-Ok : goal.returns-in-Ok
 returns-in-Ok g c =
-    lists_read quiet c.args.user.now c.args.catalog.now c.in-Ok.lists c.access_of-given.result c.decide.result _ _ (c.in-Ok.ensures quiet) c.access_of-given.ensures c.decide.ensures
+    lists_read quiet c.args.user.now c.args.catalog.now c.in-Ok.lists c.access_of-given.result c.refusal_as_status.result _ _ (c.in-Ok.ensures quiet) c.access_of-given.ensures c.refusal_as_status.ensures
 
 pub returns-in-Err : goal.returns-in-Err
 returns-in-Err g c = lists_unread quiet c.args.user.now c.args.catalog.now c.in-Err.status _ _ (c.in-Err.ensures quiet)

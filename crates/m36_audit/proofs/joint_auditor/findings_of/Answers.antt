@@ -2,7 +2,7 @@ use Rattle.std.proofs.Common.{ℕ, ◌<◌, length, ◌∙◌, ap, subst, arith}
 use Rattle.std.specs.Prelude.{replicate}
 use Rattle.m36_desc.specs.Fields.{DbrFields}
 use Rattle.m36_model.specs.Audit.{AreFindings}
-use Rattle.m36_audit.specs.Findings.{pairs}
+use Rattle.m36_audit.specs.Findings.{finding_pairs}
 use Rattle.m36_audit.specs.Runs.{run}
 use Rattle.m36_audit.proofs.SegmentRuns.{nothing_counted}
 use Rattle.m36_audit.proofs.Noting.{dbr_at}
@@ -21,9 +21,9 @@ count_segments-requires c = record {
 pub returns-clause-findings : goal.returns-clause-findings
 returns-clause-findings c =
     λ dbr at.
-    subst (λ (d : DbrFields). AreFindings c.args.core.now d (pairs c.found.result.findings.items))
+    subst (λ (d : DbrFields). AreFindings c.args.core.now d (finding_pairs c.findings_from_marks.result.findings.items))
     (one_dbr c.args.dbrs.now c.args.k c.index-dbrs-k.result dbr (dbr_at c.args.dbrs.now c.args.k c.index-dbrs-k.result c.requires.process c.index-dbrs-k.is) at)
-    c.found.ensures
+    c.findings_from_marks.ensures
 
 pub returns-clause-after : goal.returns-clause-after
 returns-clause-after c =
@@ -35,5 +35,5 @@ returns-clause-after c =
     record {
       of_tables = tables_owned c.args.core.now c.args.dbrs.now c.index-dbrs-k.result c.args.k few at c.mark_tables.new.marks.tables c.mark_tables.new.marks.least c.mark_tables.ensures c.args.shares.now.tables.values.items c.record_owners.new.tables.values.items c.record_owners.ensures.tables c.requires.before.of_tables;
       of_segments = segments_owned c.args.core.now c.args.dbrs.now c.index-dbrs-k.result c.args.k few at c.args.shares.now.segments.values.items c.record_owners.new.segments.values.items c.record_owners.ensures.segments c.requires.before.of_segments;
-      of_identities = process_told c.args.core.now c.args.dbrs.now c.args.firsts.now.items c.requires.classes.below c.args.k few (length c.args.core.now) c.index-dbrs-k.result recorded.0 recorded.1 at c.args.shares.now.identities.values.items c.record_tables.new.recorded.values.items recorded.2 c.requires.before.of_identities;
+      of_identities = process_told c.args.core.now c.args.dbrs.now c.args.firsts.now.items c.requires.equal_descriptors.below c.args.k few (length c.args.core.now) c.index-dbrs-k.result recorded.0 recorded.1 at c.args.shares.now.identities.values.items c.record_tables.new.recorded.values.items recorded.2 c.requires.before.of_identities;
     }

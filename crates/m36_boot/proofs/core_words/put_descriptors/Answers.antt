@@ -15,5 +15,5 @@ loop-seg-preserved c =
     let most = c.count-count.ensures.most in
     let test = c.loop-seg-test.true in
     described_more c.args.catalog.now c.args.files.now c.loop-seg.seg _ _ _ c.loop-seg.core _ c.descriptor.result (omega (arith, size, room, most, test))
-    c.loop-seg.invariant c.descriptor.ensures.value c.pair_of.ensures.even c.pair_of.ensures.odd c.descriptor.ensures.ordered c.pair_of.ensures.back
+    c.loop-seg.invariant c.descriptor.ensures.value c.descriptor_pair.ensures.even c.descriptor_pair.ensures.odd c.descriptor.ensures.ordered c.descriptor_pair.ensures.back
     c.put_pair.ensures

@@ -1,6 +1,6 @@
 use Rattle.std.proofs.Common.{ℕ, ◌≡◌, ◌≤◌, List, length, Option, refl, ap, ◌∙◌, arith}
 use Rattle.m36_dir.specs.Catalog.{CatalogFields}
-use Rattle.m36_link.specs.Fields.{LayFields}
+use Rattle.m36_link.specs.Fields.{NewSectionFields}
 use Rattle.m36_boot.specs.Image.{booted_tables}
 use Rattle.m36_boot.proofs.Sizes.{AreFiles}
 use Rattle.m36_boot.proofs.FirstSection.{first_section}
@@ -10,7 +10,7 @@ use Rattle.m36_boot.proofs.FlatImage.{flat_image}
 use Rattle.m36_boot.proofs.Runnable.{runnable}
 use Rattle.m36_boot.proofs.image.image_at.Goals as goal
 
-laid_same : (catalog : CatalogFields) (files : List (List ℕ)) (a b : Option LayFields) → a ≡ b → booted_tables catalog files a ≡ booted_tables catalog files b
+laid_same : (catalog : CatalogFields) (files : List (List ℕ)) (a b : Option NewSectionFields) → a ≡ b → booted_tables catalog files a ≡ booted_tables catalog files b
 laid_same catalog files a b e = ap (λ o. booted_tables catalog files o) e
 
 pub new-requires : goal.new-requires

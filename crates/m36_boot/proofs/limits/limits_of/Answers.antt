@@ -14,7 +14,7 @@ loop-i-preserved c =
           c.segment.ensures.value c.file.ensures.value c.in-Ok.ensures.0 c.loop-i.invariant.rest;
       limits =
           limits_more c.args.catalog.now c.args.files.now c.loop-i.i _ _ _ _ _ c.segment.ensures.value
-          c.file.ensures.value c.loop-i.invariant.limits c.in_ok-add-in-Ok.ensures c.in-Ok.ensures.1 c.in-Ok.ensures.2;
+          c.file.ensures.value c.loop-i.invariant.limits c.in_ok-add_limit-in-Ok.ensures c.in-Ok.ensures.1 c.in-Ok.ensures.2;
     }
 
 pub returns-in-Err : goal.returns-in-Err

@@ -4,7 +4,7 @@ use Rattle.m36_debug.specs.declared.commands.TurnCommand.TheVariants as commands
 use Rattle.m36_debug.specs.declared.session_line.SessionLine.TheVariants as session
 use Rattle.m36_debug.specs.Commands.{run_of, go_limit}
 use Rattle.m36_debug.specs.Putting.{pending, PutsPieces}
-use Rattle.m36_debug.specs.Session.{turning}
+use Rattle.m36_debug.specs.Session.{machine_relations}
 use Rattle.m36_debug.specs.SessionTexts.{regs_lines, seg_line, where_line}
 use Rattle.m36_debug.proofs.AnswerLaws.{took_at_once, took_command, took_back, took_quit, took_empty}
 use Rattle.m36_debug.proofs.answering.answer.Goals as goal
@@ -13,68 +13,68 @@ pub returns-in-Step-clause-says : goal.returns-in-Step-clause-says
 returns-in-Step-clause-says g c =
     let world = g.W.World in
     let m = g.M.Stepper in
-    took_command (turning m.regs m.content m.next m.went) c.command.result (run_of commands.Step c.in-Step.left) c.args.sitting.now c.args.m.now c.args.line.now (session.Step c.in-Step.left) c.command.new.sitting c.command.new.m (pending c.args.block.now (world.seen c.args.world.now)) (pending c.command.new.block (world.seen c.command.new.world)) (sym c.in-Step.ensures.value) refl refl refl c.command.ensures.says
+    took_command (machine_relations m.regs m.content m.next m.went) c.command.result (run_of commands.Step c.in-Step.left) c.args.sitting.now c.args.m.now c.args.line.now (session.Step c.in-Step.left) c.command.new.sitting c.command.new.m (pending c.args.block.now (world.seen c.args.world.now)) (pending c.command.new.block (world.seen c.command.new.world)) (sym c.in-Step.ensures.value) refl refl refl c.command.ensures.says
 
 pub returns-in-Go-clause-says : goal.returns-in-Go-clause-says
 returns-in-Go-clause-says g c =
     let world = g.W.World in
     let m = g.M.Stepper in
-    took_command (turning m.regs m.content m.next m.went) c.command-in-Go.result (run_of commands.Go go_limit) c.args.sitting.now c.args.m.now c.args.line.now session.Go c.command-in-Go.new.sitting c.command-in-Go.new.m (pending c.args.block.now (world.seen c.args.world.now)) (pending c.command-in-Go.new.block (world.seen c.command-in-Go.new.world)) (sym c.in-Go.ensures.value) refl refl refl c.command-in-Go.ensures.says
+    took_command (machine_relations m.regs m.content m.next m.went) c.command-in-Go.result (run_of commands.Go go_limit) c.args.sitting.now c.args.m.now c.args.line.now session.Go c.command-in-Go.new.sitting c.command-in-Go.new.m (pending c.args.block.now (world.seen c.args.world.now)) (pending c.command-in-Go.new.block (world.seen c.command-in-Go.new.world)) (sym c.in-Go.ensures.value) refl refl refl c.command-in-Go.ensures.says
 
 pub returns-in-Break-clause-says : goal.returns-in-Break-clause-says
 returns-in-Break-clause-says g c =
     let world = g.W.World in
     let m = g.M.Stepper in
-    took_at_once (turning m.regs m.content m.next m.went) c.add_break.result c.told.result c.args.sitting.now c.args.m.now c.args.line.now (session.Break c.in-Break.seg c.in-Break.word) c.add_break.new.sitting (pending c.args.block.now (world.seen c.args.world.now)) (pending c.add_break.new.block (world.seen c.add_break.new.world)) c.in-Break.ensures.value refl c.add_break.ensures.sitting
+    took_at_once (machine_relations m.regs m.content m.next m.went) c.add_break.result c.result_of_put.result c.args.sitting.now c.args.m.now c.args.line.now (session.Break c.in-Break.seg c.in-Break.word) c.add_break.new.sitting (pending c.args.block.now (world.seen c.args.world.now)) (pending c.add_break.new.block (world.seen c.add_break.new.world)) c.in-Break.ensures.value refl c.add_break.ensures.sitting
     c.add_break.ensures.puts
-    c.told.ensures
+    c.result_of_put.ensures
 
 pub returns-in-Regs-clause-says : goal.returns-in-Regs-clause-says
 returns-in-Regs-clause-says g c =
     let world = g.W.World in
     let m = g.M.Stepper in
-    took_at_once (turning m.regs m.content m.next m.went) c.put_regs.result c.told-in-Regs.result c.args.sitting.now c.args.m.now c.args.line.now session.Regs c.args.sitting.now (pending c.args.block.now (world.seen c.args.world.now)) (pending c.put_regs.new.block (world.seen c.put_regs.new.world)) c.in-Regs.ensures.value refl refl
+    took_at_once (machine_relations m.regs m.content m.next m.went) c.put_regs.result c.result_of_put-in-Regs.result c.args.sitting.now c.args.m.now c.args.line.now session.Regs c.args.sitting.now (pending c.args.block.now (world.seen c.args.world.now)) (pending c.put_regs.new.block (world.seen c.put_regs.new.world)) c.in-Regs.ensures.value refl refl
     (subst (λ (r : RegsFields). PutsPieces c.put_regs.result (regs_lines r) (pending c.args.block.now (world.seen c.args.world.now)) (pending c.put_regs.new.block (world.seen c.put_regs.new.world))) c.regs.ensures c.put_regs.ensures)
-    c.told-in-Regs.ensures
+    c.result_of_put-in-Regs.ensures
 
 pub returns-in-Seg-clause-says : goal.returns-in-Seg-clause-says
 returns-in-Seg-clause-says g c =
     let world = g.W.World in
     let m = g.M.Stepper in
-    took_at_once (turning m.regs m.content m.next m.went) c.put_seg.result c.told-in-Seg.result c.args.sitting.now c.args.m.now c.args.line.now (session.Seg c.in-Seg.seg c.in-Seg.word) c.args.sitting.now (pending c.args.block.now (world.seen c.args.world.now)) (pending c.put_seg.new.block (world.seen c.put_seg.new.world)) c.in-Seg.ensures.value refl refl
+    took_at_once (machine_relations m.regs m.content m.next m.went) c.put_seg.result c.result_of_put-in-Seg.result c.args.sitting.now c.args.m.now c.args.line.now (session.Seg c.in-Seg.seg c.in-Seg.word) c.args.sitting.now (pending c.args.block.now (world.seen c.args.world.now)) (pending c.put_seg.new.block (world.seen c.put_seg.new.world)) c.in-Seg.ensures.value refl refl
     (subst (λ (w : Option ℕ). PutsPieces c.put_seg.result (seg_line c.in-Seg.seg c.in-Seg.word w ∷ []) (pending c.args.block.now (world.seen c.args.world.now)) (pending c.put_seg.new.block (world.seen c.put_seg.new.world))) c.content.ensures c.put_seg.ensures)
-    c.told-in-Seg.ensures
+    c.result_of_put-in-Seg.ensures
 
 pub returns-in-Where-clause-says : goal.returns-in-Where-clause-says
 returns-in-Where-clause-says g c =
     let world = g.W.World in
     let m = g.M.Stepper in
-    took_at_once (turning m.regs m.content m.next m.went) c.put_where.result c.told-in-Where.result c.args.sitting.now c.args.m.now c.args.line.now session.Where c.args.sitting.now (pending c.args.block.now (world.seen c.args.world.now)) (pending c.put_where.new.block (world.seen c.put_where.new.world)) c.in-Where.ensures.value refl refl
+    took_at_once (machine_relations m.regs m.content m.next m.went) c.put_where.result c.result_of_put-in-Where.result c.args.sitting.now c.args.m.now c.args.line.now session.Where c.args.sitting.now (pending c.args.block.now (world.seen c.args.world.now)) (pending c.put_where.new.block (world.seen c.put_where.new.world)) c.in-Where.ensures.value refl refl
     (subst (λ (r : RegsFields). PutsPieces c.put_where.result (where_line r.ppr ∷ []) (pending c.args.block.now (world.seen c.args.world.now)) (pending c.put_where.new.block (world.seen c.put_where.new.world))) c.regs-in-Where.ensures c.put_where.ensures)
-    c.told-in-Where.ensures
+    c.result_of_put-in-Where.ensures
 
 pub returns-in-Back-clause-says : goal.returns-in-Back-clause-says
 returns-in-Back-clause-says g c =
     let world = g.W.World in
     let m = g.M.Stepper in
-    took_back (turning m.regs m.content m.next m.went) c.back.result c.in-Back.n c.args.sitting.now c.args.m.now c.args.line.now c.back.new.sitting c.back.new.m (pending c.args.block.now (world.seen c.args.world.now)) (pending c.back.new.block (world.seen c.back.new.world)) (sym c.in-Back.ensures.value) c.back.ensures.says
+    took_back (machine_relations m.regs m.content m.next m.went) c.back.result c.in-Back.n c.args.sitting.now c.args.m.now c.args.line.now c.back.new.sitting c.back.new.m (pending c.args.block.now (world.seen c.args.world.now)) (pending c.back.new.block (world.seen c.back.new.world)) (sym c.in-Back.ensures.value) c.back.ensures.says
 
 pub returns-in-Quit-clause-says : goal.returns-in-Quit-clause-says
 returns-in-Quit-clause-says g c =
     let world = g.W.World in
     let m = g.M.Stepper in
-    took_quit (turning m.regs m.content m.next m.went) c.args.sitting.now c.args.m.now c.args.line.now (pending c.args.block.now (world.seen c.args.world.now)) (sym c.in-Quit.ensures.value)
+    took_quit (machine_relations m.regs m.content m.next m.went) c.args.sitting.now c.args.m.now c.args.line.now (pending c.args.block.now (world.seen c.args.world.now)) (sym c.in-Quit.ensures.value)
 
 pub returns-in-Empty-clause-says : goal.returns-in-Empty-clause-says
 returns-in-Empty-clause-says g c =
     let world = g.W.World in
     let m = g.M.Stepper in
-    took_empty (turning m.regs m.content m.next m.went) c.args.sitting.now c.args.m.now c.args.line.now (pending c.args.block.now (world.seen c.args.world.now)) (sym c.in-Empty.ensures.value)
+    took_empty (machine_relations m.regs m.content m.next m.went) c.args.sitting.now c.args.m.now c.args.line.now (pending c.args.block.now (world.seen c.args.world.now)) (sym c.in-Empty.ensures.value)
 
 pub returns-in-Unknown-clause-says : goal.returns-in-Unknown-clause-says
 returns-in-Unknown-clause-says g c =
     let world = g.W.World in
     let m = g.M.Stepper in
-    took_at_once (turning m.regs m.content m.next m.went) c.put_unknown.result c.told-in-Unknown.result c.args.sitting.now c.args.m.now c.args.line.now session.Unknown c.args.sitting.now (pending c.args.block.now (world.seen c.args.world.now)) (pending c.put_unknown.new.block (world.seen c.put_unknown.new.world)) c.in-Unknown.ensures.value refl refl
+    took_at_once (machine_relations m.regs m.content m.next m.went) c.put_unknown.result c.result_of_put-in-Unknown.result c.args.sitting.now c.args.m.now c.args.line.now session.Unknown c.args.sitting.now (pending c.args.block.now (world.seen c.args.world.now)) (pending c.put_unknown.new.block (world.seen c.put_unknown.new.world)) c.in-Unknown.ensures.value refl refl
     c.put_unknown.ensures
-    c.told-in-Unknown.ensures
+    c.result_of_put-in-Unknown.ensures

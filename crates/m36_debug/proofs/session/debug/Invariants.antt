@@ -1,9 +1,9 @@
 use Rattle.std.proofs.Common.{◌≡◌, ◌+◌, ◌*◌, ◌≤◌, []}
 use Rattle.m36_debug.specs.LinesTaken.{IsUnbroken}
-use Rattle.m36_debug.specs.Session.{turning}
+use Rattle.m36_debug.specs.Session.{machine_relations}
 use Rattle.m36_debug.specs.SessionLines.{most_steps}
 use Rattle.m36_debug.specs.SessionProgram.{session}
-use Rattle.m36_debug.specs.SessionSays.{bytes_limit}
+use Rattle.m36_debug.specs.SessionContract.{bytes_limit}
 use Rattle.m36_debug.proofs.HeldLaws.{HeldSoFar}
 use Rattle.m36_debug.proofs.SessionSteps.{Left}
 use Rattle.m36_debug.proofs.session.debug.Given as goal
@@ -15,12 +15,12 @@ decreases-pieces g l = l.left
 abbrev pub invariant-pieces : goal.invariant-pieces
 invariant-pieces g l =
     let m = g.M.Stepper in
-    let o = turning m.regs m.content m.next m.went in
+    let o = machine_relations m.regs m.content m.next m.went in
     let seen = g.W.World.seen in
     record {
-      rest : Left o l.left l.begun l.sitting l.m (session o l.fn.m) (seen l.fn.world) (seen l.world);
-      held : HeldSoFar o l.fn.m l.m (seen l.fn.world) (seen l.world) l.left l.begun l.sitting;
-      unbroken : IsUnbroken l.begun;
+      rest : Left o l.left l.activity_after_line l.sitting l.m (session o l.fn.m) (seen l.fn.world) (seen l.world);
+      held : HeldSoFar o l.fn.m l.m (seen l.fn.world) (seen l.world) l.left l.activity_after_line l.sitting;
+      unbroken : IsUnbroken l.activity_after_line;
       empty : l.block ≡ [];
       taken : l.sitting.taken + most_steps * l.left ≤ most_steps * bytes_limit;
     }

@@ -1,6 +1,6 @@
 use Rattle.std.proofs.Common.{◌<◌, ◌++◌, length, sym, ap, ◌∙◌, arith}
 use Rattle.m36_text.specs.Lines.{lines_of}
-use Rattle.m36_dir.specs.BootOrder.{all_lines}
+use Rattle.m36_dir.specs.BootOrder.{well_formed_lines}
 use Rattle.m36_dir.proofs.TextLoops.{read_begin, read_code, read_rest, read_none, read_all, read_more, read_lines, read_count, few_begin, few_more, few_kept}
 use Rattle.m36_dir.proofs.Kept.{kept_as}
 use Rattle.m36_dir.proofs.reading.lines_of.Goals as goal
@@ -8,7 +8,7 @@ use Rattle.m36_dir.proofs.reading.lines_of.Goals as goal
 pub loop-line-init : goal.loop-line-init
 loop-line-init c = record {
   told = read_begin c.args.text.now c.new-above.result.items c.new-above.ensures.items;
-  lines = ap (λ ls. ls ++ all_lines c.args.text.now) c.new-above.ensures.items;
+  lines = ap (λ ls. ls ++ well_formed_lines c.args.text.now) c.new-above.ensures.items;
   count = omega arith;
   few = few_begin c.args.text.now;
 }

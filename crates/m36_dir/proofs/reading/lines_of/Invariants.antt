@@ -1,6 +1,6 @@
 use Rattle.std.proofs.Common.{◌≡◌, ◌+◌, ◌++◌, length}
-use Rattle.m36_text.specs.Lines.{lines_of, first_reported}
-use Rattle.m36_dir.specs.BootOrder.{codes_from, all_lines, parsed_lines, first_code}
+use Rattle.m36_text.specs.Lines.{lines_of, first_present}
+use Rattle.m36_dir.specs.BootOrder.{codes_from, well_formed_lines, parsed_lines, first_code}
 use Rattle.m36_dir.proofs.TextLoops.{FewLines}
 use Rattle.m36_dir.proofs.reading.lines_of.Given as goal
 
@@ -8,8 +8,8 @@ use Rattle.m36_dir.proofs.reading.lines_of.Given as goal
 -- lines. The number of the line is one more than the number of lines above.
 abbrev pub invariant-loop-line : goal.invariant-loop-line
 invariant-loop-line l = record {
-  told : first_reported l.number (codes_from (all_lines l.text) l.above.items (parsed_lines l.rest)) ≡ first_code l.text;
-  lines : l.above.items ++ all_lines l.rest ≡ all_lines l.text;
+  told : first_present l.number (codes_from (well_formed_lines l.text) l.above.items (parsed_lines l.rest)) ≡ first_code l.text;
+  lines : l.above.items ++ well_formed_lines l.rest ≡ well_formed_lines l.text;
   count : l.number + length (lines_of l.rest) ≡ length (lines_of l.text) + 1;
   few : FewLines l.text l.rest;
 }

@@ -19,7 +19,7 @@ returns-in_err-odd-in-Itp-clause-follows c =
 
 pub returns-in-Plain-clause-follows : goal.returns-in-Plain-clause-follows
 returns-in-Plain-clause-follows c =
-    rw (c.after_plain.ensures, c.complete.ensures.items, c.at.ensures) (λ next. follows_plain c.args.regs.now c.args.tpr.now c.args.word c.args.held c.args.walk.now c.indirect_word.new.walk c.args.refs.now.items next c.in_ok-even.even c.in_ok-even.r1 (c.in_ok-even.ensures {u = tt}).serves (c.in_ok-even.ensures {u = tt}).ring (c.in-Plain.ensures {u = tt}).found)
+    rw (c.after_plain.ensures, c.add_reference.ensures.items, c.at.ensures) (λ next. follows_plain c.args.regs.now c.args.tpr.now c.args.word c.args.held c.args.walk.now c.indirect_word.new.walk c.args.refs.now.items next c.in_ok-even.even c.in_ok-even.r1 (c.in_ok-even.ensures {u = tt}).serves (c.in_ok-even.ensures {u = tt}).ring (c.in-Plain.ensures {u = tt}).found)
 
 pub returns-in_ok-odd-in-Its-clause-follows : goal.returns-in_ok-odd-in-Its-clause-follows
 returns-in_ok-odd-in-Its-clause-follows c =

@@ -5,14 +5,14 @@ use Rattle.m36_text.specs.Lines.{lines_of, words_of}
 use Rattle.m36_text.proofs.Splitting.{lines_of_none}
 use Rattle.m36_procs.specs.ProcsFile.{codes_from, line_in}
 use Rattle.m36_procs.specs.ReaderSays.{parse_state_of}
-use Rattle.m36_procs.specs.ReadingSays.{FaultSays}
+use Rattle.m36_procs.specs.ReadingSays.{IsFirstFault}
 use Rattle.m36_procs.proofs.Fitting.{fits_kept}
 use Rattle.m36_procs.proofs.LinesRead.{lines_more, lines_fault, lines_done, lines_missing}
 use Rattle.m36_procs.proofs.reading.read_lines.Goals as goal
 
 pub returns-in-Err : goal.returns-in-Err
 returns-in-Err c = record {
-  says = subst (λ f. FaultSays f 2 (codes_from (parse_state_of c.args.reader.now) (lines_of c.args.text.now))) (sym c.at.ensures) (lines_fault c.args.reader.now c.lines.reader c.take.new.self _ _ _ c.lines.number c.in-Some.line.now c.in-Err.fault c.lines.invariant.lines c.in-Some.ensures.line c.in-Err.ensures);
+  says = subst (λ f. IsFirstFault f 2 (codes_from (parse_state_of c.args.reader.now) (lines_of c.args.text.now))) (sym c.at.ensures) (lines_fault c.args.reader.now c.lines.reader c.take.new.self _ _ _ c.lines.number c.in-Some.line.now c.in-Err.fault c.lines.invariant.lines c.in-Some.ensures.line c.in-Err.ensures);
 }
 
 pub lines-preserved : goal.lines-preserved
@@ -33,5 +33,5 @@ pub returns-else-may_end : goal.returns-else-may_end
 returns-else-may_end c =
     let none : lines_of c.lines.rest.now ≡ [] = lines_of_none c.lines.rest.now (eqb-true _ 0 (sym c.lines-test.ensures)) in
     record {
-      says = subst (λ f. FaultSays f 2 (codes_from (parse_state_of c.args.reader.now) (lines_of c.args.text.now))) (sym c.at-else-may_end.ensures) (lines_missing c.args.reader.now c.lines.reader _ _ c.lines.number c.lines.invariant.lines none (sym c.if-may_end.ensures));
+      says = subst (λ f. IsFirstFault f 2 (codes_from (parse_state_of c.args.reader.now) (lines_of c.args.text.now))) (sym c.at-else-may_end.ensures) (lines_missing c.args.reader.now c.lines.reader _ _ c.lines.number c.lines.invariant.lines none (sym c.if-may_end.ensures));
     }

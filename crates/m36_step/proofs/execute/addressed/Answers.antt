@@ -4,8 +4,8 @@ use Rattle.m36_step.proofs.execute.addressed.Goals as goal
 
 pub returns-in-Err-clause-ends : goal.returns-in-Err-clause-ends
 returns-in-Err-clause-ends c =
-    address_refused c.args.regs.now c.args.row.now.effect c.args.row.now.reg c.args.word c.args.inst.now c.requires.inst c.args.walk.now.core c.args.refs.now.items c.effective.new.walk.core c.effective.new.refs.items c.in-Err.halt c.args.regs.now c.halted.result (c.in-Err.ensures {u = tt}).forms refl c.halted.ensures
+    address_refused c.args.regs.now c.args.row.now.effect c.args.row.now.reg c.args.word c.args.inst.now c.requires.inst c.args.walk.now.core c.args.refs.now.items c.form_address.new.walk.core c.form_address.new.refs.items c.in-Err.halt c.args.regs.now c.end_of_halt.result (c.in-Err.ensures {u = tt}).forms refl c.end_of_halt.ensures
 
 pub returns-in-Ok-clause-ends : goal.returns-in-Ok-clause-ends
 returns-in-Ok-clause-ends c =
-    address_formed c.args.regs.now c.args.row.now.effect c.args.row.now.reg c.args.word c.args.inst.now c.requires.inst c.args.walk.now.core c.args.refs.now.items c.effective.new.walk.core c.effective.new.refs.items c.in-Ok.formed c.operated.new.walk.core c.operated.new.refs.items c.operated.new.regs c.operated.result (c.in-Ok.ensures {u = tt}).forms c.operated.ensures.ends
+    address_formed c.args.regs.now c.args.row.now.effect c.args.row.now.reg c.args.word c.args.inst.now c.requires.inst c.args.walk.now.core c.args.refs.now.items c.form_address.new.walk.core c.form_address.new.refs.items c.in-Ok.formed c.operated.new.walk.core c.operated.new.refs.items c.operated.new.regs c.operated.result (c.in-Ok.ensures {u = tt}).forms c.operated.ensures.ends

@@ -4,7 +4,7 @@ use Rattle.m36_step.proofs.execute.execute.Goals as goal
 
 pub returns-in-Err-clause-ends : goal.returns-in-Err-clause-ends
 returns-in-Err-clause-ends c =
-    fetch_refused c.args.regs.now c.args.walk.now c.args.refs.now.items c.fetch.new.self.core (sym c.requires.dbr) c.in-Err.fault c.args.regs.now c.halted.result (rw c.here-here.ensures at (c.in-Err.ensures {u = tt}).serves) refl c.halted.ensures
+    fetch_refused c.args.regs.now c.args.walk.now c.args.refs.now.items c.fetch.new.self.core (sym c.requires.dbr) c.in-Err.fault c.args.regs.now c.end_of_halt.result (rw c.here-here.ensures at (c.in-Err.ensures {u = tt}).serves) refl c.end_of_halt.ensures
 
 pub returns-in-Ok-clause-ends : goal.returns-in-Ok-clause-ends
 returns-in-Ok-clause-ends c =

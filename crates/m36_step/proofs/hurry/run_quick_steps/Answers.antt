@@ -13,8 +13,8 @@ pub loop-taken-preserved : goal.loop-taken-preserved
 loop-taken-preserved c =
     let start : State (List ℕ) = record { regs = c.args.regs.now; store = c.args.walk.now.core } in
     let before : State (List ℕ) = record { regs = c.loop-taken.regs; store = c.loop-taken.walk.core } in
-    let later : State (List ℕ) = record { regs = c.quick.new.regs; store = c.quick.new.walk.core } in
+    let later : State (List ℕ) = record { regs = c.try_quick_step.new.regs; store = c.try_quick_step.new.walk.core } in
     let inv = c.loop-taken.invariant in
     let taken : Taken start before c.loop-taken.taken = record { state = inv.state; on = inv.on; plain = inv.plain } in
-    let more = one_more start before later c.loop-taken.taken taken (c.quick.ensures.went c.if-not-quick.false) in
-    record { few = omega arith; dbr = c.quick.ensures.dbr; state = more.state; on = more.on; plain = more.plain }
+    let more = one_more start before later c.loop-taken.taken taken (c.try_quick_step.ensures.went c.if-not-try_quick_step.false) in
+    record { few = omega arith; dbr = c.try_quick_step.ensures.dbr; state = more.state; on = more.on; plain = more.plain }

@@ -4,7 +4,7 @@ use Rattle.m36_model.specs.Laws.{ExecutesLdbr}
 use Rattle.m36_model.specs.Step.{record_of}
 use Rattle.m36_model.specs.Store.{State}
 use Rattle.m36_model.specs.declared.outcome.Outcome.TheVariants.{Next}
-use Rattle.m36_step.specs.Hurry.{states_after}
+use Rattle.m36_step.specs.Hurry.{state_after_steps}
 use Rattle.m36_step.proofs.hurry.run_quick_steps.Given as goal
 
 abbrev pub invariant-loop-taken : goal.invariant-loop-taken
@@ -13,9 +13,9 @@ invariant-loop-taken l =
     record {
       few : l.taken ≤ l.most;
       dbr : l.walk.dbr ≡ l.regs.dbr;
-      state : let now : State (List ℕ) = record { regs = l.regs; store = l.walk.core } in now ≡ states_after l.taken start;
-      on : (n : ℕ) → n < l.taken → (record_of core_store (states_after n start)).outcome ≡ Next;
-      plain : (n : ℕ) → n < l.taken → ExecutesLdbr (record_of core_store (states_after n start)) → ⊥;
+      state : let now : State (List ℕ) = record { regs = l.regs; store = l.walk.core } in now ≡ state_after_steps l.taken start;
+      on : (n : ℕ) → n < l.taken → (record_of core_store (state_after_steps n start)).outcome ≡ Next;
+      plain : (n : ℕ) → n < l.taken → ExecutesLdbr (record_of core_store (state_after_steps n start)) → ⊥;
     }
 
 abbrev pub decreases-loop-taken : goal.decreases-loop-taken

@@ -1,7 +1,7 @@
 use Rattle.std.proofs.Common.{◌∙◌}
 use Rattle.m36_model.specs.Chain.{chain_end_fields}
 use Rattle.m36_model.specs.Results.{operand_fields, words_of_held}
-use Rattle.m36_model.specs.Step.{tallied}
+use Rattle.m36_model.specs.Step.{with_chain_tally}
 use Rattle.m36_inst.specs.Operands.{operand_of}
 use Rattle.m36_model.specs.declared.effects.Effect36.{Effect36}
 use Rattle.m36_step.proofs.Operations.{performed_by_kind, refused_by_kind, refused_puts_nothing, puts_count}
@@ -21,6 +21,6 @@ returns-in-Err-effect-clause-operates c =
     let g = c.args.regs.now in
     let f = c.args.formed.now in
     let h = (c.in-Err-effect.ensures {u = tt}).value.0 in
-    let none = refused_puts_nothing row.effect row.reg (tallied g (chain_end_fields f)) g f.last (operand_fields c.reach.new.operand) c.in-Err-effect.fault h in
+    let none = refused_puts_nothing row.effect row.reg (with_chain_tally g (chain_end_fields f)) g f.last (operand_fields c.reach.new.operand) c.in-Err-effect.fault h in
     (c.in-Ok.ensures {u = tt}).reaches
     ∙ refused_by_kind row.effect row.reg g f c.reach.new.walk.core c.reach.new.refs.items c.reach.new.operand c.in-Ok.reached c.in-Err-effect.fault c.effect.new.regs c.effect.new.put h row.operand (rw c.requires.row.operand none)

@@ -6,5 +6,5 @@ use Rattle.m36_top.proofs.top.m36_in.Goals as goal
 
 pub returns-in-Some-clause-usage : goal.returns-in-Some-clause-usage
 returns-in-Some-clause-usage g c =
-    some_usage (command_of c.args.words.now) c.in-Some.command c.perform-outcome.result c.status_by.result _ _
-    (sym c.in-Some.is ∙ c.command_of.ensures) c.status_by.ensures c.perform-outcome.ensures
+    some_usage (command_of c.args.words.now) c.in-Some.command c.perform-outcome.result c.status_of_result.result _ _
+    (sym c.in-Some.is ∙ c.command_of.ensures) c.status_of_result.ensures c.perform-outcome.ensures

@@ -11,27 +11,27 @@ use Rattle.m36_top.proofs.top.perform.Goals as goal
 
 pub returns-in-Bare : goal.returns-in-Bare
 returns-in-Bare g c =
-    as_performs c.args.command.now (Bare c.in-Bare.file c.in-Bare.run') c.image_file.result _ _ c.in-Bare.is
+    as_performs c.args.command.now (Bare c.in-Bare.file c.in-Bare.run') c.perform_image_command.result _ _ c.in-Bare.is
     (named (image_program (image.Bare c.in-Bare.run')) c.in-Bare.file c.bytes.result.now
-    c.image_file.result _ _ c.bytes.ensures.value c.image_file.ensures)
+    c.perform_image_command.result _ _ c.bytes.ensures.value c.perform_image_command.ensures)
 
 pub returns-in-Audit : goal.returns-in-Audit
 returns-in-Audit g c =
-    as_performs c.args.command.now (Audit c.in-Audit.file) c.image_file-in-Audit.result _ _ c.in-Audit.is
+    as_performs c.args.command.now (Audit c.in-Audit.file) c.perform_image_command-in-Audit.result _ _ c.in-Audit.is
     (named (image_program image.Audit) c.in-Audit.file c.bytes-in-Audit.result.now
-    c.image_file-in-Audit.result _ _ c.bytes-in-Audit.ensures.value c.image_file-in-Audit.ensures)
+    c.perform_image_command-in-Audit.result _ _ c.bytes-in-Audit.ensures.value c.perform_image_command-in-Audit.ensures)
 
 pub returns-in-Booted : goal.returns-in-Booted
 returns-in-Booted g c =
     as_performs c.args.command.now (Booted c.in-Booted.command c.in-Booted.user)
-    c.folder_booted.result _ _ c.in-Booted.is
-    c.folder_booted.ensures
+    c.perform_folder_command.result _ _ c.in-Booted.is
+    c.perform_folder_command.ensures
 
 pub returns-in-Procs : goal.returns-in-Procs
 returns-in-Procs g c =
-    as_performs c.args.command.now (Procs c.in-Procs.file c.in-Procs.unaudited) c.procs_file.result _ _ c.in-Procs.is
+    as_performs c.args.command.now (Procs c.in-Procs.file c.in-Procs.unaudited) c.perform_procs_command.result _ _ c.in-Procs.is
     (named (procs_program c.in-Procs.unaudited) c.in-Procs.file c.bytes-in-Procs.result.now
-    c.procs_file.result _ _ c.bytes-in-Procs.ensures.value c.procs_file.ensures)
+    c.perform_procs_command.result _ _ c.bytes-in-Procs.ensures.value c.perform_procs_command.ensures)
 
 pub returns-in-Access : goal.returns-in-Access
 returns-in-Access g c =
@@ -67,5 +67,5 @@ returns-in-DebugImage g c =
 
 pub returns-in-Make : goal.returns-in-Make
 returns-in-Make g c =
-    as_performs c.args.command.now (Make c.in-Make.seed) c.make_files.result _ _ c.in-Make.is
-    c.make_files.ensures
+    as_performs c.args.command.now (Make c.in-Make.seed) c.perform_make.result _ _ c.in-Make.is
+    c.perform_make.ensures

@@ -7,13 +7,13 @@ put_pair-requires-clause-inside c = first_pair_lies _ _ (16 - 2 * c.loop-pair.pa
 
 pub loop-pair-preserved : goal.loop-pair-preserved
 loop-pair-preserved c =
-    let after : c.wrapped-next.result ≡ pair_after c.loop-pair.next = cc in
+    let after : c.wrapped_address-next.result ≡ pair_after c.loop-pair.next = cc in
     let left : 16 - 2 * c.loop-pair.pair-index ≡ (16 - 2 * (c.loop-pair.pair-index + 1)) + 2 = omega arith in
     let inside : c.loop-pair.pair-index < length c.args.block.now = omega arith in
     record {
       put = rw after (block_put_on _ c.loop-pair.core c.put_pair.new.core c.loop-pair.next c.loop-pair.pair-index c.args.block.now (get_or c.args.block.now c.loop-pair.pair-index c.pair-item.result) c.pair-item.result inside refl c.put_pair.ensures.put c.loop-pair.invariant.put);
       lies = rw (after, c.put_pair.ensures.len) (rest_lies _ c.loop-pair.next (16 - 2 * c.loop-pair.pair-index) (16 - 2 * (c.loop-pair.pair-index + 1)) left c.loop-pair.invariant.lies);
-      next = c.wrapped-next.ensures.bound;
+      next = c.wrapped_address-next.ensures.bound;
       count = c.loop-pair.invariant.count;
       len = c.put_pair.ensures.len ∙ c.loop-pair.invariant.len;
       right = c.put_pair.ensures.right;

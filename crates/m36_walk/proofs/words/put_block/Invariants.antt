@@ -1,5 +1,5 @@
 use Rattle.std.proofs.Common.{◌≡◌, ◌-◌, ◌*◌, ◌<◌, ◌^◌, length, drop}
-use Rattle.m36_associative.specs.Right.{AreRight}
+use Rattle.m36_associative.specs.Right.{AreCoherent}
 use Rattle.m36_model.specs.Core.{core_put}
 use Rattle.m36_model.specs.Results.{words_of_pairs}
 use Rattle.m36_walk.specs.Runs.{IsInCore}
@@ -14,5 +14,5 @@ invariant-loop-pair l = record {
   next : l.next < 2 ^ 24;
   count : length l.block ≡ 8;
   len : length l.core ≡ length l.fn.core;
-  right : AreRight l.core l.dbr l.memories;
+  right : AreCoherent l.core l.dbr l.memories;
 }

@@ -10,11 +10,11 @@ returns-in-Some-clause-accepts c = λ p s. read_as c.args.w.now c.in-Some.object
 pub returns-in-Some-clause-object : goal.returns-in-Some-clause-object
 returns-in-Some-clause-object c = object_there c.args.w.now c.in-Some.object (sym c.in-Some.is ∙ c.in_ok-object.ensures.value)
 
-pub returns-in_ok-fault_behind-in-None-clause-says : goal.returns-in_ok-fault_behind-in-None-clause-says
-returns-in_ok-fault_behind-in-None-clause-says c =
-    refused c.args.w.now _ (behind_first c.args.w.now _ (sym c.requires.outline) c.in_ok-fault_behind-in-None.ensures)
+pub returns-in_ok-fault_with_valid_map-in-None-clause-says : goal.returns-in_ok-fault_with_valid_map-in-None-clause-says
+returns-in_ok-fault_with_valid_map-in-None-clause-says c =
+    refused c.args.w.now _ (behind_first c.args.w.now _ (sym c.requires.outline) c.in_ok-fault_with_valid_map-in-None.ensures)
     (subst (IsValueOf c.args.w.now) c.in-None.is c.in_ok-object.ensures.found)
 
-pub returns-in_ok-fault_behind-in-None-clause-object : goal.returns-in_ok-fault_behind-in-None-clause-object
-returns-in_ok-fault_behind-in-None-clause-object c =
-    object_refused c.args.w.now _ (behind_first c.args.w.now _ (sym c.requires.outline) c.in_ok-fault_behind-in-None.ensures) (sym c.in-None.is ∙ c.in_ok-object.ensures.value)
+pub returns-in_ok-fault_with_valid_map-in-None-clause-object : goal.returns-in_ok-fault_with_valid_map-in-None-clause-object
+returns-in_ok-fault_with_valid_map-in-None-clause-object c =
+    object_refused c.args.w.now _ (behind_first c.args.w.now _ (sym c.requires.outline) c.in_ok-fault_with_valid_map-in-None.ensures) (sym c.in-None.is ∙ c.in_ok-object.ensures.value)

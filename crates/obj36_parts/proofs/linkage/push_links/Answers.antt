@@ -1,6 +1,6 @@
 use Rattle.std.proofs.Common.{ℕ, ◌++◌, ◌∷◌, [], ap, ◌∙◌, arith}
 use Rattle.obj36_parts.specs.Fields.{LinkFields}
-use Rattle.obj36_parts.specs.Halves.{joined}
+use Rattle.obj36_parts.specs.Halves.{word_with_halves}
 use Rattle.obj36_parts.specs.ObjectSegment.{link_words}
 use Rattle.obj36_parts.proofs.SectionLoops.{link_more, links_done}
 use Rattle.obj36_parts.proofs.linkage.push_links.Goals as goal
@@ -12,8 +12,8 @@ loop-link-preserved c = record {
       (c.args.out.now ++ link_words c.args.links.now c.args.first c.args.expressions) c.loop-link-test.true c.link-item.is
       (c.in_ok-push_pair.ensures
       ∙ ap (λ (w : ℕ × ℕ). c.loop-link.out ++ w.0 ∷ w.1 ∷ []) (λ i. (
-        (c.word_of.ensures ∙ ap (λ n. joined n 38) c.saturating_sub-offset.ensures) i,
-        (c.word_of-in-loop-link.ensures ∙ ap (λ (x : LinkFields). joined c.loop-link.expression x.modifier) c.link.view_is) i,
+        (c.word_of_halves.ensures ∙ ap (λ n. word_with_halves n 38) c.saturating_sub-offset.ensures) i,
+        (c.word_of_halves-in-loop-link.ensures ∙ ap (λ (x : LinkFields). word_with_halves c.loop-link.expression x.modifier) c.link.view_is) i,
       )))
       c.loop-link.invariant.rest;
   place = omega arith;

@@ -7,13 +7,13 @@ pub loop-preserved : goal.loop-preserved
 loop-preserved c = record {
   rest =
       let count = c.count_of_definitions-end.result in
-      found_more c.loop.found c.fault_of_name-here.result c.earlier_of-found.result (defined_names_fault c.args.d.now (count - (c.loop.counter + 1)) c.definition_behind-at.result)
+      found_more c.loop.found c.fault_of_name-here.result c.earlier_of-found.result (defined_names_fault c.args.d.now (count - (c.loop.counter + 1)) c.next_definition_offset-at.result)
       (defined_names_fault c.args.d.now (count - c.loop.counter) c.loop.at) (defined_names_fault c.args.d.now (definition_count c.args.d.now) (first_definition c.args.d.now))
       c.earlier_of-found.ensures.value
-      (defined_name_step c.args.d.now count c.loop.counter c.loop.at c.definition_behind-at.result c.place_of_name.result c.fault_of_name-here.result c.loop-test.true
-      c.definition_behind-at.ensures.value c.place_of_name.ensures.value c.fault_of_name-here.ensures.value)
+      (defined_name_step c.args.d.now count c.loop.counter c.loop.at c.next_definition_offset-at.result c.offset_of_name.result c.fault_of_name-here.result c.loop-test.true
+      c.next_definition_offset-at.ensures.value c.offset_of_name.ensures.value c.fault_of_name-here.ensures.value)
       c.loop.invariant.rest;
-  near = c.definition_behind-at.ensures.bound;
+  near = c.next_definition_offset-at.ensures.bound;
   bound = c.earlier_of-found.ensures.bound;
 }
 

@@ -1,6 +1,6 @@
 -- The earlier pieces were put.
 use Rattle.std.proofs.Common.{[], ◌∷◌, ◌++◌, subst}
-use Rattle.m36_outside.specs.Gathered.{Loses}
+use Rattle.m36_outside.specs.Gathered.{FailsPartway}
 use Rattle.m36_outside.proofs.Gathered.{adds_behind, loses_here}
 use Rattle.m36_outside.proofs.block.Block.add.Goals as goal
 
@@ -15,5 +15,5 @@ returns-in-Failed-clause-adds g c =
     let written = g.S.Sink.written in
     let taken = g.S.Sink.taken in
     let due = c.args.piece.now ∷ [] in
-    subst (λ l. Loses (l ++ due) (written c.args.out.now) (written c.hand_over.new.out) (taken c.args.out.now) (taken c.hand_over.new.out)) c.if-push.ensures.full
+    subst (λ l. FailsPartway (l ++ due) (written c.args.out.now) (written c.hand_over.new.out) (taken c.args.out.now) (taken c.hand_over.new.out)) c.if-push.ensures.full
     (loses_here c.push.new.self due (written c.args.out.now) (written c.hand_over.new.out) (taken c.args.out.now) (taken c.hand_over.new.out) c.in-Failed.ensures.says c.in-Failed.ensures.through)

@@ -3,4 +3,4 @@ use Rattle.m36_outside.proofs.block.Block.piece.Goals as goal
 
 pub between-requires-clause-order : goal.between-requires-clause-order
 between-requires-clause-order c =
-    piece_order c.args.self.now c.bytes.result.now c.marks-marks.result.now c.args.place c.bytes.ensures c.marks-marks.ensures c.requires
+    piece_order c.args.self.now c.bytes.result.now c.offsets-offsets.result.now c.args.place c.bytes.ensures c.offsets-offsets.ensures c.requires

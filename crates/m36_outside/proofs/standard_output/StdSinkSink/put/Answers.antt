@@ -8,27 +8,27 @@ use Rattle.m36_outside.proofs.standard_output.StdSinkSink.put.Goals as goal
 
 pub returns-clause-says : goal.returns-clause-says
 returns-clause-says g c =
-    let after = c.write_alone-answer.new.taken.entries in
-    put_says c.write_alone-answer.result c.args.self.now.taken c.note.new.self.entries c.args.piece.now c.new-taken.result.entries after
-    c.write_alone-answer.ensures.taken c.new-taken.ensures
+    let after = c.write_and_log-answer.new.taken.entries in
+    put_says c.write_and_log-answer.result c.args.self.now.taken c.note.new.self.entries c.args.piece.now c.new-taken.result.entries after
+    c.write_and_log-answer.ensures.taken c.new-taken.ensures
     (c.note.ensures ∙ ap (λ (s : OutputModel). s.taken ++ after ∷ []) c.self.view_is)
 
 pub returns-clause-took : goal.returns-clause-took
 returns-clause-took g c =
-    let after = c.write_alone-answer.new.taken.entries in
-    put_takes c.write_alone-answer.result c.args.self.now.taken c.note.new.self.entries c.args.piece.now c.new-taken.result.entries after
-    c.write_alone-answer.ensures.taken c.new-taken.ensures
+    let after = c.write_and_log-answer.new.taken.entries in
+    put_takes c.write_and_log-answer.result c.args.self.now.taken c.note.new.self.entries c.args.piece.now c.new-taken.result.entries after
+    c.write_and_log-answer.ensures.taken c.new-taken.ensures
     (c.note.ensures ∙ ap (λ (s : OutputModel). s.taken ++ after ∷ []) c.self.view_is)
 
 pub returns-clause-cause : goal.returns-clause-cause
 returns-clause-cause g c =
-    subst (λ n. PutHasCause c.write_alone-answer.result n c.after_put-self-inside.result) (ap (λ (s : OutputModel). s.faults) c.self.view_is)
+    subst (λ n. PutHasCause c.write_and_log-answer.result n c.after_put-self-inside.result) (ap (λ (s : OutputModel). s.faults) c.self.view_is)
     c.after_put-self-inside.ensures.cause
 
 pub returns-clause-error : goal.returns-clause-error
 returns-clause-error g c =
-    subst (λ l. PutHasError c.write_alone-answer.result l c.write_alone-answer.new.errors.entries) (ap (λ (s : OutputModel). s.errors) c.self.view_is)
-    c.write_alone-answer.ensures.error
+    subst (λ l. PutHasError c.write_and_log-answer.result l c.write_and_log-answer.new.errors.entries) (ap (λ (s : OutputModel). s.errors) c.self.view_is)
+    c.write_and_log-answer.ensures.error
 
 pub returns-clause-count : goal.returns-clause-count
 returns-clause-count g c =

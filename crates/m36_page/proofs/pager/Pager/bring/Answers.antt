@@ -18,8 +18,8 @@ returns-then-is_some-clause-free c =
     inl (resident_from c.args.self.now c.args.core.now c.args.seg c.args.page c.spot-spot.result c.frame_at.result c.is_some.result
     c.spot-spot.ensures.value c.frame_at.ensures c.is_some.ensures c.if-is_some.true)
 
-pub empty-requires-clause-settled : goal.empty-requires-clause-settled
-empty-requires-clause-settled c =
+pub empty_frame-requires-clause-settled : goal.empty_frame-requires-clause-settled
+empty_frame-requires-clause-settled c =
     let settled : IsConsistent c.args.self.now c.args.core.now =
     settled_by c.args.self.now c.args.core.now c.spot-spot.ensures.pager c.requires.reads c.requires.frames c.len.ensures.most in
     marks_settled c.args.self.now c.args.core.now c.choose.new.core settled
@@ -29,7 +29,7 @@ pub take_in-requires-clause-out : goal.take_in-requires-clause-out
 take_in-requires-clause-out c =
     let settled : IsConsistent c.args.self.now c.args.core.now =
     settled_by c.args.self.now c.args.core.now c.spot-spot.ensures.pager c.requires.reads c.requires.frames c.len.ensures.most in
-    c.empty.ensures.out c.args.seg c.args.page c.requires.page
+    c.empty_frame.ensures.out c.args.seg c.args.page c.requires.page
     (marks_frame c.args.self.now c.args.core.now c.choose.new.core c.args.seg c.args.page settled
     (marks_of c.args.self.now c.as_slice.result.now c.args.core.now c.choose.new.core c.spot-spot.ensures.pager c.choose.ensures.marks) c.requires.page
     ∙ out_from c.args.self.now c.args.core.now c.args.seg c.args.page c.spot-spot.result c.frame_at.result c.is_some.result
@@ -51,8 +51,8 @@ returns-clause-ok c =
     settled_by c.args.self.now c.args.core.now c.spot-spot.ensures.pager c.requires.reads c.requires.frames c.len.ensures.most in
     let P : List Reference → Type 0 = λ refs. IsBrought c.args.self.now c.args.core.now c.take_in.new.self c.take_in.new.core c.args.seg c.args.page refs in
     subst P c.as_slice.ensures.value
-    (brought c.args.self.now c.args.core.now c.choose.new.core c.empty.new.self c.empty.new.core c.take_in.new.self c.take_in.new.core
-    c.in-Some.k c.args.seg c.args.page c.as_slice.result.now settled c.choose.ensures.marks c.empty.ensures c.take_in.ensures c.in-Some.ensures.found)
+    (brought c.args.self.now c.args.core.now c.choose.new.core c.empty_frame.new.self c.empty_frame.new.core c.take_in.new.self c.take_in.new.core
+    c.in-Some.k c.args.seg c.args.page c.as_slice.result.now settled c.choose.ensures.marks c.empty_frame.ensures c.take_in.ensures c.in-Some.ensures.found)
 
 pub returns-clause-same : goal.returns-clause-same
 returns-clause-same c = λ resident.
@@ -67,5 +67,5 @@ returns-clause-free c =
 
 pub returns-clause-reads : goal.returns-clause-reads
 returns-clause-reads c =
-    (taken_settled c.empty.new.self c.empty.new.core c.take_in.new.self c.take_in.new.core c.in-Some.k c.args.seg c.args.page
-    c.empty.ensures.settled c.take_in.ensures).reads
+    (taken_settled c.empty_frame.new.self c.empty_frame.new.core c.take_in.new.self c.take_in.new.core c.in-Some.k c.args.seg c.args.page
+    c.empty_frame.ensures.settled c.take_in.ensures).reads

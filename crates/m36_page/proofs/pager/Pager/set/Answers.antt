@@ -1,5 +1,5 @@
 use Rattle.std.proofs.Common.{ℕ, List, sym, subst}
-use Rattle.m36_page.specs.Residence.{Reads}
+use Rattle.m36_page.specs.Residence.{AgreesWithCore}
 use Rattle.m36_page.specs.Changes.{IsSet}
 use Rattle.m36_page.proofs.pager.Pager.set.Goals as goal
 
@@ -10,4 +10,4 @@ returns-in-Some-clause-set c =
 
 pub returns-in-Some-clause-reads : goal.returns-in-Some-clause-reads
 returns-in-Some-clause-reads c =
-    subst (λ (now : List ℕ). Reads c.args.self.now now) (sym c.poke.ensures) (c.in-Some.ensures.reads c.args.w)
+    subst (λ (now : List ℕ). AgreesWithCore c.args.self.now now) (sym c.poke.ensures) (c.in-Some.ensures.reads c.args.w)

@@ -4,4 +4,4 @@ use Rattle.m36_walk.proofs.walk.Walk.operand.Goals as goal
 
 pub returns-clause-serves : goal.returns-clause-serves
 unfolding words_from
-returns-clause-serves c = rw (← c.self.view_is, c.seen.ensures) (λ g e k claims refs puts h. c.in_ok-found.ensures.read g e k claims refs puts (pending_changes c.args.pending.now) h)
+returns-clause-serves c = rw (← c.self.view_is, c.with_pending.ensures) (λ g e k claims refs puts h. c.in_ok-found.ensures.read g e k claims refs puts (pending_changes c.args.pending.now) h)

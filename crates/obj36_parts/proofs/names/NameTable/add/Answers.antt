@@ -8,10 +8,10 @@ use Rattle.obj36_parts.proofs.names.NameTable.add.Goals as goal
 pub invariant_of-self-2 : goal.invariant_of-self-2
 invariant_of-self-2 c =
     let entries = c.self.inside.places.entries in
-    laid_more entries c.insert.new.self.entries c.self.inside.base c.self.inside.next _ c.length_of.result c.args.name.now c.self.invariant
+    laid_more entries c.insert.new.self.entries c.self.inside.base c.self.inside.next _ c.size_of_name.result c.args.name.now c.self.invariant
     (sym c.contains_key.ensures ∙ c.if-contains_key.false)
     (c.in_ok-insert.ensures.entries ∙ ap (λ (n : List ℕ). insert_entry same entries n c.self.inside.next) c.copied.ensures)
-    c.length_of.ensures.value c.length_of.ensures.bound refl
+    c.size_of_name.ensures.value c.size_of_name.ensures.bound refl
 
 pub returns-clause-names : goal.returns-clause-names
 returns-clause-names c =

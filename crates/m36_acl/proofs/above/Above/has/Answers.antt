@@ -1,8 +1,0 @@
-use Rattle.std.proofs.Common.{ap, ◌∙◌}
-use Rattle.m36_acl.specs.AccessLists.{places_of}
-use Rattle.m36_acl.proofs.PlaceLaws.{found}
-use Rattle.m36_acl.proofs.above.Above.has.Goals as goal
-
-pub returns : goal.returns
-returns c =
-    c.contains.ensures ∙ found c.args.place.now c.self.inside.places.keys c.args.self.now (c.self.invariant ∙ ap places_of c.self.view_is)

@@ -1,0 +1,13 @@
+use Rattle.std.proofs.Common.{◌≡◌, ◌≤◌, ◌+◌, ◌*◌, length}
+use Rattle.obj36_parts.specs.Sizes.{undefined_names_size}
+use Rattle.obj36_parts.proofs.size.size_of_undefined_names.Given as goal
+
+-- the words so far, and those of the rest
+abbrev pub invariant-loop-rest : goal.invariant-loop-rest
+invariant-loop-rest l = record {
+  all : l.total + undefined_names_size l.definitions l.rest ≡ undefined_names_size l.definitions l.names;
+  small : l.total + 9 * length l.rest ≤ 9 * length l.names;
+}
+
+abbrev pub decreases-loop-rest : goal.decreases-loop-rest
+decreases-loop-rest l = length l.rest
