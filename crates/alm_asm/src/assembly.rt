@@ -22,7 +22,7 @@ use crate::seen::{AllLineValues, LineValues, compute_values};
 use crate::tables::Tables;
 use alm_lines::count::Count;
 use alm_lines::layout::layout_of;
-use alm_lines::refusal::{AlmRefusal, fault_of, earlier_refusal};
+use alm_lines::refusal::{AlmRefusal, earlier_refusal, fault_of};
 use alm_lines::spot::{LocationCounter, end_of};
 use alm_lines::symbols::Symbols;
 use alm_parse::{AlmFault, Line36, Lines36};
@@ -85,7 +85,11 @@ fn links_and_values(
 // The tables of the lines, the values of each line with arguments, and the first refusal of the
 // layout.
 #[tactic(auto, unfolding(crate::specs::Assembly::tables_of))]
-fn tables_and_values(alloc: Global, text: &[u8], lines: &[Line36]) -> Result<TablesAndValues, NoMemory>
+fn tables_and_values(
+    alloc: Global,
+    text: &[u8],
+    lines: &[Line36],
+) -> Result<TablesAndValues, NoMemory>
     requires { length lines.now < 2 ^ 32 }
     ensures tables { IfOk result (λ found. found.tables ≡ tables_of text.now lines.now) }
     ensures seen { IfOk result (λ found.

@@ -11,7 +11,9 @@ ghost use Rattle.alm_asm.specs.Definitions.{definitions_refusal};
 
 use alm_lines::arguments::name_at;
 use alm_lines::expression::symbol_sum;
-use alm_lines::refusal::{AlmCode, AlmRefusal, ValueField, fits_field, refusal_at, earlier_refusal};
+use alm_lines::refusal::{
+    AlmCode, AlmRefusal, ValueField, earlier_refusal, fits_field, refusal_at,
+};
 use alm_lines::sum::{Kind, Sum};
 use alm_lines::symbols::Symbols;
 use alm_parse::{Arg, Line36, LineEffect, Span};

@@ -402,7 +402,15 @@ fn operand_count(
         ] => {
             let terms = expr.items();
             let room = operand_field(*pr, *seg);
-            let has_value = evaluated_has_value(text, symbols, spot, terms, room, is_internal(*seg), value);
+            let has_value = evaluated_has_value(
+                text,
+                symbols,
+                spot,
+                terms,
+                room,
+                is_internal(*seg),
+                value,
+            );
             let kind = evaluated_kind(text, symbols, spot, terms, value);
             relocation_count(has_value, operand_value_kind(*seg, kind))
         }

@@ -24,7 +24,9 @@ use crate::tables::Tables;
 use alm_lines::arguments::{first_symbol, first_terms, second_terms, section_in};
 use alm_lines::count::Count;
 use alm_lines::expression::expression_place;
-use alm_lines::refusal::{AlmCode, AlmRefusal, Requirement, ValueField, refusal_at, earlier_refusal};
+use alm_lines::refusal::{
+    AlmCode, AlmRefusal, Requirement, ValueField, earlier_refusal, refusal_at,
+};
 use alm_lines::spot::{LocationCounter, next_line_spot};
 use alm_lines::symbols::Symbols;
 use alm_lines::value::{Value, evaluate, evaluated_has_value, evaluated_refusal};
@@ -183,7 +185,10 @@ fn external_refusal(
     );
     let reached = link_is_in_reach(text, tables, spot, segment, entry, terms, tag, value, place);
     let definition_of_name = may_name(tables, own_section(text, segment));
-    earlier_refusal(earlier_refusal(expression, refusal_unless(reached, at)), refusal_unless(definition_of_name, at))
+    earlier_refusal(
+        earlier_refusal(expression, refusal_unless(reached, at)),
+        refusal_unless(definition_of_name, at),
+    )
 }
 
 // The refusal of an operand that is an expression.
@@ -240,7 +245,15 @@ fn operand_refusal(
                 Some(segment) => external_refusal(
                     text, tables, spot, line, *segment, *entry, terms, *tag, value, place,
                 ),
-                None => refusal_of_internal_operand(text, tables, spot, line, internal_operand_field(*pr), terms, value),
+                None => refusal_of_internal_operand(
+                    text,
+                    tables,
+                    spot,
+                    line,
+                    internal_operand_field(*pr),
+                    terms,
+                    value,
+                ),
             }
         }
         _ => None,
@@ -304,8 +317,24 @@ fn halves_refusal(
     let first = first_terms(args);
     let second = second_terms(args);
     let other = evaluate(text, &tables.symbols, spot, second);
-    let left = refusal_of_internal_operand(text, tables, spot, line, ValueField::Half, first, value);
-    let right = refusal_of_internal_operand(text, tables, spot, line, ValueField::Half, second, other);
+    let left = refusal_of_internal_operand(
+        text,
+        tables,
+        spot,
+        line,
+        ValueField::Half,
+        first,
+        value,
+    );
+    let right = refusal_of_internal_operand(
+        text,
+        tables,
+        spot,
+        line,
+        ValueField::Half,
+        second,
+        other,
+    );
     earlier_refusal(left, right)
 }
 

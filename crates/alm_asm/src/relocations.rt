@@ -94,7 +94,12 @@ fn push_operand(
             ..
         ] => {
             let kind = evaluated_kind(text, symbols, spot, expr.items(), value);
-            push_relocation(marks, spot, operand_part(*pr, *seg), operand_value_kind(*seg, kind))
+            push_relocation(
+                marks,
+                spot,
+                operand_part(*pr, *seg),
+                operand_value_kind(*seg, kind),
+            )
         }
         _ => Ok(()),
     }

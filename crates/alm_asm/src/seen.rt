@@ -11,7 +11,7 @@ use crate::links::add_link_of_line;
 use alm_lines::arguments::first_terms;
 use alm_lines::spot::{LocationCounter, next_line_spot};
 use alm_lines::symbols::Symbols;
-use alm_lines::value::{Value, evaluate, empty_expression_value};
+use alm_lines::value::{Value, empty_expression_value, evaluate};
 use alm_parse::{Arg, Line36};
 use m36_word::NoMemory;
 use obj36::Links;

@@ -11,7 +11,7 @@ ghost use Rattle.alm_asm.specs.Words.{address_instruction, pointer_register_inst
 ghost use Rattle.alm_asm.specs.Words.{instruction_word, halves_word, words_of_effect, words_of_line};
 ghost use Rattle.alm_asm.specs.Words.{words_from, instruction_of_parts};
 
-use crate::links::{link_of, offset_of_link_in, offset_of_link, same_section};
+use crate::links::{link_of, offset_of_link, offset_of_link_in, same_section};
 use crate::seen::{LineValues, next_values};
 use crate::tables::Tables;
 use alm_lines::arguments::{second_number, second_terms, words_of_args};

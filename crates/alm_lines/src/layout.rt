@@ -17,8 +17,8 @@ ghost use Rattle.alm_lines.specs.Layout.{layout_refusal};
 use crate::arguments::{first_symbol, name_at, second_terms};
 use crate::expression::{expression_place, is_defined, sum_of};
 use crate::refusal::{
-    AlmCode, AlmRefusal, Requirement, ValueField, expression_refusal, has_value, is_over_limit,
-    refusal_at, earlier_refusal,
+    AlmCode, AlmRefusal, Requirement, ValueField, earlier_refusal, expression_refusal, has_value,
+    is_over_limit, refusal_at,
 };
 use crate::spot::{LocationCounter, next_line_spot};
 use crate::sum::{NOTHING, Sum, unknown};
@@ -290,7 +290,10 @@ fn add_line_symbols(
     let labels = define_labels(text, line, symbols, spot.here(), refused)?;
     let own = definition_refusal(text, symbols, spot, line, deed);
     define_symbol_of_line(text, symbols, spot, line, deed)?;
-    Ok(earlier_refusal(earlier_refusal(labels, own), over_limit_refusal(line, after)))
+    Ok(earlier_refusal(
+        earlier_refusal(labels, own),
+        over_limit_refusal(line, after),
+    ))
 }
 
 // Defines the symbols of lines. Returns the first refusal of a definition or of the length of a

@@ -11,7 +11,9 @@ ghost use Rattle.alm_lines.specs.Values.{evaluated_refusal};
 
 use crate::arguments::name_at;
 use crate::expression::{first_undefined_place, sum_of};
-use crate::refusal::{AlmRefusal, Requirement, ValueField, fits_field, is_kind_allowed, refusal_unless_expressible};
+use crate::refusal::{
+    AlmRefusal, Requirement, ValueField, fits_field, is_kind_allowed, refusal_unless_expressible,
+};
 use crate::spot::LocationCounter;
 use crate::sum::{Kind, Sum, absolute};
 use crate::symbols::Symbols;
@@ -107,7 +109,12 @@ fn symbol_sum_and_undefined(text: &[u8], symbols: &Symbols, span: Span) -> SumAn
 
 // The sum of a term without its sign, and where it is a symbol that is not defined.
 #[tactic(auto, using(crate::proofs::ValueLaws::undefined_alone))]
-fn atom_sum_and_undefined(text: &[u8], symbols: &Symbols, spot: LocationCounter, term: Term) -> SumAndUndefined
+fn atom_sum_and_undefined(
+    text: &[u8],
+    symbols: &Symbols,
+    spot: LocationCounter,
+    term: Term,
+) -> SumAndUndefined
     ensures sum { result.sum ≡ atom_sum text.now symbols.now spot term.span term.what }
     ensures small { IsTerm result.sum }
     ensures undefined { result.undefined ≡ first_undefined_place text.now symbols.now (term ∷ []) }
@@ -127,7 +134,12 @@ fn atom_sum_and_undefined(text: &[u8], symbols: &Symbols, spot: LocationCounter,
 
 // The sum of a term, and where it is a symbol that is not defined.
 #[tactic(auto, using(crate::proofs::ValueLaws::sum_alone), unfolding(crate::specs::Expressions::term_sum))]
-fn term_sum_and_undefined(text: &[u8], symbols: &Symbols, spot: LocationCounter, term: Term) -> SumAndUndefined
+fn term_sum_and_undefined(
+    text: &[u8],
+    symbols: &Symbols,
+    spot: LocationCounter,
+    term: Term,
+) -> SumAndUndefined
     ensures sum { result.sum ≡ sum_of text.now symbols.now spot (term ∷ []) }
     ensures undefined { result.undefined ≡ first_undefined_place text.now symbols.now (term ∷ []) }
 {
@@ -144,7 +156,12 @@ fn term_sum_and_undefined(text: &[u8], symbols: &Symbols, spot: LocationCounter,
 
 // The sum of an expression, and its first symbol that is not defined. Most expressions have one
 // term, so a symbol in it is looked up only once.
-fn sum_and_undefined(text: &[u8], symbols: &Symbols, spot: LocationCounter, terms: &[Term]) -> SumAndUndefined
+fn sum_and_undefined(
+    text: &[u8],
+    symbols: &Symbols,
+    spot: LocationCounter,
+    terms: &[Term],
+) -> SumAndUndefined
     requires { length terms.now ≤ 2 ^ 32 }
     ensures sum { result.sum ≡ sum_of text.now symbols.now spot terms.now }
     ensures undefined { result.undefined ≡ first_undefined_place text.now symbols.now terms.now }

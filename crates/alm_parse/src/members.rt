@@ -9,7 +9,7 @@ ghost use Rattle.alm_parse.specs.Refusals.{operand_form_refusal, IsParserResultO
 
 use crate::args::{Arg, Args};
 use crate::refusal::{ParseError, operand_form_refusal};
-use alm_tokens::lists::{are_symbols, members_have_form_of, members, first_out_of_range_place};
+use alm_tokens::lists::{are_symbols, first_out_of_range_place, members, members_have_form_of};
 use alm_tokens::numerals::{Numeral, number_word};
 use alm_tokens::pieces::TextPiece;
 use alm_tokens::span::{Span, bytes_of};

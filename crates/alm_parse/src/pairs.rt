@@ -9,9 +9,9 @@ ghost use Rattle.alm_parse.specs.Refusals.{IsParserResultOf, ErrorIsInside};
 
 use crate::args::{Arg, Args, one_arg, two_args};
 use crate::members::number_arg;
-use crate::refusal::{ParseCode, ParseError, refusal_at_token, operand_form_refusal};
+use crate::refusal::{ParseCode, ParseError, operand_form_refusal, refusal_at_token};
 use alm_tokens::expression::{are_terms, expr_of, expression_pieces};
-use alm_tokens::lists::{is_symbol_at, member_has_form_of, members, first_out_of_range_place};
+use alm_tokens::lists::{first_out_of_range_place, is_symbol_at, member_has_form_of, members};
 use alm_tokens::numerals::Numeral;
 use alm_tokens::pieces::TextPiece;
 use alm_tokens::span::{Span, bytes_of};

@@ -78,7 +78,12 @@ pub fn refusal_at_token(text: &[u8], place: u32, code: ParseCode) -> ParseRefusa
 
 /// The refusal of an operand: E2 if it does not have its form, and otherwise E4 at its first number
 /// out of range, if it has one.
-pub fn operand_form_refusal(text: &[u8], operand: u32, form: bool, over: Option<u32>) -> Option<ParseRefusal>
+pub fn operand_form_refusal(
+    text: &[u8],
+    operand: u32,
+    form: bool,
+    over: Option<u32>,
+) -> Option<ParseRefusal>
     requires inside { operand < length text.now }
     requires over { IfSome over (λ place. place < length text.now) }
     ensures value { result ≡ operand_form_refusal text.now operand form over }

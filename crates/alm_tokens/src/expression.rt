@@ -141,7 +141,12 @@ pub fn expression_pieces(alloc: Global, text: &[u8], whole: TextPiece) -> Result
     ensures value { IfOk result (λ p. p ≡ expression_pieces text.now whole) }
     ensures count { IfOk result (λ p. length p ≤ 2 ^ 32) }
 {
-    pieces_of(alloc, Separator::Sign, text, without_first_minus(text, whole))
+    pieces_of(
+        alloc,
+        Separator::Sign,
+        text,
+        without_first_minus(text, whole),
+    )
 }
 
 // The kind of a term, with its number if it is one; 0 if that is over the limit.

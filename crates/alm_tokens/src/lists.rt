@@ -5,7 +5,7 @@ ghost use Rattle.std.specs.List.{list_all, find};
 ghost use Rattle.std.specs.Option.{option_copied};
 ghost use Rattle.alm_tokens.specs.Lists.{members, is_symbol_at, member_has_form_of, is_out_of_range, first_out_of_range_place};
 
-use crate::numerals::{Numeral, is_number_out_of_range, has_form_of};
+use crate::numerals::{Numeral, has_form_of, is_number_out_of_range};
 use crate::pieces::{Pieces, Separator, TextPiece, pieces_of};
 use crate::span::{Span, bytes_of};
 use crate::tokens::is_symbol;
@@ -63,7 +63,11 @@ fn is_out_of_range(numeral: Numeral, text: &[u8], member: &TextPiece) -> bool
 }
 
 // The first member that is a number out of its range.
-fn first_out_of_range<'a>(numeral: Numeral, text: &[u8], members: &'a [TextPiece]) -> Option<&'a TextPiece>
+fn first_out_of_range<'a>(
+    numeral: Numeral,
+    text: &[u8],
+    members: &'a [TextPiece],
+) -> Option<&'a TextPiece>
     ensures { option_copied result ≡ find (is_out_of_range numeral text.now) members.now }
 {
     members

@@ -67,7 +67,11 @@ fn hold_image_session<W: World>(alloc: Global, image: Image, world: &mut W) -> R
 
 // Holds a session over a booted system.
 #[tactic(auto, using(crate::proofs::DebugSteps::holding))]
-fn hold_system_session<W: World>(alloc: Global, mut system: Super, world: &mut W) -> Result<(), Status>
+fn hold_system_session<W: World>(
+    alloc: Global,
+    mut system: Super,
+    world: &mut W,
+) -> Result<(), Status>
     requires { IsFresh system }
     ensures { Performs (on_library system.lib) result (W.seen world.old) (W.seen world.new) }
 {

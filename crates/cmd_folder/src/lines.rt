@@ -162,7 +162,12 @@ pub(crate) fn add_console_text<W: World>(
 
 // Adds the line of a denied segment if the run ended because the user lacks a right to it.
 #[tactic(auto, using(crate::proofs::TurnPieces::adding), unfolding(crate::specs::RunText::denied_pieces))]
-fn add_denied_line<W: World>(denied: &DeniedLines, how: Finish, block: &mut Block, world: &mut W) -> Put
+fn add_denied_line<W: World>(
+    denied: &DeniedLines,
+    how: Finish,
+    block: &mut Block,
+    world: &mut W,
+) -> Put
     ensures adds { Adds result block.old block.new (denied_pieces denied.now how)
         (W.seen world.old) (W.seen world.new) }
 {

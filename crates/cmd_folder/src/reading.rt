@@ -13,7 +13,7 @@ use crate::booting::{BootedFolder, boot_files, with_file};
 use crate::files::SegmentFiles;
 use m36_acl::User;
 use m36_dir::Catalog;
-use m36_files::{Access, refusal_as_status, read_access, read_words};
+use m36_files::{Access, read_access, read_words, refusal_as_status};
 use m36_status::Status;
 use m36_world::World;
 use std::alloc::Global;

@@ -14,11 +14,11 @@ ghost use Rattle.cmd_folder.specs.RunSays.{IsConsoleTextPut, run_of, rest_from_s
 use crate::command::RunOutput;
 use crate::ending::finish_status;
 use crate::finish::Finish;
-use crate::lines::{add_link_line, add_console_text, add_step, put_end_lines};
+use crate::lines::{add_console_text, add_link_line, add_step, put_end_lines};
 use m36_acl::DeniedLines;
 use m36_model::{At, End, StepRecord};
 use m36_outside::{Block, Put};
-use m36_program::{result_of_status, flush_block};
+use m36_program::{flush_block, result_of_status};
 use m36_status::Status;
 use m36_step::{Stepper, Turn};
 use m36_super::{NextEvent, Super};

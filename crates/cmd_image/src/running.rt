@@ -15,7 +15,7 @@ use crate::machine::status_after;
 use arrayvec::ArrayString;
 use m36_model::{Outcome, Regs, Shown};
 use m36_outside::{Block, Put};
-use m36_program::{add_piece, result_of_status, finish};
+use m36_program::{add_piece, finish, result_of_status};
 use m36_status::Status;
 use m36_step::Machine;
 use m36_trace::{TraceText, end_line, push_shown, shown_line};
@@ -46,7 +46,13 @@ fn add_line<W: World>(block: &mut Block, mut line: ArrayString<160>, world: &mut
 // Adds the line of step n, formatted as a whole. Used if `push_shown` did not add it: the block has
 // no room for it, or no parts of an earlier line can be used again.
 #[inline(never)]
-fn add_whole_line<W: World>(n: u64, shown: &Shown, after: &Regs, block: &mut Block, world: &mut W) -> Put
+fn add_whole_line<W: World>(
+    n: u64,
+    shown: &Shown,
+    after: &Regs,
+    block: &mut Block,
+    world: &mut W,
+) -> Put
     ensures adds { Adds result block.old block.new
         (as_line (shown_line n shown.now after.now) ∷ []) (W.seen world.old) (W.seen world.new) }
 {

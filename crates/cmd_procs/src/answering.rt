@@ -11,7 +11,7 @@ ghost use Rattle.cmd_procs.specs.ProcsProgram.{audit_only, audit_and_run, procs_
 use crate::findings::put_joint_audit;
 use crate::reading::read_procs;
 use crate::running::run;
-use m36_audit::{JointVerdict, JointFinding, joint_audit};
+use m36_audit::{JointFinding, JointVerdict, joint_audit};
 use m36_desc::Dbr;
 use m36_model::Regs;
 use m36_procs::Procs;

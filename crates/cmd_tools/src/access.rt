@@ -11,7 +11,7 @@ use crate::report::Report;
 use crate::reporting::put_text;
 use m36_acl::{Acl, User};
 use m36_dir::Catalog;
-use m36_files::{refusal_as_status, read_catalog, read_lists};
+use m36_files::{read_catalog, read_lists, refusal_as_status};
 use m36_status::{Refusal, Status};
 use m36_world::World;
 use std::alloc::Global;

@@ -17,7 +17,7 @@ use crate::objects::object_bytes;
 use crate::report::{Report, report_file};
 use crate::reporting::write_report;
 use m36_bind::{BindFault, bind, components};
-use m36_files::{refusal_as_status, read_object};
+use m36_files::{read_object, refusal_as_status};
 use m36_list::print;
 use m36_program::read_bytes;
 use m36_status::{Code, Refusal, Status, refuse};

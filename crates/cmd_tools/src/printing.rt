@@ -9,7 +9,7 @@ ghost use Rattle.cmd_tools.specs.ToolPrograms.{print_report, print_program};
 
 use crate::report::Report;
 use crate::reporting::put_text;
-use m36_files::{refusal_as_status, read_object};
+use m36_files::{read_object, refusal_as_status};
 use m36_list::print;
 use m36_status::{Refusal, Status};
 use m36_world::World;

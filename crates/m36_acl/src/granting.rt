@@ -25,7 +25,8 @@ fn names(catalog: &Catalog, given: &AclSegment, segment: &Segment) -> bool
     requires { IsSegment (length catalog.now.directories) segment.now }
     ensures { result ≡ names catalog.now given.now segment.now }
 {
-    catalog.directory(segment.dir) == given.dir.bytes() && first_name_of(segment) == given.name.bytes()
+    catalog.directory(segment.dir) == given.dir.bytes()
+        && first_name_of(segment) == given.name.bytes()
 }
 
 // Whether a `segment` line names any segment of a catalog.

@@ -32,7 +32,9 @@ fn is_list_of(segment: &AclSegment, dir: &[u8], name: &[u8]) -> bool
 fn line_of<'a>(segments: &'a [AclSegment], dir: &[u8], name: &[u8]) -> Option<&'a AclSegment>
     ensures { option_copied result ≡ find (is_list_of (entry dir.now name.now)) segments.now }
 {
-    segments.iter().find(|segment| is_list_of(segment, dir, name))
+    segments
+        .iter()
+        .find(|segment| is_list_of(segment, dir, name))
 }
 
 /// The access list of a segment. Empty if no `segment` line names it.

@@ -7,7 +7,7 @@ ghost use Rattle.m36_acl.specs.AccessLine.{Segment, Term as TermLine, entry_of, 
 ghost use Rattle.m36_acl.specs.AccessLists.{with_segment, has_term, with_term_line, with_line, lists_of, RefusesWith, ChangesTo};
 ghost use Rattle.m36_dir.specs.BootLine.{directory_limit};
 
-use crate::above::{SegmentsAbove, SegmentKey};
+use crate::above::{SegmentKey, SegmentsAbove};
 use crate::fault::AclFault;
 use crate::forms::{entry_of, term_of};
 use crate::segment::{AclSegment, Term};
@@ -63,7 +63,12 @@ fn add_term(above: &mut SegmentsAbove, number: u32, term: Term) -> Result<(), Ac
 }
 
 // Parses a `segment` line from its second word on, and adds its segment.
-fn segment_line(alloc: Global, above: &mut SegmentsAbove, number: u32, given: &[u8]) -> Result<(), AclFault>
+fn segment_line(
+    alloc: Global,
+    above: &mut SegmentsAbove,
+    number: u32,
+    given: &[u8],
+) -> Result<(), AclFault>
     ensures { ChangesTo above.new result
         (with_line number above.old (option_map Segment (entry_of (words_of given.now)))) }
 {
@@ -86,7 +91,12 @@ fn term_line(above: &mut SegmentsAbove, number: u32, given: &[u8]) -> Result<(),
 
 // Parses a line, and adds what it has to the segments of the lines above it.
 #[tactic(auto, unfolding(crate::specs::AccessLine::parsed_line), using(crate::proofs::AclLines::no_words))]
-fn add_line(alloc: Global, above: &mut SegmentsAbove, number: u32, line: &[u8]) -> Result<(), AclFault>
+fn add_line(
+    alloc: Global,
+    above: &mut SegmentsAbove,
+    number: u32,
+    line: &[u8],
+) -> Result<(), AclFault>
     ensures { ChangesTo above.new result (with_line number above.old (parsed_line (Some line.now))) }
 {
     let (word, rest) = first_word(line);

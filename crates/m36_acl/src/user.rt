@@ -41,7 +41,9 @@ impl User {
         ensures { result ≡ user_of t.now }
     {
         if is_user(t) {
-            Some(User { text: copied_in_place(t) })
+            Some(User {
+                text: copied_in_place(t),
+            })
         } else {
             None
         }

@@ -32,7 +32,10 @@ pub fn div(q: Word, y: Word) -> Result<(Word, Word), DivideCheck>
     }
     let dividend = magnitude(q);
     let divisor = magnitude(y);
-    let quotient = signed_word(are_different(is_negative(q), is_negative(y)), dividend / divisor);
+    let quotient = signed_word(
+        are_different(is_negative(q), is_negative(y)),
+        dividend / divisor,
+    );
     let remainder = signed_word(is_negative(q), dividend % divisor);
     Ok((quotient, remainder))
 }

@@ -227,7 +227,14 @@ pub fn place_to_fetch_elsewhere(
 /// Whether a transfer in a ring, from the same ring, may go to a word of a page in front. This does
 /// not count as a use of the page.
 #[inline(always)]
-pub fn may_transfer_to(core: &Core, dbr: Dbr, memories: &Memories, seg: u16, ring: u8, word: u32) -> bool
+pub fn may_transfer_to(
+    core: &Core,
+    dbr: Dbr,
+    memories: &Memories,
+    seg: u16,
+    ring: u8,
+    word: u32,
+) -> bool
     requires seg { seg < 2 ^ 15 }
     requires word { word < 2 ^ 18 }
     requires right { AreCoherent core.now dbr memories.now }

@@ -16,7 +16,7 @@ use crate::writing::with_mark;
 use m36_core::Core;
 use m36_desc::{Dbr, Ptw, Sdw};
 use m36_model::Refusal;
-use m36_tables::{directory_at, address_in_frame, page_at, page_table_word, wrapped_address};
+use m36_tables::{address_in_frame, directory_at, page_at, page_table_word, wrapped_address};
 
 /// The descriptor of a segment, if entry `e` has it.
 #[inline(always)]

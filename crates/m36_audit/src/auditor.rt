@@ -14,7 +14,7 @@ use crate::segment_runs::count_segments;
 use crate::table_words::mark_tables;
 use crate::tables::TableMarks;
 use crate::verdict::{Verdict, note};
-use crate::word_count::{first_word_in_two_segments, first_table_and_segment_word};
+use crate::word_count::{first_table_and_segment_word, first_word_in_two_segments};
 use arrayvec::ArrayVec;
 use m36_core::Core;
 use m36_desc::Dbr;
@@ -24,7 +24,12 @@ use std::alloc::Global;
 
 /// The findings for a DBR, in the order of the conditions. The table words are marked already, and
 /// the runs of the segments are counted.
-pub(crate) fn findings_from_marks(marks: &TableMarks, counts: &RunCounts, core: &Core, dbr: Dbr) -> Verdict
+pub(crate) fn findings_from_marks(
+    marks: &TableMarks,
+    counts: &RunCounts,
+    core: &Core,
+    dbr: Dbr,
+) -> Verdict
     requires marked { AreMarked (IsWordOfTable core.now dbr) (length core.now) marks.now.tables
         marks.now.least }
     requires counted { AreCounted (run core.now dbr) runs_of_process (length core.now)

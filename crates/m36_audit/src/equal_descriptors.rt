@@ -116,7 +116,11 @@ fn note_process(
 
 /// For each descriptor of each process that is in core, the number of the first one with the same
 /// words. The contract leaves open which of these has the number. Fails only if memory runs out.
-pub(crate) fn equal_descriptors(alloc: Global, core: &Core, dbrs: &[Dbr]) -> Result<Vec<u32>, NoMemory>
+pub(crate) fn equal_descriptors(
+    alloc: Global,
+    core: &Core,
+    dbrs: &[Dbr],
+) -> Result<Vec<u32>, NoMemory>
     requires { length dbrs.now ≤ most_processes }
     ensures { IfOk result (λ firsts. AreFirstEquals core.now dbrs.now
         (descriptors_of_process * length dbrs.now) firsts.items) }

@@ -56,7 +56,8 @@ pub(crate) fn has_no_stack(core: &Core, dbr: Dbr, seg: u16) -> bool
     match live_descriptor(core, dbr, seg) {
         Some(sdw) => {
             let stack = 8 * dbr.stack + sdw.r2 as u16;
-            may_be_called_from_above(&sdw) && !is_ring_stack(sdw.r2, live_descriptor(core, dbr, stack))
+            may_be_called_from_above(&sdw)
+                && !is_ring_stack(sdw.r2, live_descriptor(core, dbr, stack))
         }
         None => false,
     }

@@ -13,7 +13,9 @@ use crate::recorded::RecordedNumbers;
 use m36_core::Core;
 use m36_desc::{Dbr, Sdw};
 use m36_model::Refusal;
-use m36_tables::{descriptor, descriptor_place, directory_at, page_at, segment_count, wrapped_address};
+use m36_tables::{
+    descriptor, descriptor_place, directory_at, page_at, segment_count, wrapped_address,
+};
 
 /// Records the two words of a descriptor at this place, if it has one.
 fn record_descriptor(recorded: &mut RecordedNumbers, place: Result<u32, Refusal>, table_number: u32)
@@ -62,7 +64,11 @@ fn record_page_table(recorded: &mut RecordedNumbers, sdw: &Sdw, table_number: u3
 }
 
 /// Records the words of a segment's page table, if the segment is live and paged.
-fn record_table_if_live(recorded: &mut RecordedNumbers, findings_from_marks: Result<Sdw, Refusal>, table_number: u32)
+fn record_table_if_live(
+    recorded: &mut RecordedNumbers,
+    findings_from_marks: Result<Sdw, Refusal>,
+    table_number: u32,
+)
     ensures { recorded.new.values.items ≡ table_recorded_if_live table_number findings_from_marks recorded.old.values.items }
 {
     match findings_from_marks {

@@ -15,7 +15,7 @@ use crate::auditor::findings_from_marks;
 use crate::equal_descriptors::equal_descriptors;
 use crate::identities::record_tables;
 use crate::joint_runs::count_processes;
-use crate::joint_verdict::{JointVerdict, JointFinding, note_between, note_process};
+use crate::joint_verdict::{JointFinding, JointVerdict, note_between, note_process};
 use crate::joint_words::{first_joint_segment_word, first_joint_table_word};
 use crate::owners::record_owners;
 use crate::recorded::RecordedNumbers;

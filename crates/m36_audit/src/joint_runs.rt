@@ -11,7 +11,7 @@ ghost use Rattle.m36_audit.specs.WordOwners.{joint_run, piece_count, with_start,
 
 use crate::live_descriptor::live_descriptor;
 use crate::run::{Run, RunCounts};
-use crate::segment_runs::{unpaged_first_run, page_run, unpaged_second_run};
+use crate::segment_runs::{page_run, unpaged_first_run, unpaged_second_run};
 use m36_core::Core;
 use m36_desc::{Dbr, Sdw};
 use m36_tables::{has_ordered_brackets, segment_count};

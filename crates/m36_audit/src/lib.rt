@@ -76,5 +76,5 @@ mod word_count;
 
 pub use auditor::audit;
 pub use joint_auditor::joint_audit;
-pub use joint_verdict::{JointVerdict, JointFinding};
+pub use joint_verdict::{JointFinding, JointVerdict};
 pub use verdict::{Finding, Verdict};

@@ -56,7 +56,12 @@ fn is_in_two_segments(core: &Core, dbr: Dbr, a: u32, open_runs: u32) -> bool
 }
 
 /// The first core word that is both a segment word and a table word.
-pub(crate) fn first_table_and_segment_word(marks: &TableMarks, counts: &RunCounts, core: &Core, dbr: Dbr) -> Option<u32>
+pub(crate) fn first_table_and_segment_word(
+    marks: &TableMarks,
+    counts: &RunCounts,
+    core: &Core,
+    dbr: Dbr,
+) -> Option<u32>
     requires marked { AreMarked (IsWordOfTable core.now dbr) (length core.now) marks.now.tables
         marks.now.least }
     requires counted { AreCounted (run core.now dbr) runs_of_process (length core.now)

@@ -3,7 +3,7 @@
 ghost use Rattle.std.specs.Prelude.{ℕ, ◌≡◌, ◌-◌, ◌<◌, ◌^◌, MatchResult};
 ghost use Rattle.m36_step.specs.Counting.{step_count_limit, step_count_after};
 
-use crate::kept::{Kept, drop_later, keep, copy_nearest};
+use crate::kept::{Kept, copy_nearest, drop_later, keep};
 use crate::replaying::replay;
 use m36_model::Regs;
 use m36_step::{BackAnswer, Replay, Stepper, Turn};

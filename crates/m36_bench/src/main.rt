@@ -22,7 +22,7 @@ mod running;
 
 use image::{Loop, loop_count, machine};
 use m36_step::Machine;
-use running::{StepCount, take_quiet_steps, take_steps_with_lines, take_recorded_steps};
+use running::{StepCount, take_quiet_steps, take_recorded_steps, take_steps_with_lines};
 use std::io::Print;
 use std::rt::{Clock, Env};
 use std::time::Instant;

@@ -117,7 +117,11 @@ fn bound_object_of_components(
 
 // The bound object of a bind file, or its first refusal.
 #[tactic(auto, using(crate::proofs::BindingLaws::of_lines))]
-fn bound_object_of_lines(alloc: Global, lines: &[BindLine], given: &Given<'_>) -> Result<Object, BindFault>
+fn bound_object_of_lines(
+    alloc: Global,
+    lines: &[BindLine],
+    given: &Given<'_>,
+) -> Result<Object, BindFault>
     requires { length lines.now < 2 ^ 32 }
     ensures { BindResult result (bound_object_of_lines given.now lines.now) }
 {

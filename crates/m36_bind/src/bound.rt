@@ -13,7 +13,7 @@ use crate::placed::{Components, PlacedComponent, relocation_of};
 use m36_relocate::layout::{Relocation, Shape, relocated_place};
 use m36_relocate::words::{is_relocation_in, relocate_words};
 use m36_word::{NoMemory, Word, Words};
-use obj36_parts::sections::{push_all, pad_to_even, version_of};
+use obj36_parts::sections::{pad_to_even, push_all, version_of};
 use obj36_parts::{Defs, Links, Parts, Reloc, Relocs};
 use std::alloc::Global;
 
@@ -164,7 +164,12 @@ fn add_words(
 
 // The texts of the components, or their static words, relocated, each from an even word on.
 #[tactic(auto, unfolding(crate::specs::Bound::with_component_words))]
-fn all_component_words(alloc: Global, frame: &Shape, statics: bool, all: &[PlacedComponent<'_>]) -> Result<Words, NoMemory>
+fn all_component_words(
+    alloc: Global,
+    frame: &Shape,
+    statics: bool,
+    all: &[PlacedComponent<'_>],
+) -> Result<Words, NoMemory>
     ensures { IfOk result (λ words. words ≡ with_component_words frame.now statics [] all.now) }
 {
     let mut out = Words::new(alloc);
@@ -260,7 +265,11 @@ fn add_all_relocations(
 }
 
 // The relocations of the bound object: those of the text, and then those of the static words.
-fn relocations(alloc: Global, frame: &Shape, all: &[PlacedComponent<'_>]) -> Result<Relocs, NoMemory>
+fn relocations(
+    alloc: Global,
+    frame: &Shape,
+    all: &[PlacedComponent<'_>],
+) -> Result<Relocs, NoMemory>
     ensures { IfOk result
         (λ rs. rs ≡ relocations_from frame.now true
         (relocations_from frame.now false [] all.now) all.now) }
@@ -301,7 +310,11 @@ struct ComponentWords {
 }
 
 // The text and the static words of the bound object.
-fn text_and_statics(alloc: Global, frame: &Shape, all: &[PlacedComponent<'_>]) -> Result<ComponentWords, NoMemory>
+fn text_and_statics(
+    alloc: Global,
+    frame: &Shape,
+    all: &[PlacedComponent<'_>],
+) -> Result<ComponentWords, NoMemory>
     ensures text { IfOk result (λ all_component_words. all_component_words.text ≡ with_component_words frame.now false [] all.now) }
     ensures statics { IfOk result (λ all_component_words. all_component_words.statics ≡ with_component_words frame.now true [] all.now) }
 {

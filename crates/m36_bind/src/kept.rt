@@ -17,7 +17,11 @@ use obj36_parts::{Defs, Named};
 use std::alloc::Global;
 
 // Adds the definitions of a component, at their places in the bound object.
-fn add_component_definitions(table: &mut Exports, frame: &Shape, p: &PlacedComponent<'_>) -> Result<(), NoMemory>
+fn add_component_definitions(
+    table: &mut Exports,
+    frame: &Shape,
+    p: &PlacedComponent<'_>,
+) -> Result<(), NoMemory>
     ensures { OnOk result
         (table.new ≡ with_relocated_definitions (relocation_of frame.now p.now) table.old p.now.parts.definitions) }
 {
@@ -28,7 +32,11 @@ fn add_component_definitions(table: &mut Exports, frame: &Shape, p: &PlacedCompo
 
 // The definitions of all components, at their places in the bound object.
 #[tactic(auto, unfolding(crate::specs::Kept::exports_from))]
-pub(crate) fn exports(alloc: Global, frame: &Shape, all: &[PlacedComponent<'_>]) -> Result<Exports, NoMemory>
+pub(crate) fn exports(
+    alloc: Global,
+    frame: &Shape,
+    all: &[PlacedComponent<'_>],
+) -> Result<Exports, NoMemory>
     ensures { IfOk result (λ table. table ≡ exports_from frame.now [] all.now) }
 {
     let mut table = Exports::new(alloc, seed_of(all));

@@ -59,7 +59,10 @@ fn segment_link(l: &Link, p: Option<&PlacedComponent<'_>>) -> Link
 {
     match p {
         None => l.copied(),
-        Some(p) => own_link(l, section_place_at(Section::Text, p.bases.text + l.expr as u64)),
+        Some(p) => own_link(
+            l,
+            section_place_at(Section::Text, p.bases.text + l.expr as u64),
+        ),
     }
 }
 

@@ -52,6 +52,10 @@ pub(crate) fn put_descriptors(core: &mut Core, catalog: &Catalog, files: &[File]
 {
     let count = catalog.count();
     for seg in 0..FIRST_SEGMENT + count as u16 {
-        put_pair(core, seg, descriptor_pair(descriptor(catalog, files, limits, seg)));
+        put_pair(
+            core,
+            seg,
+            descriptor_pair(descriptor(catalog, files, limits, seg)),
+        );
     }
 }

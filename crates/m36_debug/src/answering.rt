@@ -9,11 +9,11 @@ ghost use Rattle.m36_debug.specs.SessionLines.{most_steps};
 ghost use Rattle.m36_debug.specs.SessionState.{session_state_with_break, has_taken};
 
 use crate::commands::{GO_LIMIT, RunningCommand, TurnCommand};
+use crate::machine_relations::{LineResult, run_command};
 use crate::registers::put_regs;
 use crate::session_line::{SessionLine, session_line};
 use crate::sitting::SessionState;
 use crate::texts::{put_break, put_end, put_seg, put_unknown, put_where};
-use crate::machine_relations::{LineResult, run_command};
 use m36_outside::{Block, Put};
 use m36_step::{BackAnswer, Stepper};
 use m36_world::World;
@@ -156,9 +156,17 @@ pub(crate) fn answer<M: Stepper, W: World>(
             };
             command(m, command_run, sitting, block, world)
         }
-        SessionLine::Break(seg, word) => result_of_put(add_break(line, seg, word, sitting, block, world)),
+        SessionLine::Break(seg, word) => result_of_put(add_break(
+            line, seg, word, sitting, block, world,
+        )),
         SessionLine::Regs => result_of_put(put_regs(block, world, m.regs())),
-        SessionLine::Seg(seg, word) => result_of_put(put_seg(block, world, seg, word, m.content(seg, word))),
+        SessionLine::Seg(seg, word) => result_of_put(put_seg(
+            block,
+            world,
+            seg,
+            word,
+            m.content(seg, word),
+        )),
         SessionLine::Where => result_of_put(put_where(block, world, m.regs())),
         SessionLine::Back(n) => back(line, n, m, sitting, block, world),
         SessionLine::Quit => LineResult::Quit,

@@ -55,6 +55,7 @@ mod answering;
 pub mod commands;
 pub mod fault;
 pub mod laws;
+pub mod machine_relations;
 mod piece;
 mod putting;
 mod reading;
@@ -63,7 +64,6 @@ pub mod session;
 pub mod session_line;
 mod sitting;
 mod texts;
-pub mod machine_relations;
 
 pub use fault::SessionFault;
 pub use laws::{law_session, law_step_limit};

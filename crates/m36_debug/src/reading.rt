@@ -10,9 +10,9 @@ ghost use Rattle.m36_debug.specs.Session.{Waiting, standing, machine_relations};
 ghost use Rattle.m36_debug.specs.SessionLines.{most_steps};
 
 use crate::answering::answer;
+use crate::machine_relations::LineResult;
 use crate::piece::cut_line;
 use crate::sitting::SessionState;
-use crate::machine_relations::LineResult;
 use m36_outside::{Block, Text};
 use m36_step::Stepper;
 use m36_world::World;

@@ -17,9 +17,9 @@ ghost use Rattle.m36_debug.specs.Taking.{TakesWithin};
 
 use crate::fault::SessionFault;
 use crate::laws::law_step_limit;
+use crate::machine_relations::LineResult;
 use crate::reading::{answer_last, answer_piece};
 use crate::sitting::SessionState;
-use crate::machine_relations::LineResult;
 use m36_outside::{Block, Piece, Put, Text};
 use m36_program::flush_block;
 use m36_step::Stepper;
@@ -163,7 +163,13 @@ pub fn debug<M: Stepper, W: World>(
         match take_piece(world, left, &mut buffer) {
             Piece::Failed => return Err(SessionFault::ReadFault),
             Piece::End => {
-                return session_result(reply_last(&activity_after_line, m, &mut sitting, &mut block, world));
+                return session_result(reply_last(
+                    &activity_after_line,
+                    m,
+                    &mut sitting,
+                    &mut block,
+                    world,
+                ));
             }
             Piece::Got(count) => {
                 match reply_piece(
@@ -186,7 +192,13 @@ pub fn debug<M: Stepper, W: World>(
     }
     match take_piece(world, 1, &mut buffer) {
         Piece::Failed => Err(SessionFault::ReadFault),
-        Piece::End => session_result(reply_last(&activity_after_line, m, &mut sitting, &mut block, world)),
+        Piece::End => session_result(reply_last(
+            &activity_after_line,
+            m,
+            &mut sitting,
+            &mut block,
+            world,
+        )),
         Piece::Got(_) => Err(SessionFault::TooLong),
     }
 }

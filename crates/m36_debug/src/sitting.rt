@@ -66,7 +66,12 @@ impl SessionState {
 
     /// What a command does after a turn that left these registers, given the breaks of the session.
     #[inline(always)]
-    pub(crate) fn decide_after_turn(&self, run: RunningCommand, regs: &Regs, turn: &Turn) -> AfterTurn
+    pub(crate) fn decide_after_turn(
+        &self,
+        run: RunningCommand,
+        regs: &Regs,
+        turn: &Turn,
+    ) -> AfterTurn
         ensures { result ≡ next_of regs.now self.now run turn.now }
     {
         after_turn(run, is_at_break(regs.ppr, self.breaks.as_slice()), turn)

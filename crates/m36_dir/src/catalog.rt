@@ -10,7 +10,8 @@ ghost use Rattle.m36_dir.specs.BootOrder.{most_segments, most_libraries};
 
 use crate::boot_line::BootLine;
 use crate::building::{
-    directories_in, frames_of, libraries_in, directory_number_in, segments_in, start_of, working_directory_of,
+    directories_in, directory_number_in, frames_of, libraries_in, segments_in, start_of,
+    working_directory_of,
 };
 use crate::directory::Directory;
 use crate::fault::CatalogFault;

@@ -33,7 +33,12 @@ fn lockup(tpr: &Tpr, word: u32) -> Halt
 /// a stop core is unchanged, except for marks. A tally word that was counted is not written yet:
 /// the result has its new value and its place in core, and its Write is the last of the
 /// references.
-pub fn form_address(walk: &mut Walk, regs: &Regs, inst: &Inst, refs: &mut Refs) -> Result<Formed, Halt>
+pub fn form_address(
+    walk: &mut Walk,
+    regs: &Regs,
+    inst: &Inst,
+    refs: &mut Refs,
+) -> Result<Formed, Halt>
     requires dbr { walk.old.dbr ≡ regs.now.dbr }
     requires room { length refs.old.items ≤ 4 }
     ensures forms { run_formation regs.now inst.now walk.old.core refs.old.items

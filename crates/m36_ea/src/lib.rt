@@ -27,5 +27,5 @@ mod temporary;
 
 pub use chain::{form_address, pending_tally, plain_address};
 pub use indirect::add_reference;
-pub use quick::{Counting, Through, quick_tally_address, quick_indirect_address};
+pub use quick::{Counting, Through, quick_indirect_address, quick_tally_address};
 pub use registers::{procedure_ring, procedure_segment};

@@ -10,7 +10,7 @@ ghost use Rattle.m36_ea.specs.Formed.{run_formation, ended, without_tally};
 ghost use Rattle.m36_ea.specs.Points.{indirect_reference, ServesIndirect, ServesOdd, Follows};
 
 use crate::indirect::{Format, format_of};
-use crate::modification::{is_counting_tag, end_by_register, word_to_read};
+use crate::modification::{end_by_register, is_counting_tag, word_to_read};
 use crate::tallies::tally;
 use crate::temporary::{Tpr, initial_point};
 use m36_inst::Inst;

@@ -119,7 +119,12 @@ pub fn read_lists<W: World>(alloc: Global, catalog: &Catalog, world: &mut W) -> 
 }
 
 // The catalog with the rights that the lists give to a user.
-fn access_with_lists(alloc: Global, user: &User, catalog: Catalog, lists: &Acl) -> Result<Access, Refusal>
+fn access_with_lists(
+    alloc: Global,
+    user: &User,
+    catalog: Catalog,
+    lists: &Acl,
+) -> Result<Access, Refusal>
     ensures { IsRuleResult result (Ok (for_user user.now catalog lists.now)) }
 {
     Ok(Access::for_user(alloc, user, catalog, lists)?)

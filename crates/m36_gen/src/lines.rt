@@ -20,7 +20,12 @@ pub fn put_line(text: &mut Text, bytes: &[u8]) -> Result<(), NoMemory>
 
 /// Adds a line with a number in decimal between two texts.
 #[tactic(auto, using(crate::proofs::Parts::numbered_put))]
-pub fn put_line_with_number(text: &mut Text, before: &[u8], n: u64, behind: &[u8]) -> Result<(), NoMemory>
+pub fn put_line_with_number(
+    text: &mut Text,
+    before: &[u8],
+    n: u64,
+    behind: &[u8],
+) -> Result<(), NoMemory>
     ensures { OnOk result (text.new ≡ text.old ++ line_with_number before.now n behind.now) }
 {
     text.append(before)?;
@@ -30,7 +35,12 @@ pub fn put_line_with_number(text: &mut Text, before: &[u8], n: u64, behind: &[u8
 
 /// Adds a line with a name between two texts.
 #[tactic(auto, using(crate::proofs::Parts::named_put))]
-pub fn put_line_with_name(text: &mut Text, before: &[u8], name: &[u8], behind: &[u8]) -> Result<(), NoMemory>
+pub fn put_line_with_name(
+    text: &mut Text,
+    before: &[u8],
+    name: &[u8],
+    behind: &[u8],
+) -> Result<(), NoMemory>
     ensures { OnOk result (text.new ≡ text.old ++ line (before.now ++ name.now ++ behind.now)) }
 {
     text.append(before)?;

@@ -21,7 +21,6 @@
 pub mod file;
 pub mod known;
 pub mod laid;
-mod target;
 pub mod laws;
 mod names;
 mod places;
@@ -30,6 +29,7 @@ mod resolving;
 mod search;
 mod sections;
 pub mod snap;
+mod target;
 
 pub use file::{FIRST_SEGMENT, File, object_in};
 pub use known::Known;

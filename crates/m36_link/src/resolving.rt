@@ -6,11 +6,11 @@ ghost use Rattle.m36_link.specs.Links.{link_from, link_in, holds_link, section_a
 ghost use Rattle.m36_link.specs.Snap.{outer_target, directory_of, target_of_link, words_to_lay, section_with_words, snap_of_target, outer_snap, snap_of, SnapResult};
 ghost use Rattle.obj36_parts.specs.ObjectSegment.{segment_limit};
 
-use crate::file::{File, file_of, object_in, index_in_catalog};
+use crate::file::{File, file_of, index_in_catalog, object_in};
 use crate::known::Known;
 use crate::laid::{FIRST_LINKAGE, NewSection, PlacedSection};
-use crate::target::{Target, own_target, segment_target};
 use crate::snap::{LinkFault, Snap};
+use crate::target::{Target, own_target, segment_target};
 use m36_dir::{Catalog, Segment};
 use m36_model::{At, LinkCode};
 use m36_word::{NoMemory, Words};

@@ -1,7 +1,7 @@
 //! The log of the files of a directory.
 
-use crate::name_calls::NameCall;
 use crate::log::Log;
+use crate::name_calls::NameCall;
 use crate::text::Text;
 use std::io::ErrorKind;
 

@@ -7,8 +7,8 @@ ghost use Rattle.m36_outside.specs.Remaining.{piece_length};
 
 use crate::lines::{Lines, Piece};
 use crate::log::Log;
-use crate::text::Text;
 use crate::remaining::Remaining;
+use crate::text::Text;
 use m36_word::NoMemory;
 use std::alloc::Global;
 use std::marker::Model;

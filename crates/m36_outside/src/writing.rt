@@ -6,8 +6,8 @@ ghost use Rattle.m36_outside.specs.Put.{PutResult};
 ghost use Rattle.m36_outside.specs.Signals.{Signals, GivesUp};
 ghost use Rattle.m36_outside.specs.System.{NotesDone, PutHasError};
 
-use crate::logged::WriterLogs;
 use crate::log::Log;
+use crate::logged::WriterLogs;
 use crate::sink::Put;
 use std::io::{ErrorKind, Write};
 

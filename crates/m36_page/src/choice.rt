@@ -25,7 +25,9 @@ fn refers_to_page(held: (u16, u16), reference: &Reference) -> bool
 fn is_page_pinned(references: &[Reference], held: (u16, u16)) -> bool
     ensures { result ≡ is_pinned references.now (Some held) }
 {
-    references.iter().any(|reference| refers_to_page(held, reference))
+    references
+        .iter()
+        .any(|reference| refers_to_page(held, reference))
 }
 
 /// Whether a frame holds a page that one of the references is to.

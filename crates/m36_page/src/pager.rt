@@ -11,8 +11,8 @@ ghost use Rattle.m36_page.specs.Moved.{IsEvicted, IsTakenIn, IsEmptied, IsKeptWo
 use crate::choice::choose;
 use crate::residence::{frame_at, put_absent, put_resident};
 use crate::table::{
-    PageTable, Table, copy_page_in, copy_page_out, find_table, put_absent_tables, put_word,
-    table_index, filled_tables, word_of,
+    PageTable, Table, copy_page_in, copy_page_out, filled_tables, find_table, put_absent_tables,
+    put_word, table_index, word_of,
 };
 use m36_core::Core;
 use m36_model::{Reference, Refs};

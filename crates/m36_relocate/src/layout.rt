@@ -283,5 +283,10 @@ pub fn relocated_number(m: &Relocation, target: Section, v: u64) -> u64
     ensures value { result ≡ relocated_number m.now target v }
     ensures bound { result < 2 ^ 63 }
 {
-    bound_number_of(&m.frame, &m.bases, target, denoted_word(&m.shape, target, v))
+    bound_number_of(
+        &m.frame,
+        &m.bases,
+        target,
+        denoted_word(&m.shape, target, v),
+    )
 }

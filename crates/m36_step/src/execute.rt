@@ -14,7 +14,7 @@ ghost use Rattle.m36_model.specs.Step.{program, decoded, decode, admitted, is_ba
 ghost use Rattle.m36_model.specs.Step.{addressed, operated};
 ghost use Rattle.m36_step.specs.Ended.{EndsAs, EndsFormed, completed_end};
 
-use crate::ended::{Ended, fault_here, end_of_halt, outcome_after_effect};
+use crate::ended::{Ended, end_of_halt, fault_here, outcome_after_effect};
 use crate::operate::operate;
 use crate::writes::write_words;
 use m36_ea::form_address;

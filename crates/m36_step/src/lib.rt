@@ -39,7 +39,6 @@ pub mod machine;
 mod operands;
 mod operate;
 mod operated;
-mod try_quick_step;
 mod quick_counted;
 mod quick_pairs;
 mod quick_words;
@@ -50,6 +49,7 @@ mod references;
 mod shown;
 pub mod stepper;
 mod targets;
+mod try_quick_step;
 pub mod turns;
 mod writes;
 

@@ -15,7 +15,8 @@ ghost use Rattle.m36_step.specs.Reached.{reached_end, part_for, IsDirectOperand}
 use crate::effects::taken;
 use crate::ended::fault_here;
 use crate::operands::{
-    fill_operand, reach_block, reach_changed, reach_pair, reach_word, reach_written, nothing_to_write,
+    fill_operand, nothing_to_write, reach_block, reach_changed, reach_pair, reach_word,
+    reach_written,
 };
 use crate::operated::{Part, Reached};
 use crate::targets::{reach_address, reach_call, reach_target};

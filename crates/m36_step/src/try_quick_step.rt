@@ -14,12 +14,12 @@ ghost use Rattle.m36_step.specs.Quick.{Operates, Addresses, Decodes, IsNoLdbr, S
 use crate::quick_counted::{try_read_with_tally, try_store_with_tally};
 use crate::quick_pairs::{try_call, try_read_pair, try_return, try_store_pair};
 use crate::quick_words::{
-    try_load_address, try_change_word, try_store_lower, try_read_word, try_shift, try_store_word,
-    try_transfer, try_store_upper,
+    try_change_word, try_load_address, try_read_word, try_shift, try_store_lower, try_store_upper,
+    try_store_word, try_transfer,
 };
 use crate::recorder::Recorder;
 use crate::references::final_at;
-use m36_ea::{quick_tally_address, quick_indirect_address, plain_address};
+use m36_ea::{plain_address, quick_indirect_address, quick_tally_address};
 use m36_inst::{Group, Inst, Quick, quick_row};
 use m36_model::{At, Final, Kind, Regs};
 use m36_walk::Walk;

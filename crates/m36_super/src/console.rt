@@ -21,7 +21,7 @@ use m36_desc::{Acv, Sdw, may_read};
 use m36_model::{At, End, Fault, Refusal, Regs};
 use m36_page::Pager;
 use m36_step::{ConsoleNote, Machine, Turn};
-use m36_tables::{descriptor, violation, is_within_bound};
+use m36_tables::{descriptor, is_within_bound, violation};
 use m36_word::Word;
 
 // The maximum number of characters that a console service writes.

@@ -32,7 +32,9 @@ pub mod pages;
 pub mod places;
 pub mod refusals;
 
-pub use addresses::{SEGMENTS, directory_at, page_at, segment_count, is_within_bound, wrapped_address};
+pub use addresses::{
+    SEGMENTS, directory_at, is_within_bound, page_at, segment_count, wrapped_address,
+};
 pub use descriptors::{descriptor, descriptor_place};
 pub use pages::{address_in_frame, page_frame, page_table_word};
 pub use places::{content, has_ordered_brackets, place, word_in_core, word_place};

@@ -9,7 +9,7 @@ ghost use Rattle.m36_model.specs.Sight.{content_in};
 ghost use Rattle.m36_model.specs.Store.{place};
 ghost use Rattle.m36_tables.specs.Tables.{TableWordIsInCore, spot_of};
 
-use crate::addresses::{page_at, is_within_bound, wrapped_address};
+use crate::addresses::{is_within_bound, page_at, wrapped_address};
 use crate::descriptors::descriptor;
 use crate::pages::{address_in_frame, page_table_word};
 use crate::refusals::{store_fault, violation};

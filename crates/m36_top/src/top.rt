@@ -29,9 +29,19 @@ pub fn perform<W: World>(alloc: Global, command: &Command, world: &mut W) -> Res
         Command::Bare(file, run) => {
             perform_image_command(alloc, file.bytes(), ImageCommand::Bare(*run), world)
         }
-        Command::Audit(file) => perform_image_command(alloc, file.bytes(), ImageCommand::Audit, world),
+        Command::Audit(file) => perform_image_command(
+            alloc,
+            file.bytes(),
+            ImageCommand::Audit,
+            world,
+        ),
         Command::Booted(command, user) => perform_folder_command(alloc, *command, user, world),
-        Command::Procs(file, unaudited) => perform_procs_command(alloc, file.bytes(), *unaudited, world),
+        Command::Procs(file, unaudited) => perform_procs_command(
+            alloc,
+            file.bytes(),
+            *unaudited,
+            world,
+        ),
         Command::Access(user) => print_access(alloc, user, world),
         Command::Print(name) => print_object(alloc, name.bytes(), world),
         Command::Alm(files) => assemble_file(alloc, files, world),

@@ -7,7 +7,7 @@ ghost use Rattle.m36_trace.specs.Kept.{kept_line, CanBeUsed};
 
 use crate::parts::{NumberPart, RingSegmentPart, WordPart};
 use crate::spelling::{
-    COLON, SPACE, put_final, put_instruction, put_word_part, put_line_end, put_number, put_place,
+    COLON, SPACE, put_final, put_instruction, put_line_end, put_number, put_place, put_word_part,
 };
 use m36_model::{Final, Outcome, Ppr, Regs, Shown, StepRecord};
 use m36_outside::Spelled;

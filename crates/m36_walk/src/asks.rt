@@ -10,7 +10,7 @@ ghost use Rattle.m36_walk.specs.ReferenceResult.{told};
 ghost use Rattle.m36_walk.specs.Served.{sdw_in, result_at_place, result_at_target, ok_map, ServesWithoutChange};
 
 use crate::refusal::fault;
-use crate::targets::{check_call, find_first_ring, find_place, check_transfer};
+use crate::targets::{check_call, check_transfer, find_first_ring, find_place};
 use crate::walk::Walk;
 use m36_model::{At, Fault, Ppr};
 use m36_tables::content;

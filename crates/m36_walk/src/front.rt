@@ -8,8 +8,8 @@ ghost use Rattle.m36_walk.specs.Runs.{IsInCore};
 ghost use Rattle.m36_walk.specs.Served.{sdw_in, result_at_target, ServesRun, ServesClaim, ServesWithoutChange};
 
 use m36_associative::{
-    Memories, may_transfer_to, place_to_change, place_to_fetch, place_to_fetch_elsewhere, place_to_read,
-    place_to_write,
+    Memories, may_transfer_to, place_to_change, place_to_fetch, place_to_fetch_elsewhere,
+    place_to_read, place_to_write,
 };
 use m36_core::Core;
 use m36_desc::Dbr;

@@ -13,7 +13,7 @@ use crate::refusal::Refused;
 use m36_associative::Memories;
 use m36_core::Core;
 use m36_desc::{Dbr, Sdw};
-use m36_tables::{store_fault, violation, is_within_bound, word_place, wrapped_address};
+use m36_tables::{is_within_bound, store_fault, violation, word_place, wrapped_address};
 
 /// The number of words of a run that are in core before the first one that is not.
 #[tactic(auto, using(crate::proofs::Spots::walks_on))]

@@ -92,7 +92,13 @@ impl Walk {
         ensures inside { IfSome result (λ a. a + 1 < length self.old.core) }
         ensures same { self.new ≡ self.old }
     {
-        let place = write_in_front(&self.core, self.dbr, &mut self.memories, start_of_pair(at), 2)?;
+        let place = write_in_front(
+            &self.core,
+            self.dbr,
+            &mut self.memories,
+            start_of_pair(at),
+            2,
+        )?;
         Some(place)
     }
 

@@ -9,7 +9,7 @@ ghost use Rattle.m36_walk.specs.Served.{sdw_in, ok_map, ServesWord, Reads};
 
 use crate::refer::{refer_fetch, refer_read};
 use crate::walk::Walk;
-use crate::words::{Pending, with_pending, block_with_pending, pair_with_pending};
+use crate::words::{Pending, block_with_pending, pair_with_pending, with_pending};
 use m36_model::{At, Fault};
 use m36_word::{Pair, Word};
 
@@ -114,7 +114,10 @@ impl Walk {
             psr,
             2,
         )?;
-        Ok((pair_with_pending(&self.core, pending, found.place), found.ring))
+        Ok((
+            pair_with_pending(&self.core, pending, found.place),
+            found.ring,
+        ))
     }
 
     /// Reads the operand block that contains a word, and R1 of its segment.
@@ -139,7 +142,10 @@ impl Walk {
             psr,
             16,
         )?;
-        Ok((block_with_pending(&self.core, pending, found.place), found.ring))
+        Ok((
+            block_with_pending(&self.core, pending, found.place),
+            found.ring,
+        ))
     }
 
     /// Reads a word in the ring of `at`, for an instruction in segment `psr`.

@@ -17,7 +17,7 @@ use m36_core::Core;
 use m36_desc::access::{call_ring, may_transfer};
 use m36_desc::{Acv, Dbr, Sdw};
 use m36_model::{At, Fault, Ppr, Refusal};
-use m36_tables::{descriptor, has_ordered_brackets, violation, is_within_bound};
+use m36_tables::{descriptor, has_ordered_brackets, is_within_bound, violation};
 
 /// Checks that a target is within the bound of its segment. If it is not, the fault is access
 /// violation 15.

@@ -258,7 +258,13 @@ fn number_of_segments(spread: Spread) -> u32
 }
 
 /// Makes this many random references.
-fn refer_at_random(walk: &mut Walk, orders: &mut Orders, lot: &mut u32, count: u32, spread: Spread) {
+fn refer_at_random(
+    walk: &mut Walk,
+    orders: &mut Orders,
+    lot: &mut u32,
+    count: u32,
+    spread: Spread,
+) {
     let segments = number_of_segments(spread);
     for _ in 0..count {
         let kind = next(lot) % 10;

@@ -8,7 +8,7 @@ ghost use Rattle.m36_model.specs.Compares.{test_and, test_and_not};
 ghost use Rattle.m36_xdata.specs.Registers.{working_of, HasValidIndex, HoldsNumber};
 ghost use Rattle.m36_xdata.specs.Changes.{IsEffect, words_to_write};
 
-use crate::bits::{and_bits, xor_bits, and_not_bits};
+use crate::bits::{and_bits, and_not_bits, xor_bits};
 use crate::changes::{Change, NewValues, WordsToWrite};
 use crate::conditions::{compared, set_zero_negative};
 use crate::numbers::comparison;

@@ -20,7 +20,7 @@ use crate::loads::{load_and_clear, load_complement, load_indicators};
 use crate::logic::{and_register, and_storage, or_register, or_storage, xor_register, xor_storage};
 use crate::products::{divide, multiply};
 use crate::registers::Register;
-use crate::stores::{store_indicators, store_if_equal, store_if_zero};
+use crate::stores::{store_if_equal, store_if_zero, store_indicators};
 use crate::sums::{
     add, add_logical, add_low, add_to_storage, add_with_carry, negate, subtract, subtract_logical,
     subtract_stored, subtract_with_carry,

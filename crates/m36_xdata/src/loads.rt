@@ -13,7 +13,7 @@ use crate::conditions::{set_zero_negative, set_zero_negative_overflow};
 use crate::numbers::negation;
 use crate::operands::{operand_number, operand_word};
 use crate::registers::{Register, indicators};
-use crate::results::{new_value, indicator_change, register_change};
+use crate::results::{indicator_change, new_value, register_change};
 use m36_model::{Ind, Operand36, Regs};
 use m36_word::{Field, Word};
 

@@ -7,7 +7,7 @@ ghost use Rattle.m36_model.specs.Logic.{and_storage, or_storage, xor_storage};
 ghost use Rattle.m36_xdata.specs.Registers.{working_of, HasValidIndex, HoldsNumber, PutsNumber};
 ghost use Rattle.m36_xdata.specs.Changes.{IsEffect, words_to_write};
 
-use crate::bits::{and_bits, xor_bits, or_bits};
+use crate::bits::{and_bits, or_bits, xor_bits};
 use crate::changes::Change;
 use crate::conditions::set_zero_negative;
 use crate::operands::operand_number;

@@ -12,7 +12,9 @@ ghost use Rattle.m36_xdata.specs.Results.{sum_fields};
 ghost use Rattle.m36_xdata.specs.Changes.{IsEffect, words_to_write};
 
 use crate::changes::Change;
-use crate::conditions::{set_zero_negative_carry, set_zero_negative_carry_overflow, set_zero_negative_overflow};
+use crate::conditions::{
+    set_zero_negative_carry, set_zero_negative_carry_overflow, set_zero_negative_overflow,
+};
 use crate::numbers::{Computed, difference, negation, sum};
 use crate::operands::{operand_number, operand_word};
 use crate::registers::{Register, indicators, number_in};
@@ -53,7 +55,13 @@ fn into_register_logical(r: Register, s: Computed, regs: &Regs) -> Change
         (into_register_logical (working_of r) (sum_fields s) regs.now) }
     ensures put { length (words_to_write result.put) ≡ 0 }
 {
-    register_change(r, s.value, set_zero_negative_carry(s, indicators(regs)), false, regs)
+    register_change(
+        r,
+        s.value,
+        set_zero_negative_carry(s, indicators(regs)),
+        false,
+        regs,
+    )
 }
 
 // As `into_register`, but the result is written into the operand.

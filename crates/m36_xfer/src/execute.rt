@@ -11,8 +11,7 @@ ghost use Rattle.m36_model.specs.Effect.{exec, answer_fields, refused_here};
 use crate::calls::{call, return_to};
 use crate::privileged::{load_absolute_address, load_dbr, store_dbr};
 use crate::transfers::{
-    is_taken, transfer_and_set_index, transfer_and_set_pointer, transfer_on_overflow,
-    transfer_if,
+    is_taken, transfer_and_set_index, transfer_and_set_pointer, transfer_if, transfer_on_overflow,
 };
 use m36_inst::{Effect, Row};
 use m36_model::{Effect36, Fault, Final, Operand36, Regs};

@@ -17,7 +17,7 @@ ghost use Rattle.obj36_read.specs.Reading.{parts_of};
 ghost use Rattle.std.specs.Cmp.Lexicographic.{pointwise};
 
 use crate::fault::ObjectFault;
-use crate::judging::{fault_with_valid_map, fault_of_length_or_map};
+use crate::judging::{fault_of_length_or_map, fault_with_valid_map};
 use m36_text::Name;
 use m36_word::{NoMemory, Word, Words};
 use obj36_parts::definition::Def;
@@ -226,7 +226,11 @@ fn encodes_decoded(
 
 // The sections of the parts that were decoded from a list of words. None if the list does not
 // encode these parts.
-fn sections_if_encoded(alloc: Global, parts: &Parts, w: &[Word]) -> Result<Option<Sections>, NoMemory>
+fn sections_if_encoded(
+    alloc: Global,
+    parts: &Parts,
+    w: &[Word],
+) -> Result<Option<Sections>, NoMemory>
     requires few { HasShortLists parts.now }
     requires spelled { parts.now ≡ parts_of w.now }
     ensures sections { IfOk result (λ found. IfSome found

@@ -11,7 +11,8 @@ ghost use Rattle.obj36_read.specs.Repeated.{least_earlier_place};
 
 use crate::reading::{behind, first_words, quarter_from, word_at};
 use crate::tables::{
-    count_of_definitions, next_definition_offset, first_definition_offset, earlier_of, is_name_within, offset_of_name,
+    count_of_definitions, earlier_of, first_definition_offset, is_name_within,
+    next_definition_offset, offset_of_name,
 };
 use indexmap::IndexMap;
 use m36_text::HashSeed;

@@ -26,7 +26,8 @@ fn is_good_type(version: u8, word: Word) -> bool
     ensures { result ≡ is_expression_type version word }
 {
     let kind = left_of(word);
-    kind_has_name(kind) || (kind_has_section(kind) && right_of(word) <= greatest_section_number(version))
+    kind_has_name(kind)
+        || (kind_has_section(kind) && right_of(word) <= greatest_section_number(version))
 }
 
 // The first expression whose type or section is invalid.
@@ -121,7 +122,12 @@ fn fault_of_linkage(version: u8, d: &[Word], k: &[Word]) -> Option<u64>
     ensures bound { IfSome result (λ p. p < 2 ^ 20) }
 {
     if is_good_head(version, d, k) {
-        first_link_fault(k, start_of_links(k), first_expression_offset(d), count_of_links(k))
+        first_link_fault(
+            k,
+            start_of_links(k),
+            first_expression_offset(d),
+            count_of_links(k),
+        )
     } else {
         Some(1)
     }

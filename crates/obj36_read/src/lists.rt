@@ -4,8 +4,9 @@ ghost use Rattle.std.specs.Prelude.{ℕ, [], ◌++◌, ◌≡◌, ◌^◌, ◌<�
 ghost use Rattle.obj36_read.specs.Reading.{parts_of};
 
 use crate::reading::{
-    bound, count_in_head, words_from_definition, first_link_offset, first_words, length_in_map, words_from_linkage,
-    read_definitions, read_links, read_relocations, statics, words_from_symbol, version,
+    bound, count_in_head, first_link_offset, first_words, length_in_map, read_definitions,
+    read_links, read_relocations, statics, version, words_from_definition, words_from_linkage,
+    words_from_symbol,
 };
 use m36_text::HashSeed;
 use m36_word::{NoMemory, Word, Words};

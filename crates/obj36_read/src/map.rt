@@ -12,8 +12,8 @@ ghost use Rattle.obj36_read.specs.MapFaults.{sections_covering, first_shared_wor
 ghost use Rattle.obj36_read.specs.Near.{AllFitHalfWords};
 
 use crate::reading::{
-    NEWER_MAP, OLDER_MAP, behind, first_words, index_of_bound, length_in_map, index_of_map, version,
-    word_at,
+    NEWER_MAP, OLDER_MAP, behind, first_words, index_of_bound, index_of_map, length_in_map,
+    version, word_at,
 };
 use m36_word::Word;
 use obj36_parts::halves::{left_of, right_of};

@@ -12,8 +12,8 @@ ghost use Rattle.obj36_read.specs.TableFaults.{expression_fault, linked_names_fa
 
 use crate::reading::{quarter_from, word_at};
 use crate::tables::{
-    count_of_definitions, count_of_expressions, next_definition_offset, first_definition_offset, earlier_of,
-    first_expression_offset, is_name_within, index_if, offset_of_name,
+    count_of_definitions, count_of_expressions, earlier_of, first_definition_offset,
+    first_expression_offset, index_if, is_name_within, next_definition_offset, offset_of_name,
 };
 use m36_text::{LONGEST_NAME, is_name_character};
 use m36_word::Word;

@@ -154,7 +154,9 @@ fn words_and_marks(rt: HostRuntime) -> Result<(), NoMemory> {
     assert!(rt; walk.odd(at(3, 5, 4), 0) == Ok(Word::low(2)));
     assert!(rt; walk.write_block(at(3, 0o27, 4), [pair(3, 4); 8]) == Ok(()));
     assert!(rt; walk.read_block(at(3, 0o20, 4), 0) == Ok([pair(3, 4); 8]));
-    assert!(rt; walk.read_operand_pair(at(3, 0o77, 5), 0, &None) == Err(violation(3, at(3, 0o76, 5))));
+    assert!(rt;
+        walk.read_operand_pair(at(3, 0o77, 5), 0, &None) == Err(violation(3, at(3, 0o76, 5)))
+    );
     Ok(())
 }
 

@@ -6,8 +6,8 @@ use m36_core::Core;
 use m36_desc::{Dbr, Ptw, Sdw};
 use m36_model::Refusal;
 use m36_tables::{
-    content, descriptor, descriptor_place, directory_at, has_ordered_brackets, page_at, page_frame,
-    page_table_word, place, segment_count, is_within_bound, word_in_core, word_place,
+    content, descriptor, descriptor_place, directory_at, has_ordered_brackets, is_within_bound,
+    page_at, page_frame, page_table_word, place, segment_count, word_in_core, word_place,
 };
 use m36_word::{NoMemory, Pair, Word};
 use std::alloc::Global;
@@ -176,7 +176,11 @@ fn paged_segment() -> Sdw {
 fn addresses_of_tables(rt: HostRuntime) {
     let sdw = paged_segment();
     assert!(rt; segment_count(PAGED) == 8 && directory_at(PAGED, 2) == 0o100);
-    assert!(rt; has_ordered_brackets(&sdw) && is_within_bound(&sdw, 0o3777) && !is_within_bound(&sdw, 0o4000));
+    assert!(rt;
+        has_ordered_brackets(&sdw)
+            && is_within_bound(&sdw, 0o3777)
+            && !is_within_bound(&sdw, 0o4000)
+    );
     assert!(rt; page_at(&sdw, 1) == 0o201);
 }
 
