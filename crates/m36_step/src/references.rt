@@ -24,7 +24,7 @@ pub(crate) fn end_address(formed: &Formed) -> At
 /// Adds a completed reference to `count` words, at the address of the first, given the address of
 /// one of them.
 #[inline(always)]
-pub(crate) fn add_reference(refs: &mut Refs, kind: Kind, at: At, count: u8)
+pub(crate) fn add_aligned_reference(refs: &mut Refs, kind: Kind, at: At, count: u8)
     requires room { length refs.old.items < 40 }
     requires count { IsWordCount count }
     ensures items { refs.new.items
@@ -53,7 +53,7 @@ pub(crate) fn read_word(
     let at = end_address(formed);
     match walk.operand(at, procedure_segment(regs), &pending_tally(formed)) {
         Ok(word) => {
-            add_reference(refs, Kind::Read, at, 1);
+            add_aligned_reference(refs, Kind::Read, at, 1);
             Ok(word)
         }
         Err(fault) => Err(fault),
@@ -80,7 +80,7 @@ pub(crate) fn read_pair(
     let at = end_address(formed);
     match walk.read_operand_pair(at, procedure_segment(regs), &pending_tally(formed)) {
         Ok(read) => {
-            add_reference(refs, Kind::Read, at, 2);
+            add_aligned_reference(refs, Kind::Read, at, 2);
             Ok(read)
         }
         Err(fault) => Err(fault),
@@ -107,7 +107,7 @@ pub(crate) fn read_block(
     let at = end_address(formed);
     match walk.read_operand_block(at, procedure_segment(regs), &pending_tally(formed)) {
         Ok(read) => {
-            add_reference(refs, Kind::Read, at, 16);
+            add_aligned_reference(refs, Kind::Read, at, 16);
             Ok(read)
         }
         Err(fault) => Err(fault),
@@ -138,7 +138,7 @@ pub(crate) fn claim_words(
     let at = end_address(formed);
     match walk.hold(at, count) {
         Ok(place) => {
-            add_reference(refs, Kind::Write, at, count);
+            add_aligned_reference(refs, Kind::Write, at, count);
             Ok(place)
         }
         Err(fault) => Err(fault),

@@ -73,37 +73,37 @@ written_at f seg at (suc k) (v ∷ words) lt =
 -- ---- the first section of a ring, among zeros
 
 module _ (l : NewSectionFields) (f : Flat) (base : l.base ≡ 1024) (low : l.seg < 1024) (zeros : (w : ℕ) → f.content (linkage_segment l.ring) w ≡ 0) where
-  abbrev text_address : ℕ
-  text_address = linkage_segment l.ring
+  abbrev place : ℕ
+  place = linkage_segment l.ring
 
   abbrev lot : List ℕ
   lot = lot_word l ∷ []
 
   abbrev section : Flat
-  section = flat_put f (written_from text_address l.base l.words)
+  section = flat_put f (written_from place l.base l.words)
 
   abbrev after : Flat
-  after = flat_put section (written_from text_address l.seg lot)
+  after = flat_put section (written_from place l.seg lot)
 
   -- the word of the linkage offset table
-  lot_here : after.content text_address l.seg ≡ lot_word l
+  lot_here : after.content place l.seg ≡ lot_word l
   unfolding flat_put written_from
-  lot_here = one_here section text_address l.seg (lot_word l)
+  lot_here = one_here section place l.seg (lot_word l)
 
-  not_lot : (w : ℕ) → ((l.seg ≡ w) → ⊥) → after.content text_address w ≡ section.content text_address w
+  not_lot : (w : ℕ) → ((l.seg ≡ w) → ⊥) → after.content place w ≡ section.content place w
   not_lot w apart =
-      stays section text_address l.seg lot text_address w (λ k few.
+      stays section place l.seg lot place w (λ k few.
       let one : k < 1 = few in
-      second_false (text_address == text_address) ((l.seg + k) == w) (not_same (l.seg + k) w (λ e. apart (omega (arith, one, e)))))
+      second_false (place == place) ((l.seg + k) == w) (not_same (l.seg + k) w (λ e. apart (omega (arith, one, e)))))
 
-  not_section : (w : ℕ) → ((k : ℕ) → k < length l.words → (l.base + k ≡ w) → ⊥) → section.content text_address w ≡ 0
+  not_section : (w : ℕ) → ((k : ℕ) → k < length l.words → (l.base + k ≡ w) → ⊥) → section.content place w ≡ 0
   not_section w apart =
-      stays f text_address l.base l.words text_address w (λ k few.
-      second_false (text_address == text_address) ((l.base + k) == w) (not_same (l.base + k) w (apart k few)))
+      stays f place l.base l.words place w (λ k few.
+      second_false (place == place) ((l.base + k) == w) (not_same (l.base + k) w (apart k few)))
       ∙ zeros w
 
   -- no word of the section is in the table
-  below : (w : ℕ) → w < 1024 → section.content text_address w ≡ 0
+  below : (w : ℕ) → w < 1024 → section.content place w ≡ 0
   below w lt = not_section w (λ k few e. omega (arith, e, base, lt))
 
   abbrev front : List ℕ
@@ -121,7 +121,7 @@ module _ (l : NewSectionFields) (f : Flat) (base : l.base ≡ 1024) (low : l.seg
       let none : l.seg - l.seg ≡ 0 = omega arith in
       get_or-append_right front back l.seg l.seg 0 front_size (omega arith) ∙ ap (λ (i : ℕ). slice_index back i) none
 
-  table_at : (w : ℕ) → w < 1024 → after.content text_address w ≡ slice_index (lot_of l) w
+  table_at : (w : ℕ) → w < 1024 → after.content place w ≡ slice_index (lot_of l) w
   table_at w lt =
       elim (cases_lt w l.seg) [
         | inl before ↦
@@ -135,25 +135,25 @@ module _ (l : NewSectionFields) (f : Flat) (base : l.base ≡ 1024) (low : l.seg
                   not_lot w (λ e. omega (arith, e, past)) ∙ below w lt
                   ∙ sym (get_or-append_right front back l.seg w 0 front_size from ∙ ap (λ (i : ℕ). slice_index back i) next ∙ zeros_at (lot_words - 1 - l.seg) (w - l.seg - 1) 0)
               | inr least ↦
-                  let P : ℕ → Type 0 = λ n. after.content text_address n ≡ slice_index (lot_of l) n in
+                  let P : ℕ → Type 0 = λ n. after.content place n ≡ slice_index (lot_of l) n in
                   let same : l.seg ≡ w = omega (arith, from, least) in
                   subst P same (lot_here ∙ sym table_here)
             ]
       ]
 
   -- the words after the table
-  section_at : (w : ℕ) → 1024 ≤ w → section.content text_address w ≡ slice_index l.words (w - 1024)
+  section_at : (w : ℕ) → 1024 ≤ w → section.content place w ≡ slice_index l.words (w - 1024)
   section_at w high =
       elim (cases_lt (w - 1024) (length l.words)) [
         | inl inside ↦
-            let P : ℕ → Type 0 = λ n. section.content text_address n ≡ slice_index l.words (w - 1024) in
+            let P : ℕ → Type 0 = λ n. section.content place n ≡ slice_index l.words (w - 1024) in
             let same : l.base + (w - 1024) ≡ w = omega (arith, base, high) in
-            subst P same (written_at f text_address l.base (w - 1024) l.words inside)
+            subst P same (written_at f place l.base (w - 1024) l.words inside)
         | inr past ↦
             not_section w (λ k few e. omega (arith, e, few, base, past, high)) ∙ sym (get_or_past l.words (w - 1024) 0 past)
       ]
 
-  words_at : (w : ℕ) → after.content text_address w ≡ slice_index (lot_of l ++ l.words) w
+  words_at : (w : ℕ) → after.content place w ≡ slice_index (lot_of l ++ l.words) w
   words_at w =
       let size : length (lot_of l) ≡ 1024 = lot_size l low in
       elim (cases_lt w 1024) [
@@ -181,8 +181,8 @@ laid_here l f next low zeros w =
 
 laid_elsewhere : (l : NewSectionFields) (f : Flat) (seg w : ℕ) → ((seg ≡ linkage_segment l.ring) → ⊥) → (flat_put f (section_changes (Some l))).content seg w ≡ f.content seg w
 laid_elsewhere l f seg w apart =
-    let text_address : ℕ = linkage_segment l.ring in
-    let other : (text_address == seg) ≡ false = not_same text_address seg (λ e. apart (sym e)) in
+    let place : ℕ = linkage_segment l.ring in
+    let other : (place == seg) ≡ false = not_same place seg (λ e. apart (sym e)) in
     let section : Flat = flat_put f (written_from (linkage_segment l.ring) l.base l.words) in
     ap (λ (g : Flat). g.content seg w) (laid_both l f)
     ∙ stays section (linkage_segment l.ring) l.seg (lot_word l ∷ []) seg w (λ k few. first_false (linkage_segment l.ring == seg) ((l.seg + k) == w) other)

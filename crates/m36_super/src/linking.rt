@@ -35,8 +35,8 @@ fn write_word(machine: &mut Machine, pager: &mut Pager, ring: u8, word: u32, w: 
     ensures regs { machine.new.state.regs ≡ machine.old.state.regs }
 {
     let seg = FIRST_LINKAGE + ring as u16;
-    match pager.text_address(machine.walk().core(), seg, word) {
-        Some(text_address) => machine.store(text_address, w),
+    match pager.place(machine.walk().core(), seg, word) {
+        Some(place) => machine.store(place, w),
         None => pager.set_kept(machine.walk().core(), seg, word, w),
     }
 }

@@ -10,7 +10,7 @@ ghost use Rattle.m36_xdata.specs.Changes.{IsEffect, words_to_write};
 
 use crate::bits::{and_bits, and_not_bits, xor_bits};
 use crate::changes::{Change, NewValues, WordsToWrite};
-use crate::conditions::{compared, set_zero_negative};
+use crate::conditions::{set_by_comparison, set_zero_negative};
 use crate::numbers::comparison;
 use crate::operands::operand_number;
 use crate::registers::{Register, indicators, number_in};
@@ -28,7 +28,7 @@ pub fn compare(r: Register, given: &Operand36, regs: &Regs) -> Change
     ensures put { length (words_to_write result.put) ≡ 0 }
 {
     indicator_change(
-        compared(
+        set_by_comparison(
             comparison(r, number_in(r, regs), operand_number(r, given)),
             indicators(regs),
         ),

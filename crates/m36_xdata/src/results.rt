@@ -30,7 +30,7 @@ pub fn new_value(r: Register, v: u128, regs: &Regs) -> NewValues
 
 /// The change by which a register takes a number, with these new indicators. `overflow` says
 /// whether overflow has to be reported.
-pub fn with_value_and_indicators(
+pub fn register_change(
     r: Register,
     v: u128,
     ind: Ind,
@@ -58,7 +58,7 @@ pub fn tested_register_change(r: Register, v: u128, regs: &Regs) -> Change
     ensures value { IsEffect result regs.now (sets_register (working_of r) v regs.now) }
     ensures put { length (words_to_write result.put) ≡ 0 }
 {
-    with_value_and_indicators(r, v, set_zero_negative(r, v, indicators(regs)), false, regs)
+    register_change(r, v, set_zero_negative(r, v, indicators(regs)), false, regs)
 }
 
 /// The change that sets these indicators and nothing else.

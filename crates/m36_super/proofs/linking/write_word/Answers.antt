@@ -14,9 +14,9 @@ returns-in-Some-clause-put c =
     let is = c.core.ensures ∙ ap (λ (m : Memory). m.core) c.walk.ensures in
     word_put c.args.machine.now.state.store c.store.new.self.state.store c.args.pager.now c.args.pager.now c.args.ring c.args.word c.args.w c.requires.managed c.requires.ring c.requires.fits
     (subst (λ (x : List ℕ). IsSet c.args.pager.now c.args.machine.now.state.store c.args.pager.now x (linkage_segment c.args.ring) c.args.word c.args.w) (sym now)
-    (subst (λ (x : List ℕ). IsSet c.args.pager.now x c.args.pager.now (slice_set x c.in-Some.text_address c.args.w) (linkage_segment c.args.ring) c.args.word c.args.w) is (c.in-Some.ensures.set c.args.w)))
+    (subst (λ (x : List ℕ). IsSet c.args.pager.now x c.args.pager.now (slice_set x c.in-Some.place c.args.w) (linkage_segment c.args.ring) c.args.word c.args.w) is (c.in-Some.ensures.set c.args.w)))
     (subst (λ (x : List ℕ). AgreesWithCore c.args.pager.now x) (sym now)
-    (subst (λ (x : List ℕ). AgreesWithCore c.args.pager.now (slice_set x c.in-Some.text_address c.args.w)) is (c.in-Some.ensures.reads c.args.w))) c.text_address.ensures.pager
+    (subst (λ (x : List ℕ). AgreesWithCore c.args.pager.now (slice_set x c.in-Some.place c.args.w)) is (c.in-Some.ensures.reads c.args.w))) c.place.ensures.pager
 
 pub returns-in-None-clause-put : goal.returns-in-None-clause-put
 returns-in-None-clause-put c =
