@@ -51,7 +51,7 @@ unfolding pieces_of_turns turns_step_count
 pieces_both to taken [] more = ap (λ n. pieces_of_turns to n more) (sym (add-zero taken))
 pieces_both to taken (turn ∷ turns) more =
     let count : (taken + turn_step_count turn) + turns_step_count turns ≡ taken + (turn_step_count turn + turns_step_count turns) = omega arith in
-    let first = text.pieces_of to taken turn in
+    let first = text.pieces_of_turn to taken turn in
     ap (λ l. first ++ l) (pieces_both to (taken + turn_step_count turn) turns more
     ∙ ap (λ n. pieces_of_turns to (taken + turn_step_count turn) turns ++ pieces_of_turns to n more) count)
     ∙ sym (append_assoc first (pieces_of_turns to (taken + turn_step_count turn) turns)

@@ -49,7 +49,7 @@ pub record RunGoes (run : RunContext) (taken left : ℕ) (b : Booted) (events : 
   pub goes : runs.Goes run.lib left b turns last
   pub finishes : FinishesAs how run.lib left turns last
   pub unput : List (List ℕ)
-  pub pieces : written run taken turns how ≡ trail.pieces_of_turn events ++ unput
+  pub pieces : written run taken turns how ≡ trail.pieces_of events ++ unput
   pub stops : StopsAs how last unput result
 
 -- before which no step was taken
@@ -87,7 +87,7 @@ ended_by run taken left b how events result finishes (inl whole) =
       finishes = finishes;
       unput = [];
       pieces = no_turns run taken (Some how)
-          ∙ sym (append-nil (trail.pieces_of_turn events) ∙ pieces_all pieces events whole.events_are);
+          ∙ sym (append-nil (trail.pieces_of events) ∙ pieces_all pieces events whole.events_are);
       stops = inl (refl, whole.result_is);
     }
 ended_by run taken left b how events result finishes (inr part) = record {
@@ -174,7 +174,7 @@ turn_goes run taken now left all b after told rest events result is event all_is
       unput = more.unput;
       pieces = turn_written run taken now told more.turns more.how now_is
           ∙ ap (λ l. pieces ++ l) more.pieces
-          ∙ sym (append_assoc pieces (trail.pieces_of_turn then.more) more.unput)
+          ∙ sym (append_assoc pieces (trail.pieces_of then.more) more.unput)
           ∙ ap (λ l. l ++ more.unput) (sym then.is);
       stops = more.stops;
     }
@@ -339,7 +339,7 @@ starved_here run taken left b events result waits ends = record {
   goes = stay run.lib left b;
   finishes = tt;
   unput = [];
-  pieces = no_turns run taken None ∙ sym (ap (λ e. trail.pieces_of_turn e ++ []) ends.none);
+  pieces = no_turns run taken None ∙ sym (ap (λ e. trail.pieces_of e ++ []) ends.none);
   stops = inl (refl, (waits, ends.result_is));
 }
 

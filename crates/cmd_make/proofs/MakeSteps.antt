@@ -69,7 +69,7 @@ unfolding write_and_boot
 written_then sets result old between new first second =
     subst (λ p. Performs p result old new) (then_rest sets (widen (boot_made sets)))
     (performs_then (write_files sets) (λ u. widen (boot_made sets)) tt result old between new first
-    (performs_within allows.writing (boot_made sets) result between new second))
+    (performs_within allows.may_write_files (boot_made sets) result between new second))
 
 pub not_written :
     (sets : List Set) (s : Status) (old new : Seen)
@@ -89,12 +89,12 @@ pub make_given :
     → Performs (make_program seed) result old new
 unfolding make_program
 make_given seed sets result old new gives performs =
-    given_then allows.writing (files_of_seed seed) write_and_boot sets result old new gives performs
+    given_then allows.may_write_files (files_of_seed seed) write_and_boot sets result old new gives performs
 
 pub make_refused :
     (seed : ℕ) (r : Refusal) (s : Status) (seen : Seen)
     → IsRuleResult {A = List Set} (Err r) (files_of_seed seed) → s ≡ status_of r → Performs (make_program seed) (Err s) seen seen
 unfolding make_program
-make_refused seed r s seen gives is = given_stop allows.writing (files_of_seed seed) write_and_boot r s seen gives is
+make_refused seed r s seen gives is = given_stop allows.may_write_files (files_of_seed seed) write_and_boot r s seen gives is
 
 pub ruleset making = (make_given, make_refused)

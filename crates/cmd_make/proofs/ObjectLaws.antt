@@ -46,7 +46,7 @@ pub ruleset parsing = (content_read, read_refused)
 pub object_given :
     (source name content : List ℕ) (given : Result Assembly AlmFault)
     → name ≡ object_name source → IsMadeOf assembly_bytes content given
-    → refusing.Gives (Ok (record { name = name; content = content })) (object_set_or_refusal source given)
+    → refusing.IsRuleResult (Ok (record { name = name; content = content })) (object_set_or_refusal source given)
 object_given source name content given named is =
     ap (object_set_or_refusal source) is.is
     ∙ (λ i. Ok (record { name = sym named i; content = sym is.made_is i }))
@@ -54,13 +54,13 @@ object_given source name content given named is =
 -- the source is refused
 refused_by :
     (source : List ℕ) (given : Result Assembly AlmFault) (f : AlmFault) (r : Refusal)
-    → given ≡ Err f → refusing.IsFaultOf r (source_refused source f) → refusing.Gives (Err r) (object_set_or_refusal source given)
+    → given ≡ Err f → refusing.Refuses r (source_refused source f) → refusing.IsRuleResult (Err r) (object_set_or_refusal source given)
 refused_by source given f r is refuses =
     gives_by Set r (source_refused source f) (object_set_or_refusal source given) (ap (object_set_or_refusal source) is) refuses
 
 pub object_refused :
     (source : List ℕ) (given : Result Assembly AlmFault) (f : AlmFault) (r : Refusal)
-    → IsFaultOf f given → refusing.IsFaultOf r (source_refused source f) → refusing.Gives (Err r) (object_set_or_refusal source given)
+    → IsFaultOf f given → refusing.Refuses r (source_refused source f) → refusing.IsRuleResult (Err r) (object_set_or_refusal source given)
 object_refused source given (alm.E1 line column) r is refuses =
     refused_by source given (alm.E1 line column) r is refuses
 object_refused source given (alm.E2 line column) r is refuses =
@@ -113,22 +113,22 @@ object_more sources i source object now next whole inside at is added so_far =
     ∙ sym (left_objects sources i source now inside at) ∙ so_far
 
 stopped :
-    (r : Refusal) (given : Early Set) (next : Set → Early (List Set)) → refusing.Gives {A = Set} (Err r) given
-    → refusing.Gives {A = List Set} (Err r) (and_then given next)
+    (r : Refusal) (given : Early Set) (next : Set → Early (List Set)) → refusing.IsRuleResult {A = Set} (Err r) given
+    → refusing.IsRuleResult {A = List Set} (Err r) (and_then given next)
 stopped (BadFile bad) given next gives = ap (λ g. and_then g next) gives
 stopped NoMemory given next gives = tt
 
 pub object_stop :
     (sources : List File) (i : ℕ) (source : File) (r : Refusal) (now : List Set) (whole : Early (List Set))
-    → i < length sources → source ≡ get_or sources i source → refusing.Gives {A = Set} (Err r) (object_of source)
-    → with_objects now (drop i sources) ≡ whole → refusing.Gives {A = List Set} (Err r) whole
+    → i < length sources → source ≡ get_or sources i source → refusing.IsRuleResult {A = Set} (Err r) (object_of source)
+    → with_objects now (drop i sources) ≡ whole → refusing.IsRuleResult {A = List Set} (Err r) whole
 object_stop sources i source r now whole inside at gives so_far =
-    subst (λ w. refusing.Gives {A = List Set} (Err r) w) (sym (left_objects sources i source now inside at) ∙ so_far)
+    subst (λ w. refusing.IsRuleResult {A = List Set} (Err r) w) (sym (left_objects sources i source now inside at) ∙ so_far)
     (stopped r (object_of source) (λ object. with_objects (now ++ object ∷ []) (drop (i + 1) sources)) gives)
 
 pub objects_end :
     (sources : List File) (i : ℕ) (now : List Set) (whole : Early (List Set))
-    → length sources ≤ i → with_objects now (drop i sources) ≡ whole → refusing.Gives (Ok now) whole
+    → length sources ≤ i → with_objects now (drop i sources) ≡ whole → refusing.IsRuleResult (Ok now) whole
 objects_end sources i now whole past so_far =
     sym so_far ∙ ap (with_objects now) (at_drop_all (λ (l : List File). l) sources i past) ∙ no_object now
 

@@ -58,19 +58,19 @@ read_refused bytes alm.NoMemory is = tt
 
 -- the object and the listing are made
 pub told_given :
-    (files : AlmFiles) (given : Result Assembly AlmFault) (told : ReportFields) → IsMadeOf (report_of_assembly files.object) told given → refusing.Gives (Ok told) (alm_report_or_refusal files given)
+    (files : AlmFiles) (given : Result Assembly AlmFault) (told : ReportFields) → IsMadeOf (report_of_assembly files.object) told given → refusing.IsRuleResult (Ok told) (alm_report_or_refusal files given)
 told_given files given told is = ap (alm_report_or_refusal files) is.is ∙ ap (λ (t : ReportFields). Ok t) (sym is.made_is)
 
 -- or the source is refused
 refused_by :
     (files : AlmFiles) (given : Result Assembly AlmFault) (f : AlmFault) (r : Refusal)
-    → given ≡ Err f → refusing.IsFaultOf r (source_refused files.source f) → refusing.Gives (Err r) (alm_report_or_refusal files given)
+    → given ≡ Err f → refusing.Refuses r (source_refused files.source f) → refusing.IsRuleResult (Err r) (alm_report_or_refusal files given)
 refused_by files given f r is refuses =
     gives_by ReportFields r (source_refused files.source f) (alm_report_or_refusal files given) (ap (alm_report_or_refusal files) is) refuses
 
 pub told_refused :
     (files : AlmFiles) (given : Result Assembly AlmFault) (f : AlmFault) (r : Refusal)
-    → IsFaultOf f given → refusing.IsFaultOf r (source_refused files.source f) → refusing.Gives (Err r) (alm_report_or_refusal files given)
+    → IsFaultOf f given → refusing.Refuses r (source_refused files.source f) → refusing.IsRuleResult (Err r) (alm_report_or_refusal files given)
 told_refused files given (alm.E1 line column) r is refuses = refused_by files given (alm.E1 line column) r is refuses
 told_refused files given (alm.E2 line column) r is refuses = refused_by files given (alm.E2 line column) r is refuses
 told_refused files given (alm.E3 line column) r is refuses = refused_by files given (alm.E3 line column) r is refuses
