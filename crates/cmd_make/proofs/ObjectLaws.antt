@@ -54,13 +54,13 @@ object_given source name content given named is =
 -- the source is refused
 refused_by :
     (source : List ℕ) (given : Result Assembly AlmFault) (f : AlmFault) (r : Refusal)
-    → given ≡ Err f → refusing.Refuses r (source_refused source f) → refusing.IsRuleResult (Err r) (object_set_or_refusal source given)
+    → given ≡ Err f → refusing.IsRuleRefusal r (source_refused source f) → refusing.IsRuleResult (Err r) (object_set_or_refusal source given)
 refused_by source given f r is refuses =
     gives_by Set r (source_refused source f) (object_set_or_refusal source given) (ap (object_set_or_refusal source) is) refuses
 
 pub object_refused :
     (source : List ℕ) (given : Result Assembly AlmFault) (f : AlmFault) (r : Refusal)
-    → IsFaultOf f given → refusing.Refuses r (source_refused source f) → refusing.IsRuleResult (Err r) (object_set_or_refusal source given)
+    → IsFaultOf f given → refusing.IsRuleRefusal r (source_refused source f) → refusing.IsRuleResult (Err r) (object_set_or_refusal source given)
 object_refused source given (alm.E1 line column) r is refuses =
     refused_by source given (alm.E1 line column) r is refuses
 object_refused source given (alm.E2 line column) r is refuses =

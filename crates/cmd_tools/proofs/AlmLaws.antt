@@ -64,13 +64,13 @@ told_given files given told is = ap (alm_report_or_refusal files) is.is ∙ ap (
 -- or the source is refused
 refused_by :
     (files : AlmFiles) (given : Result Assembly AlmFault) (f : AlmFault) (r : Refusal)
-    → given ≡ Err f → refusing.Refuses r (source_refused files.source f) → refusing.IsRuleResult (Err r) (alm_report_or_refusal files given)
+    → given ≡ Err f → refusing.IsRuleRefusal r (source_refused files.source f) → refusing.IsRuleResult (Err r) (alm_report_or_refusal files given)
 refused_by files given f r is refuses =
     gives_by ReportFields r (source_refused files.source f) (alm_report_or_refusal files given) (ap (alm_report_or_refusal files) is) refuses
 
 pub told_refused :
     (files : AlmFiles) (given : Result Assembly AlmFault) (f : AlmFault) (r : Refusal)
-    → IsFaultOf f given → refusing.Refuses r (source_refused files.source f) → refusing.IsRuleResult (Err r) (alm_report_or_refusal files given)
+    → IsFaultOf f given → refusing.IsRuleRefusal r (source_refused files.source f) → refusing.IsRuleResult (Err r) (alm_report_or_refusal files given)
 told_refused files given (alm.E1 line column) r is refuses = refused_by files given (alm.E1 line column) r is refuses
 told_refused files given (alm.E2 line column) r is refuses = refused_by files given (alm.E2 line column) r is refuses
 told_refused files given (alm.E3 line column) r is refuses = refused_by files given (alm.E3 line column) r is refuses

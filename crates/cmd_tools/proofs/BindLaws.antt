@@ -17,14 +17,14 @@ use Rattle.cmd_tools.specs.Binding.{bind_refused, names_or_refusal, report_of_bo
 -- a definition that passes on the refusal of the bind file
 refused_by :
     (A B : Type 0) (make : Result A BindFault → Early B) (file lent : List ℕ) (given : Result A BindFault) (f : BindFault) (r : Refusal)
-    → make (Err f) ≡ Err (bind_refused file f) → lent ≡ file → given ≡ Err f → refusing.Refuses r (bind_refused lent f) → refusing.IsRuleResult (Err r) (make given)
+    → make (Err f) ≡ Err (bind_refused file f) → lent ≡ file → given ≡ Err f → refusing.IsRuleRefusal r (bind_refused lent f) → refusing.IsRuleResult (Err r) (make given)
 refused_by A B make file lent given f r made is given_is refuses =
     gives_by B r (bind_refused file f) (make given) (ap make given_is ∙ made)
-    (subst (λ (n : List ℕ). refusing.Refuses r (bind_refused n f)) is refuses)
+    (subst (λ (n : List ℕ). refusing.IsRuleRefusal r (bind_refused n f)) is refuses)
 
 handed :
     (A B : Type 0) (make : Result A BindFault → Early B) (file lent : List ℕ) (given : Result A BindFault) (f : BindFault) (r : Refusal)
-    → ((f : BindFault) → make (Err f) ≡ Err (bind_refused file f)) → lent ≡ file → IsBindRefusal f given → refusing.Refuses r (bind_refused lent f)
+    → ((f : BindFault) → make (Err f) ≡ Err (bind_refused file f)) → lent ≡ file → IsBindRefusal f given → refusing.IsRuleRefusal r (bind_refused lent f)
     → refusing.IsRuleResult (Err r) (make given)
 handed A B make file lent given (bind.B1 line) r made is refused refuses = refused_by A B make file lent given (bind.B1 line) r (made (bind.B1 line)) is refused refuses
 handed A B make file lent given (bind.B2 line) r made is refused refuses = refused_by A B make file lent given (bind.B2 line) r (made (bind.B2 line)) is refused refuses
@@ -41,7 +41,7 @@ names_given file given names is = ap (names_or_refusal file) is
 
 pub names_refused :
     (file : List ℕ) (given : Result (List (List ℕ)) BindFault) (f : BindFault) (r : Refusal)
-    → IsBindRefusal f given → refusing.Refuses r (bind_refused file f) → refusing.IsRuleResult (Err r) (names_or_refusal file given)
+    → IsBindRefusal f given → refusing.IsRuleRefusal r (bind_refused file f) → refusing.IsRuleResult (Err r) (names_or_refusal file given)
 names_refused file given f r refused refuses =
     handed (List (List ℕ)) (List (List ℕ)) (names_or_refusal file) file file given f r (λ f. refl) refl refused refuses
 
@@ -56,6 +56,6 @@ bound_given files given parts result is gives = subst (λ g. refusing.IsRuleResu
 
 pub bound_refused :
     (files : BindFiles) (lent : List ℕ) (given : Result PartsFields BindFault) (f : BindFault) (r : Refusal)
-    → lent ≡ files.bindfile → IsBindRefusal f given → refusing.Refuses r (bind_refused lent f) → refusing.IsRuleResult (Err r) (bind_report_or_refusal files given)
+    → lent ≡ files.bindfile → IsBindRefusal f given → refusing.IsRuleRefusal r (bind_refused lent f) → refusing.IsRuleResult (Err r) (bind_report_or_refusal files given)
 bound_refused files lent given f r is refused refuses =
     handed PartsFields ReportFields (bind_report_or_refusal files) files.bindfile lent given f r (λ f. refl) is refused refuses
