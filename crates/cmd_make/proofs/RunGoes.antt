@@ -201,8 +201,8 @@ print_made false (Ok text) before told after is =
 -- ---- services
 
 -- The program that follows a step or a service goes as a run.
-abbrev GoesOn : Library → ℕ → ℕ → Type 0
-GoesOn lib taken left =
+abbrev RestGoes : Library → ℕ → ℕ → Type 0
+RestGoes lib taken left =
     (b : Booted) (events : List Event) (result : Result RunSummary Status)
     → b.coming ≡ Step → Goes (run_from lib taken left b) events result → RunGoes lib taken left b events result
 
@@ -219,7 +219,7 @@ over_turn lib b e is = subst (λ c. IsTurnBy c lib b (turn.Ended e) b) (sym is) 
 -- what follows a service
 after_goes :
     (next : NextEvent) (lib : Library) (taken left : ℕ) (b : Booted) (events : List Event) (result : Result RunSummary Status)
-    → GoesOn lib taken left → IsNoService next → b.coming ≡ next
+    → RestGoes lib taken left → IsNoService next → b.coming ≡ next
     → Goes (then_by next lib taken left b) events result → RunGoes lib taken left b events result
 unfolding Goes
 after_goes Step lib taken left b events result on silent is goes = on b events result is goes
@@ -231,7 +231,7 @@ after_goes (coming.Over e) lib taken left b events result on silent is goes =
 -- a service was made
 service_goes :
     (lib : Library) (taken left : ℕ) (b after : Booted) (told : Turn) (events : List Event) (result : Result RunSummary Status)
-    → GoesOn lib taken left → IsTurn lib b told after → IsServiceMade told after.coming
+    → RestGoes lib taken left → IsTurn lib b told after → IsServiceMade told after.coming
     → Goes (then_by after.coming lib taken left after) events result → RunGoes lib taken left b events result
 service_goes lib taken left b after told events result on is made goes =
     let none = made.counts in
@@ -241,7 +241,7 @@ service_goes lib taken left b after told events result on is made goes =
 
 print_goes :
     (lib : Library) (taken left : ℕ) (b after : Booted) (told : Turn) (events : List Event) (result : Result RunSummary Status)
-    → GoesOn lib taken left → IsTurn lib b told after → PrintMade told after.coming
+    → RestGoes lib taken left → IsTurn lib b told after → PrintMade told after.coming
     → Goes (then_by after.coming lib taken left after) events result → RunGoes lib taken left b events result
 unfolding Goes
 print_goes lib taken left b after told events result on is (inl made) goes =
@@ -264,7 +264,7 @@ no_memory_here lib taken left b events result ends = record {
 
 link_goes :
     (lib : Library) (taken left : ℕ) (b : Booted) (at : AtFields) (events : List Event) (result : Result RunSummary Status)
-    → GoesOn lib taken left → b.coming ≡ Link at
+    → RestGoes lib taken left → b.coming ≡ Link at
     → Goes (served_by (Link at) lib taken left b) events result → RunGoes lib taken left b events result
 unfolding Goes IsTurn
 link_goes lib taken left b at events result on is (inl goes) =
@@ -279,7 +279,7 @@ link_goes lib taken left b at events result on is (inr ends) =
 
 print_serves :
     (lib : Library) (taken left : ℕ) (b : Booted) (events : List Event) (result : Result RunSummary Status)
-    → GoesOn lib taken left → b.coming ≡ Print
+    → RestGoes lib taken left → b.coming ≡ Print
     → Goes (served_by Print lib taken left b) events result → RunGoes lib taken left b events result
 unfolding Goes IsTurn
 print_serves lib taken left b events result on is goes =
@@ -290,7 +290,7 @@ print_serves lib taken left b events result on is goes =
 
 serves_by :
     (next : NextEvent) (lib : Library) (taken left : ℕ) (b : Booted) (events : List Event) (result : Result RunSummary Status)
-    → GoesOn lib taken left → b.coming ≡ next
+    → RestGoes lib taken left → b.coming ≡ next
     → Goes (served_by next lib taken left b) events result → RunGoes lib taken left b events result
 unfolding Goes
 serves_by Step lib taken left b events result on is goes = on b events result is goes
@@ -301,7 +301,7 @@ serves_by (coming.Over e) lib taken left b events result on is goes =
 
 serve_goes :
     (lib : Library) (taken left : ℕ) (b : Booted) (events : List Event) (result : Result RunSummary Status)
-    → GoesOn lib taken left → Goes (serve lib taken (λ b. run_from lib taken left b) b) events result
+    → RestGoes lib taken left → Goes (serve lib taken (λ b. run_from lib taken left b) b) events result
     → RunGoes lib taken left b events result
 unfolding serve
 serve_goes lib taken left b events result on goes = serves_by b.coming lib taken left b events result on refl goes
@@ -310,7 +310,7 @@ serve_goes lib taken left b events result on goes = serves_by b.coming lib taken
 
 step_goes :
     (lib : Library) (taken left : ℕ) (b after : Booted) (told : Turn) (events : List Event) (result : Result RunSummary Status)
-    → GoesOn lib (taken + 1) left → b.coming ≡ Step → IsTurn lib b told after
+    → RestGoes lib (taken + 1) left → b.coming ≡ Step → IsTurn lib b told after
     → Goes (serve lib (taken + 1) (λ b. run_from lib (taken + 1) left b) after) events result
     → RunGoes lib taken (suc left) b events result
 step_goes lib taken left b after told events result on next is goes =
@@ -320,7 +320,7 @@ step_goes lib taken left b after told events result on next is goes =
     (omega (arith, one)) (omega (arith, one))
     (serve_goes lib (taken + 1) left after events result on goes)
 
-pub run_goes : (lib : Library) (left taken : ℕ) → GoesOn lib taken left
+pub run_goes : (lib : Library) (left taken : ℕ) → RestGoes lib taken left
 unfolding Goes run_from turns_step_count
 run_goes lib zero taken b events result next goes = ends_here lib taken 0 b b Limit events result (refl, next) refl goes
 run_goes lib (suc left) taken b events result next goes =

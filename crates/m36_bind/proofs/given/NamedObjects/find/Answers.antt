@@ -1,7 +1,7 @@
 use Rattle.std.proofs.Common.{List}
 use Rattle.std.specs.Prelude.{option_map}
 use Rattle.m36_bind.proofs.GivenLaws.{found_at}
-use Rattle.m36_bind.proofs.given.Given.find.Goals as goal
+use Rattle.m36_bind.proofs.given.NamedObjects.find.Goals as goal
 
 pub returns : goal.returns
 returns c =

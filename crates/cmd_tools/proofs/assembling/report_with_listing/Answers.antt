@@ -1,7 +1,7 @@
 -- The object is packed, and listed.
 use Rattle.std.proofs.Common.{[], ◌∷◌, refl, ap, ◌∙◌}
 use Rattle.m36_list.specs.Listing.{listing_of}
-use Rattle.cmd_tools.proofs.assembling.listed.Goals as goal
+use Rattle.cmd_tools.proofs.assembling.report_with_listing.Goals as goal
 
 pub returns : goal.returns
 returns c =

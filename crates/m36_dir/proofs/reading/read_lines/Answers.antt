@@ -3,7 +3,7 @@ use Rattle.m36_text.specs.Lines.{lines_of}
 use Rattle.m36_dir.specs.BootOrder.{well_formed_lines}
 use Rattle.m36_dir.proofs.TextLoops.{read_begin, read_code, read_rest, read_none, read_all, read_more, read_lines, read_count, few_begin, few_more, few_kept}
 use Rattle.m36_dir.proofs.Kept.{kept_as}
-use Rattle.m36_dir.proofs.reading.lines_of.Goals as goal
+use Rattle.m36_dir.proofs.reading.read_lines.Goals as goal
 
 pub loop-line-init : goal.loop-line-init
 loop-line-init c = record {
@@ -32,12 +32,12 @@ pub loop-line-preserved : goal.loop-line-preserved
 loop-line-preserved c = record {
   told =
       read_more c.args.text.now c.loop-line.rest.now c.in-Some.line.now c.in-Some.behind.now c.loop-line.above.items c.deref.result.now
-      c.add.new.lines.items c.in-Ok.line c.loop-line.number
-      c.in-Some.ensures.line c.deref.ensures.value c.in-Ok.ensures c.in_ok-add-in-Ok.ensures c.loop-line.invariant.told;
+      c.add_line.new.lines.items c.in-Ok.line c.loop-line.number
+      c.in-Some.ensures.line c.deref.ensures.value c.in-Ok.ensures c.in_ok-add_line-in-Ok.ensures c.loop-line.invariant.told;
   lines =
       read_lines c.args.text.now c.loop-line.rest.now c.in-Some.line.now c.in-Some.behind.now c.loop-line.above.items
-      c.add.new.lines.items c.in-Ok.line
-      c.in-Some.ensures.line (c.in-Ok.ensures).0 c.in_ok-add-in-Ok.ensures c.loop-line.invariant.lines;
+      c.add_line.new.lines.items c.in-Ok.line
+      c.in-Some.ensures.line (c.in-Ok.ensures).0 c.in_ok-add_line-in-Ok.ensures c.loop-line.invariant.lines;
   count =
       read_count c.args.text.now c.loop-line.rest.now c.in-Some.line.now c.in-Some.behind.now c.loop-line.number
       c.in-Some.ensures.line c.loop-line.invariant.count;

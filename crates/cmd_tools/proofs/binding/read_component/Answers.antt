@@ -4,7 +4,7 @@ use Rattle.m36_program.specs.Performs.{Performs}
 use Rattle.m36_files.specs.FileReaders.{file_object}
 use Rattle.m36_files.specs.Writing.{may_write_files}
 use Rattle.m36_files.proofs.EachLaws.{onto_read, onto_unread}
-use Rattle.cmd_tools.proofs.binding.read_one.Goals as goal
+use Rattle.cmd_tools.proofs.binding.read_component.Goals as goal
 
 pub returns-in-Ok : goal.returns-in-Ok
 returns-in-Ok g c =

@@ -2,7 +2,7 @@ use Rattle.std.proofs.Common.{[], drop, ◌+◌, arith}
 use Rattle.m36_bind.specs.Kept.{with_retain_lines}
 use Rattle.m36_bind.proofs.PickLaws.{first_left, none_left}
 use Rattle.m36_bind.proofs.KeepLaws.{keep_goes, keep_stops, keep_ends}
-use Rattle.m36_bind.proofs.kept.kept.Goals as goal
+use Rattle.m36_bind.proofs.kept.definitions_of_retain_lines.Goals as goal
 
 pub loop-line-preserved : goal.loop-line-preserved
 loop-line-preserved c =

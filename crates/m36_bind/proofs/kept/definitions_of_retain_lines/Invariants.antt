@@ -1,6 +1,6 @@
 use Rattle.std.proofs.Common.{◌≡◌, ◌+◌, [], drop}
 use Rattle.m36_bind.specs.Kept.{with_retain_lines}
-use Rattle.m36_bind.proofs.kept.kept.Given as goal
+use Rattle.m36_bind.proofs.kept.definitions_of_retain_lines.Given as goal
 
 -- the rest completes the whole
 abbrev pub invariant-loop-line : goal.invariant-loop-line

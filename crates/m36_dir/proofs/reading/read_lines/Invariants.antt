@@ -2,7 +2,7 @@ use Rattle.std.proofs.Common.{◌≡◌, ◌+◌, ◌++◌, length}
 use Rattle.m36_text.specs.Lines.{lines_of, first_present}
 use Rattle.m36_dir.specs.BootOrder.{codes_from, well_formed_lines, parsed_lines, first_code}
 use Rattle.m36_dir.proofs.TextLoops.{FewLines}
-use Rattle.m36_dir.proofs.reading.lines_of.Given as goal
+use Rattle.m36_dir.proofs.reading.read_lines.Given as goal
 
 -- The result for the rest is the result for the text. The lines above and those of the rest are all
 -- lines. The number of the line is one more than the number of lines above.
