@@ -52,7 +52,8 @@ run_of_folder given output = record { lib = given.lib; denied = given.denied; ou
 abbrev pub run_after_audit :
     FolderRun → RunOutput → FolderFields → Booted → List (ℕ × ℕ) → Program quiet (Unit {0})
 run_after_audit run output given first findings =
-    audit_and_run_if (is_run_allowed findings run.unaudited) (run_of_folder given output) run.steps first findings
+    audit_and_run_if (is_run_allowed findings run.unaudited) (run_of_folder given output) run.steps
+    first findings
 
 -- what a command does with a booted system, given the findings of the audit of its core
 abbrev pub command_after_audit :

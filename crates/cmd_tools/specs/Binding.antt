@@ -32,6 +32,7 @@ abbrev pub report_of_bound_object : List ℕ → PartsFields → ReportFields
 report_of_bound_object name parts = record { sets = object_set name parts ∷ []; text = print_of name parts }
 
 -- the report of the bound object, or the refusal of the bind file
-abbrev pub bind_report_or_refusal : BindFiles → Result PartsFields BindFault → RuleResult ReportFields
+abbrev pub bind_report_or_refusal :
+    BindFiles → Result PartsFields BindFault → RuleResult ReportFields
 bind_report_or_refusal files (Ok parts) = Ok (report_of_bound_object files.object parts)
 bind_report_or_refusal files (Err fault) = Err (bind_refused files.bindfile fault)
