@@ -184,10 +184,10 @@ fn external_refusal(
         value,
     );
     let reached = link_is_in_reach(text, tables, spot, segment, entry, terms, tag, value, place);
-    let definition_of_name = may_name(tables, own_section(text, segment));
+    let named = may_name(tables, own_section(text, segment));
     earlier_refusal(
         earlier_refusal(expression, refusal_unless(reached, at)),
-        refusal_unless(definition_of_name, at),
+        refusal_unless(named, at),
     )
 }
 

@@ -65,8 +65,8 @@ starved_ends result is end =
 none_by :
     (system : SuperFields) (findings : List (ℕ × ℕ)) (unaudited : Bool) → AreFindings system.core booted_dbr findings
     → MayRun (IsAudited system.core booted_dbr) unaudited → (findings ≡ []) ⊎ (unaudited ≡ true)
-none_by system findings unaudited found (inl audit_system) =
-    inl (findings_law.complete system.core booted_dbr findings audit_system found)
+none_by system findings unaudited found (inl audited) =
+    inl (findings_law.complete system.core booted_dbr findings audited found)
 none_by system findings unaudited found (inr un) = inr un
 
 runs_by :

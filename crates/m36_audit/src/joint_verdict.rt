@@ -72,14 +72,14 @@ pub(crate) fn note_process(findings: &mut ArrayVec<JointFinding, 50>, process: u
 pub(crate) fn note_between(
     findings: &mut ArrayVec<JointFinding, 50>,
     condition: u8,
-    findings_from_marks: Option<u32>,
+    found: Option<u32>,
 )
     requires room { array_vec_len findings.old < 50 }
     ensures listed { all_found findings.new.items
-        ≡ all_found findings.old.items ++ between condition findings_from_marks }
+        ≡ all_found findings.old.items ++ between condition found }
     ensures len { array_vec_len findings.new ≤ array_vec_len findings.old + 1 }
 {
-    match findings_from_marks {
+    match found {
         Some(place) => findings.push(JointFinding {
             place,
             process: None,
