@@ -13,8 +13,8 @@ use Rattle.alm_lines.specs.SpotFields.{LocationCounter}
 use Rattle.alm_lines.specs.ValueFields.{ValueFields}
 
 -- the value of a sum; `undefined` is the index of the first symbol that is not defined
-abbrev pub value_by : Sum → Option ℕ → ValueFields
-value_by sum undefined =
+abbrev pub value_of_sum : Sum → Option ℕ → ValueFields
+value_of_sum sum undefined =
     record {
       half = half_of sum.value;
       undefined = undefined;
@@ -28,16 +28,16 @@ value_by sum undefined =
 -- the value of an expression
 unfoldable pub value_of_expression : List ℕ → List (List ℕ × Sum) → LocationCounter → List Term → ValueFields
 value_of_expression text symbols spot terms =
-    value_by (sum_of text symbols spot terms) (first_undefined_place text symbols terms)
+    value_of_sum (sum_of text symbols spot terms) (first_undefined_place text symbols terms)
 
 -- whether a value fits a field
-abbrev pub fits : ValueField → ValueFields → Bool
-fits Half value = value.fits_half
-fits Offset value = value.fits_offset
+abbrev pub fits_value_field : ValueField → ValueFields → Bool
+fits_value_field Half value = value.fits_half
+fits_value_field Offset value = value.fits_offset
 
 -- whether a value fits a field and an object can express it there
 abbrev pub value_is_expressible : ValueField → Bool → ValueFields → Bool
-value_is_expressible room may_move value = fits room value && is_kind_allowed may_move value.kind
+value_is_expressible room may_move value = fits_value_field room value && is_kind_allowed may_move value.kind
 
 -- whether an expression with this value is not refused, and does not depend on a refused `equ`
 abbrev pub is_usable_value : ValueField → Bool → ValueFields → Bool

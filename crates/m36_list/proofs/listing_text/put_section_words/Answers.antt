@@ -1,7 +1,7 @@
 use Rattle.std.proofs.Common.{length, ◌-◌, ◌+◌, arith}
 use Rattle.alm_lines.proofs.Rooms.{room_below}
 use Rattle.m36_list.proofs.ListingLines.{line_listed, still_fits, all_listed}
-use Rattle.m36_list.proofs.listed.put_section_words.Goals as goal
+use Rattle.m36_list.proofs.listing_text.put_section_words.Goals as goal
 
 pub loop-line-preserved : goal.loop-line-preserved
 loop-line-preserved c = record {
