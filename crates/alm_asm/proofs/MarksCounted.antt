@@ -16,7 +16,8 @@ use Rattle.alm_lines.specs.Arguments.{first_arg, second_arg, terms_in}
 use Rattle.alm_lines.specs.Spots.{next_line_spot}
 use Rattle.alm_lines.specs.SpotFields.{LocationCounter}
 use Rattle.alm_lines.specs.Expressions.{sum_of, expression_place}
-use Rattle.alm_lines.specs.Refusals.{refusal_at, has_value}
+use Rattle.alm_lines.specs.Refusals.{refusal_at}
+use Rattle.alm_lines.specs.Values.{has_value}
 use Rattle.alm_lines.specs.declared.sum.Sum.{Sum}
 use Rattle.alm_lines.specs.declared.sum.Kind.{Kind}
 use Rattle.alm_lines.specs.declared.sum.Kind.TheVariants.{Absolute, Moved, Inexpressible}

@@ -18,9 +18,8 @@ use Rattle.alm_lines.specs.Arguments.{first_arg, terms_in}
 use Rattle.alm_lines.specs.Spots.{next_line_spot}
 use Rattle.alm_lines.specs.SpotFields.{LocationCounter}
 use Rattle.alm_lines.specs.Sums.{zero_sum}
-use Rattle.alm_lines.specs.Values.{value_of_sum, value_of_expression}
+use Rattle.alm_lines.specs.Values.{has_value, value_of_sum, value_of_expression}
 use Rattle.alm_lines.proofs.ValueLaws.{no_terms}
-use Rattle.alm_lines.specs.Refusals.{has_value}
 use Rattle.alm_lines.specs.declared.sum.Sum.{Sum}
 use Rattle.alm_lines.specs.declared.refusal.ValueField.TheVariants.{Half}
 use Rattle.alm_asm.specs.Links.{link_of, operand_args, link_of_parts, link_in, with_link, links_after, links_from, offset_of_link_in}

@@ -19,7 +19,8 @@ use Rattle.alm_lines.specs.Arguments.{first_arg, second_arg, symbol_in, terms_in
 use Rattle.alm_lines.specs.Spots.{next_line_spot}
 use Rattle.alm_lines.specs.Expressions.{expression_place}
 use Rattle.alm_lines.specs.Refusals.{earlier_refusal, refusal_at, expression_refusal}
-use Rattle.alm_lines.specs.Refusals.{number_refusal, has_number}
+use Rattle.alm_lines.specs.Refusals.{number_refusal}
+use Rattle.alm_lines.specs.Values.{has_number}
 use Rattle.alm_asm.specs.Links.{link_of, offset_of_link_in}
 use Rattle.alm_asm.specs.Definitions.{defines_entries, definitions_after, definitions_refusal}
 use Rattle.alm_lines.specs.SpotFields.{LocationCounter}

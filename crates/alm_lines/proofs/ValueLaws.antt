@@ -5,8 +5,8 @@ use Rattle.alm_tokens.specs.declared.expression.Term.{Term}
 use Rattle.alm_parse.specs.declared.line.Line36.{Line36}
 use Rattle.alm_lines.specs.Sums.{zero_sum, sum_plus, half_of, offset_of, kind_of}
 use Rattle.alm_lines.specs.Expressions.{with_terms, sum_of, term_sum, is_defined, is_symbol_atom, is_undefined, first_undefined_place}
-use Rattle.alm_lines.specs.Refusals.{has_value, is_expressible, expression_refusal}
-use Rattle.alm_lines.specs.Values.{value_of_sum, value_of_expression, is_usable_value, evaluated_refusal}
+use Rattle.alm_lines.specs.Refusals.{is_expressible, expression_refusal}
+use Rattle.alm_lines.specs.Values.{has_value, value_of_sum, value_of_expression, is_usable_value, evaluated_refusal}
 use Rattle.alm_lines.specs.declared.sum.Sum.{Sum}
 use Rattle.alm_lines.specs.declared.sum.Kind.TheVariants.{Absolute}
 use Rattle.alm_lines.specs.declared.refusal.ValueField.{ValueField}

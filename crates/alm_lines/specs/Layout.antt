@@ -9,7 +9,8 @@ use Rattle.alm_lines.specs.Sums.{zero_balance, unknown_sum, normalized}
 use Rattle.alm_lines.specs.Symbols.{with_symbol}
 use Rattle.alm_lines.specs.Arguments.{name_at, first_arg, second_arg, symbol_in, terms_in}
 use Rattle.alm_lines.specs.Spots.{count, here, next_line_spot}
-use Rattle.alm_lines.specs.Refusals.{earlier_refusal, refusal_at, number_refusal, has_number}
+use Rattle.alm_lines.specs.Refusals.{earlier_refusal, refusal_at, number_refusal}
+use Rattle.alm_lines.specs.Values.{has_number}
 use Rattle.alm_lines.specs.Refusals.{is_over_limit}
 use Rattle.alm_lines.specs.declared.sum.Sum.{Sum}
 use Rattle.alm_lines.specs.SpotFields.{LocationCounter}

@@ -17,12 +17,13 @@ ghost use Rattle.alm_lines.specs.Layout.{layout_refusal};
 use crate::arguments::{first_symbol, name_at, second_terms};
 use crate::expression::{expression_place, is_defined, sum_of};
 use crate::refusal::{
-    AlmCode, AlmRefusal, Requirement, ValueField, earlier_refusal, expression_refusal, has_value,
+    AlmCode, AlmRefusal, Requirement, ValueField, earlier_refusal, expression_refusal,
     is_over_limit, refusal_at,
 };
 use crate::spot::{LocationCounter, next_line_spot};
 use crate::sum::{NOTHING, Sum, unknown};
 use crate::symbols::Symbols;
+use crate::value::has_value;
 use alm_parse::{Arg, Line36, LineEffect, Span};
 use m36_text::HashSeed;
 use m36_word::NoMemory;

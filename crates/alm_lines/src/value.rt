@@ -3,16 +3,17 @@
 ghost use Rattle.std.specs.Prelude.{ℕ, [], ◌∷◌, ◌≡◌, ◌^◌, ◌<◌, ◌≤◌, length, Some, None};
 ghost use Rattle.std.specs.Prelude.{if◌then◌else◌};
 ghost use Rattle.alm_lines.specs.Sums.{kind_of, zero_sum, IsTerm};
-ghost use Rattle.alm_lines.specs.Refusals.{has_value, expression_refusal};
+ghost use Rattle.alm_lines.specs.Refusals.{expression_refusal};
 ghost use Rattle.alm_lines.specs.Expressions.{symbol_sum, atom_sum, sum_of};
 ghost use Rattle.alm_lines.specs.Expressions.{is_defined, first_undefined_place};
-ghost use Rattle.alm_lines.specs.Values.{value_of_sum, value_of_expression, fits_value_field, value_is_expressible, is_usable_value};
+ghost use Rattle.alm_lines.specs.Values.{has_value, value_of_sum, value_of_expression, fits_value_field, value_is_expressible, is_usable_value};
 ghost use Rattle.alm_lines.specs.Values.{evaluated_refusal};
 
 use crate::arguments::name_at;
 use crate::expression::{first_undefined_place, sum_of};
 use crate::refusal::{
-    AlmRefusal, Requirement, ValueField, fits_field, is_kind_allowed, refusal_unless_expressible,
+    AlmRefusal, Requirement, ValueField, fits_field, is_expressible, is_kind_allowed,
+    refusal_unless_expressible,
 };
 use crate::spot::LocationCounter;
 use crate::sum::{Kind, Sum, absolute};
@@ -223,6 +224,25 @@ fn is_usable_value(room: ValueField, may_move: bool, value: Value) -> bool
     ensures { result ≡ is_usable_value room may_move value }
 {
     value.undefined.is_none() && !value.unknown && value_is_expressible(room, may_move, value)
+}
+
+/// Whether an expression has a value: it is not refused, and it does not depend on a refused `equ`.
+#[tactic(auto, unfolding(crate::specs::Values::has_value))]
+pub fn has_value(
+    text: &[u8],
+    symbols: &Symbols,
+    spot: LocationCounter,
+    terms: &[Term],
+    room: ValueField,
+    may_move: bool,
+) -> bool
+    requires { length terms.now ≤ 2 ^ 32 }
+    ensures { result ≡ has_value text.now symbols.now spot terms.now room may_move }
+{
+    let sum = sum_of(text, symbols, spot, terms);
+    first_undefined_place(text, symbols, terms).is_none()
+        && !sum.unknown
+        && is_expressible(room, may_move, sum)
 }
 
 /// As `has_value`, if `value` is what `evaluate` returned for the expression: whether it is not
