@@ -183,7 +183,9 @@ fn instruction_of_arg(
                 Some(segment) => external_inst(
                     text, tables, spot, operation, *segment, *entry, terms, *tag, value, place,
                 ),
-                None => internal_operand_instruction(text, tables, spot, operation, *pr, terms, *tag, value),
+                None => internal_operand_instruction(
+                    text, tables, spot, operation, *pr, terms, *tag, value,
+                ),
             }
         }
         _ => address_instruction(operation, 0, 0),

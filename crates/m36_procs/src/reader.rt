@@ -7,7 +7,7 @@ ghost use Rattle.m36_procs.specs.ProcsFile.{are_process_numbers, most_events, ev
 ghost use Rattle.m36_procs.specs.ProcsFile.Line.{ProcessLine, TurnsLine};
 ghost use Rattle.m36_procs.specs.ReaderSays.{IsReaderInvariant, TakeResult, at_or_other_line};
 
-use crate::fault::{ProcsCode, LineFault};
+use crate::fault::{LineFault, ProcsCode};
 use crate::line_forms::{Turns, process_line, turns_line};
 use m36_core::Core;
 use m36_image::put_line_into_core;

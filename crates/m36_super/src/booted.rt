@@ -7,10 +7,10 @@ ghost use Rattle.m36_super.specs.BootedRun.{link_turn};
 ghost use Rattle.m36_super.specs.SuperFields.{IsRunning, NoServiceAfterLdbr};
 ghost use Rattle.m36_super.specs.SuperTurn.{SuperTurns};
 
-use crate::next_event::NextEvent;
 use crate::console::print;
 use crate::content::flat_content;
 use crate::linking::{link, link_turn};
+use crate::next_event::NextEvent;
 use crate::stepping::step_told;
 use m36_core::Core;
 use m36_dir::Catalog;
@@ -187,7 +187,9 @@ impl Super {
             alloc,
             ..
         } = self;
-        link(*alloc, catalog, files, machine, pager, known, next_event, at)
+        link(
+            *alloc, catalog, files, machine, pager, known, next_event, at,
+        )
     }
 
     // Takes a turn that is a console service; the run ends if the service is refused.

@@ -13,8 +13,8 @@ ghost use Rattle.m36_super.specs.SuperFields.{run_of, IsManaged, IsRunning};
 ghost use Rattle.m36_super.specs.Writing.{flat_by};
 ghost use Rattle.m36_super.specs.Examining.{ExaminedResult};
 
-use crate::next_event::NextEvent;
 use crate::content::found_word;
+use crate::next_event::NextEvent;
 use arrayvec::ArrayVec;
 use m36_core::Core;
 use m36_desc::{Acv, Sdw, may_read};

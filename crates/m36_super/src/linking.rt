@@ -12,8 +12,8 @@ ghost use Rattle.m36_super.specs.Services.{link_changes, note_snapped, note_of};
 ghost use Rattle.m36_super.specs.SuperFields.{run_of, IsManaged, IsRunning};
 ghost use Rattle.m36_super.specs.Writing.{ArePut};
 
-use crate::next_event::NextEvent;
 use crate::naming::link_text;
+use crate::next_event::NextEvent;
 use m36_dir::Catalog;
 use m36_link::{FIRST_LINKAGE, File, Known, LinkFault, NewSection, Snap, link_laws};
 use m36_model::{At, End, LinkCode};

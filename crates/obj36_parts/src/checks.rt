@@ -176,7 +176,8 @@ fn order_number(relocation: &Reloc) -> u64
     ensures value { result ≡ order_of relocation.now }
     ensures bound { result < 2 ^ 40 }
 {
-    (section_number(relocation.section) * (1 << 18) + relocation.offset as u64) * 4 + relocation.part as u64
+    (section_number(relocation.section) * (1 << 18) + relocation.offset as u64) * 4
+        + relocation.part as u64
 }
 
 // Whether a place is at least `least` and is not `barred`.

@@ -4,9 +4,9 @@ ghost use Rattle.std.specs.Prelude.{ℕ, [], ◌++◌, ◌≡◌, ◌^◌, ◌<�
 ghost use Rattle.obj36_read.specs.Reading.{parts_of};
 
 use crate::reading::{
-    count_in_head, entry_bound_in_map, first_link_offset, first_words, length_in_map, read_definitions,
-    read_links, read_relocations, statics, version, words_from_definition, words_from_linkage,
-    words_from_symbol,
+    count_in_head, entry_bound_in_map, first_link_offset, first_words, length_in_map,
+    read_definitions, read_links, read_relocations, statics, version, words_from_definition,
+    words_from_linkage, words_from_symbol,
 };
 use m36_text::HashSeed;
 use m36_word::{NoMemory, Word, Words};
