@@ -13,8 +13,8 @@ use Rattle.m36_link.specs.Snap.{RefusedFields}
 use Rattle.m36_step.specs.declared.turns.Turn.{Turn}
 use Rattle.m36_step.specs.declared.turns.Turn.TheVariants.{Stepped, Linked, Console, Ended, Full, NoMemory}
 use Rattle.m36_super.specs.Library.{Library}
-use Rattle.m36_super.specs.declared.coming.NextEvent.{NextEvent}
-use Rattle.m36_super.specs.declared.coming.NextEvent.TheVariants.{Step, Link, Print, Over}
+use Rattle.m36_super.specs.declared.next_event.NextEvent.{NextEvent}
+use Rattle.m36_super.specs.declared.next_event.NextEvent.TheVariants.{Step, Link, Print, Over}
 use Rattle.m36_super.specs.NextEvent.{loaded_after}
 use Rattle.m36_super.specs.BootedRun.{Booted, record_of_state, IsStepTurn, IsLinkTurn, IsConsoleTurn, IsTurnBy, IsTurn}
 use Rattle.m36_super.specs.BootedRun.{AreTurns, IsLaidOut, LaidOutUntilLdbr}
@@ -63,8 +63,8 @@ print_loaded false (Err f) before turn after is turns = ap (λ (r : Booted). r.l
 print_loaded false (Ok text) before turn after is turns = ap (λ (r : Booted). r.loaded) turns.1 ∙ is
 
 turn_loaded :
-    (coming : NextEvent) (lib : Library) (before : Booted) (turn : Turn) (after : Booted)
-    → IsLoaded before → IsTurnBy coming lib before turn after → IsLoaded after
+    (next_event : NextEvent) (lib : Library) (before : Booted) (turn : Turn) (after : Booted)
+    → IsLoaded before → IsTurnBy next_event lib before turn after → IsLoaded after
 turn_loaded Step lib before turn after is turns =
     step_loaded before.loaded lib.catalog.frames before turn after is is turns
 turn_loaded (Link at) lib before turn after is turns = link_loaded _ lib.catalog.frames at before turn after is turns
@@ -77,7 +77,7 @@ turns_loaded :
 unfolding AreTurns IsTurn
 turns_loaded lib [] r last is are = ap (λ (r : Booted). r.loaded) are ∙ is
 turns_loaded lib (turn ∷ turns) r last is are =
-    turns_loaded lib turns are.0 last (turn_loaded r.coming lib r turn are.0 is are.1) are.2
+    turns_loaded lib turns are.0 last (turn_loaded r.next_event lib r turn are.0 is are.1) are.2
 
 -- ---- what is kept until then
 

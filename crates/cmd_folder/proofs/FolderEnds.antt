@@ -11,7 +11,7 @@ use Rattle.m36_isol.proofs.Findings.{findings_law}
 use Rattle.m36_world.specs.declared.event.Event.{Event}
 use Rattle.m36_step.specs.declared.turns.Turn.{Turn}
 use Rattle.m36_super.specs.Library.{Library}
-use Rattle.m36_super.specs.declared.coming.NextEvent.TheVariants.{Step}
+use Rattle.m36_super.specs.declared.next_event.NextEvent.TheVariants.{Step}
 use Rattle.m36_super.specs.BootedRun.{Booted}
 use Rattle.m36_super.specs.SuperFields.{SuperFields, booted_of}
 use Rattle.m36_super.proofs.BootTurns.{start_next}
@@ -100,7 +100,7 @@ ran_done (Some how) lib limit first turns last unput result needs goes finishes 
 split_done :
     (run : RunContext) (limit : ℕ) (first : Booted) (findings : List (ℕ × ℕ)) (events : List Event)
     (result : Result (Unit {0}) Status)
-    → first.coming ≡ Step → EndsWithDis run.lib limit first
+    → first.next_event ≡ Step → EndsWithDis run.lib limit first
     → PutsSplit (audit_pieces findings) (run_from run 0 limit first) events result → IsEnd result → result ≡ Ok tt
 split_done run limit first findings events result next needs (inl on) end =
     let ran = run_is run limit first on.more result next on.goes in
@@ -111,7 +111,7 @@ run_done :
     (run : FolderRun) (to : RunOutput) (given : FolderFields) (system : SuperFields) (findings : List (ℕ × ℕ))
     (events : List Event)
     (result : Result (Unit {0}) Status)
-    → (booted_of system).coming ≡ Step → AreFindings system.core booted_dbr findings → RunNeeds run given.lib system
+    → (booted_of system).next_event ≡ Step → AreFindings system.core booted_dbr findings → RunNeeds run given.lib system
     → Goes (audit_and_run_if (is_run_allowed findings run.unaudited) (run_of_folder given to) run.steps
     (booted_of system) findings) events result
     → IsEnd result → result ≡ Ok tt
@@ -128,7 +128,7 @@ command_done :
     (command : FolderCommand) (given : FolderFields) (system : SuperFields) (findings : List (ℕ × ℕ))
     (events : List Event)
     (result : Result (Unit {0}) Status)
-    → (booted_of system).coming ≡ Step → AreFindings system.core booted_dbr findings
+    → (booted_of system).next_event ≡ Step → AreFindings system.core booted_dbr findings
     → SystemNeeds command given.lib system
     → Goes (command_after_audit command given (booted_of system) findings) events result → IsEnd result → result ≡ Ok tt
 command_done Audit given system findings events result next found needs goes end =

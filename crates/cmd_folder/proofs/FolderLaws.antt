@@ -20,7 +20,7 @@ use Rattle.m36_super.specs.BootedRun.{Booted}
 use Rattle.m36_super.specs.SuperFields.{SuperFields, booted_of}
 use Rattle.m36_super.specs.TurnLaws.{IsPlainTurn}
 use Rattle.m36_super.specs.BootResult.{IsBooted}
-use Rattle.m36_super.specs.declared.coming.NextEvent.TheVariants.{Step}
+use Rattle.m36_super.specs.declared.next_event.NextEvent.TheVariants.{Step}
 use Rattle.m36_super.proofs.BootTurns.{start_next}
 use Rattle.m36_status.specs.declared.status.Status.{Status}
 use Rattle.m36_status.specs.declared.status.Status.TheVariants.{NoMemory}
@@ -188,7 +188,7 @@ failed_end (Trace run) given system findings fails is =
 ran_end :
     (is : Bool) (run : RunContext) (steps : ℕ) (first : Booted) (findings : List (ℕ × ℕ)) (turns : List Turn)
     (last : Booted) (how : Finish)
-    → first.coming ≡ Step → runs.Goes run.lib steps first turns last → Finishes how run.lib steps turns last
+    → first.next_event ≡ Step → runs.Goes run.lib steps first turns last → Finishes how run.lib steps turns last
     → SomeEnd (audit_and_run_if is run steps first findings)
 unfolding audit_and_run
 ran_end false run steps first findings turns last how next goes finishes = audit_end findings
@@ -205,7 +205,7 @@ command_end :
     (to : RunOutput) (run : FolderRun) (given : FolderFields) (system : SuperFields) (findings : List (ℕ × ℕ))
     (turns : List Turn)
     (last : Booted) (how : Finish)
-    → (booted_of system).coming ≡ Step → runs.Goes given.lib run.steps (booted_of system) turns last
+    → (booted_of system).next_event ≡ Step → runs.Goes given.lib run.steps (booted_of system) turns last
     → Finishes how given.lib run.steps turns last
     → SomeEnd (command_after_audit (run_command to run) given (booted_of system) findings)
 command_end output.Console run given system findings turns last how next goes finishes =

@@ -136,7 +136,7 @@ fn law_well_formed(objects: &[Object])
     ensures { AreObjects objects.now }
 {
     for object in objects {
-        object.formed();
+        object.parts_are_well_formed();
     }
 }
 

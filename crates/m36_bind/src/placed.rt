@@ -13,7 +13,7 @@ use crate::given::NamedObjects;
 use indexmap::IndexSet;
 use m36_bindfile::{BindFault, BindLine};
 use m36_relocate::exports::{Exports, own_entries};
-use m36_relocate::layout::{Bases, Relocation, Shape, evened};
+use m36_relocate::layout::{Bases, Relocation, Shape, rounded_up_to_even};
 use m36_text::{HashSeed, Name};
 use m36_word::NoMemory;
 use obj36::Object;
@@ -119,8 +119,8 @@ fn next_bases(b: &Bases, parts: &Parts, n: u64) -> Bases
     ensures near { BasesAreBounded result (n + 1) }
 {
     Bases {
-        text: evened(b.text + text_length(parts)),
-        statics: evened(b.statics + statics_length(parts)),
+        text: rounded_up_to_even(b.text + text_length(parts)),
+        statics: rounded_up_to_even(b.statics + statics_length(parts)),
         links: b.links + links_length(parts),
     }
 }
@@ -144,7 +144,7 @@ fn parts_of(object: &Object) -> &Parts
     ensures value { result.now ≡ object.now }
     ensures few { HasShortParts result.now }
 {
-    object.formed();
+    object.parts_are_well_formed();
     object.parts()
 }
 

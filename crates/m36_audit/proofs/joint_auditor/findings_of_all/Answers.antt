@@ -26,4 +26,4 @@ returns-clause-after c =
     let past = c.loop-k-test.false in
     let near = c.loop-k.auto.k-end in
     let e : c.loop-k.k ≡ length c.args.dbrs.now = omega arith in
-    subst (λ (n : ℕ). AreWordOwners c.args.core.now c.args.dbrs.now c.args.firsts.now.items n c.loop-k.shares.tables.values.items c.loop-k.shares.segments.values.items c.loop-k.shares.identities.values.items) e c.loop-k.invariant.recorded
+    subst (λ (n : ℕ). AreWordOwners c.args.core.now c.args.dbrs.now c.args.firsts.now.items n c.loop-k.owners.tables.values.items c.loop-k.owners.segments.values.items c.loop-k.owners.identities.values.items) e c.loop-k.invariant.recorded

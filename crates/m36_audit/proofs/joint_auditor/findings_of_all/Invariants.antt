@@ -11,5 +11,5 @@ invariant-loop-k l = record {
   stops_len : length l.counts.stops ≡ length l.core;
   found : AreFindingsOfFirst l.core l.dbrs l.k l.findings.items;
   room : array_vec_len l.findings ≤ 6 * l.k;
-  recorded : AreWordOwners l.core l.dbrs l.firsts.items l.k l.shares.tables.values.items l.shares.segments.values.items l.shares.identities.values.items;
+  recorded : AreWordOwners l.core l.dbrs l.firsts.items l.k l.owners.tables.values.items l.owners.segments.values.items l.owners.identities.values.items;
 }

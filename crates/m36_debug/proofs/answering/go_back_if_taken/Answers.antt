@@ -2,7 +2,7 @@ use Rattle.std.proofs.Common.{sym, ◌∙◌}
 use Rattle.m36_debug.specs.Putting.{pending}
 use Rattle.m36_debug.specs.Session.{machine_relations}
 use Rattle.m36_debug.proofs.AnswerLaws.{back_went, back_not}
-use Rattle.m36_debug.proofs.answering.back.Goals as goal
+use Rattle.m36_debug.proofs.answering.go_back_if_taken.Goals as goal
 
 pub returns-then-has_taken-clause-says : goal.returns-then-has_taken-clause-says
 returns-then-has_taken-clause-says g c =

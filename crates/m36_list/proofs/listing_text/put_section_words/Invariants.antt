@@ -1,7 +1,7 @@
 use Rattle.std.proofs.Common.{◌≡◌, ◌≤◌, ◌+◌, ◌-◌, ◌^◌, ◌++◌, length, drop}
 use Rattle.alm_lines.specs.Spots.{start, HasRoomForLines}
 use Rattle.m36_list.specs.Listing.{section_words}
-use Rattle.m36_list.proofs.listed.put_section_words.Given as goal
+use Rattle.m36_list.proofs.listing_text.put_section_words.Given as goal
 
 -- the lines of the rest complete the whole
 abbrev pub invariant-loop-line : goal.invariant-loop-line

@@ -16,7 +16,7 @@ use m36_outside::Text;
 use m36_word::{NoMemory, Word};
 use obj36::{Object, Section};
 use obj36_parts::sections::HEAD_WORDS;
-use obj36_read::reading::{behind, first_words};
+use obj36_read::reading::{first_words, words_after};
 use std::alloc::Global;
 
 // The number of words that a line places in a section.
@@ -63,7 +63,7 @@ fn put_section_words(
         let here = first_words(left, size);
         put_all_placed(out, name, line.line, at, here)?;
         at += here.len() as u64;
-        left = behind(left, size);
+        left = words_after(left, size);
         spot = next_line_spot(alloc, text, spot, line)?;
     }
     Ok(())

@@ -4,7 +4,7 @@ use Rattle.std.proofs.lemmas.Grind.{common_steps}
 use Rattle.alm_asm.specs.Growth.{with_definitions, growth_after_line}
 use Rattle.alm_asm.specs.Definitions.{defines_entries}
 use Rattle.alm_asm.proofs.SeenLaws.{first_links, first_kept, grown_links}
-use Rattle.alm_asm.proofs.growth.take_line.Goals as goal
+use Rattle.alm_asm.proofs.growth.count_line.Goals as goal
 
 pub count_link-requires-clause-first : goal.count_link-requires-clause-first
 count_link-requires-clause-first c =

@@ -1,7 +1,7 @@
 use Rattle.std.proofs.Common.{◌/◌, set, arith}
 use Rattle.m36_page.proofs.Parts.{parts, place_needed, room_is, pager_parts, inside_view}
 use Rattle.m36_page.proofs.SetWords.{kept_parts, inside_kept}
-use Rattle.m36_page.proofs.pager.Pager.keep.Goals as goal
+use Rattle.m36_page.proofs.pager.Pager.set_kept_word.Goals as goal
 
 pub table_index-i-requires : goal.table_index-i-requires
 table_index-i-requires c =

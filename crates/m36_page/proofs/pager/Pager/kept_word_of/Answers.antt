@@ -1,6 +1,6 @@
 use Rattle.std.proofs.Common.{◌/◌, arith}
 use Rattle.m36_page.proofs.Parts.{place_needed, room_is, kept_is, pager_parts}
-use Rattle.m36_page.proofs.pager.Pager.kept.Goals as goal
+use Rattle.m36_page.proofs.pager.Pager.kept_word_of.Goals as goal
 
 pub table_index-requires : goal.table_index-requires
 table_index-requires c =

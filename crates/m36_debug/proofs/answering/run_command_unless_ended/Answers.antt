@@ -1,7 +1,7 @@
 use Rattle.m36_debug.specs.Putting.{pending}
 use Rattle.m36_debug.specs.Session.{machine_relations}
 use Rattle.m36_debug.proofs.AnswerLaws.{command_told, command_ran}
-use Rattle.m36_debug.proofs.answering.command.Goals as goal
+use Rattle.m36_debug.proofs.answering.run_command_unless_ended.Goals as goal
 
 pub returns-in-Some-clause-says : goal.returns-in-Some-clause-says
 returns-in-Some-clause-says g c =

@@ -2,7 +2,7 @@ use Rattle.std.proofs.Common.{◌≡◌, length}
 use Rattle.alm_lines.specs.Spots.{start, HasRoomForLines}
 use Rattle.alm_asm.specs.LineRefusals.{lines_refusal}
 use Rattle.alm_asm.specs.LineValues.{values_from}
-use Rattle.alm_asm.proofs.line_refusal.take_lines.Given as goal
+use Rattle.alm_asm.proofs.line_refusal.first_line_refusal.Given as goal
 
 -- no line so far is refused, and the first refusal of the rest is the first of all
 abbrev pub invariant-loop-rest : goal.invariant-loop-rest

@@ -4,7 +4,7 @@ use Rattle.obj36_parts.specs.Fields.{LinkFields}
 use Rattle.obj36_parts.specs.Indexes.{same_link}
 use Rattle.obj36_parts.proofs.IndexLaws.{indexed_place}
 use Rattle.obj36_parts.proofs.LinkEq.{derived_same}
-use Rattle.obj36_parts.proofs.link.Links.place.Goals as goal
+use Rattle.obj36_parts.proofs.link.Links.index_of.Goals as goal
 
 pub returns : goal.returns
 returns c =

@@ -3,7 +3,7 @@ use Rattle.std.specs.Prelude.{unwrap_or}
 use Rattle.obj36_parts.specs.Names.{name_offset}
 use Rattle.obj36_parts.specs.NameTables.{NameTableFields}
 use Rattle.obj36_parts.proofs.NamePlaces.{found_laid}
-use Rattle.obj36_parts.proofs.names.NameTable.place.Goals as goal
+use Rattle.obj36_parts.proofs.names.NameTable.offset_of.Goals as goal
 
 pub returns : goal.returns
 returns c =

@@ -5,7 +5,7 @@ ghost use Rattle.std.specs.Prelude.{◌≡◌, ◌+◌, ◌≤◌, ◌++◌, len
 use arrayvec::ArrayVec;
 
 /// Appends bytes to a line that has room for them.
-pub fn put<const N: usize>(line: &mut ArrayVec<u8, N>, bytes: &[u8])
+pub fn append<const N: usize>(line: &mut ArrayVec<u8, N>, bytes: &[u8])
     requires { length line.old.items + length bytes.now ≤ N }
     ensures text { line.new.items ≡ line.old.items ++ bytes.now }
     ensures len { length line.new.items ≡ length line.old.items + length bytes.now }

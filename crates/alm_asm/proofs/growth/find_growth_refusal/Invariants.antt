@@ -4,7 +4,7 @@ use Rattle.alm_lines.specs.Spots.{start, HasRoomForLines}
 use Rattle.alm_asm.specs.Links.{links_from}
 use Rattle.alm_asm.specs.LineValues.{values_from}
 use Rattle.alm_asm.specs.Growth.{growth_refusal}
-use Rattle.alm_asm.proofs.growth.take_lines.Given as goal
+use Rattle.alm_asm.proofs.growth.find_growth_refusal.Given as goal
 
 -- the refusal of the rest is that of all
 abbrev pub invariant-loop-rest : goal.invariant-loop-rest
