@@ -53,7 +53,7 @@ fn finish_step(
 
 /// Executes an instruction whose address is formed: its operand, its effect, and the words that it
 /// writes.
-pub(crate) fn operated(
+pub(crate) fn execute_at_address(
     walk: &mut Walk,
     regs: &mut Regs,
     word: Word,
@@ -85,7 +85,7 @@ pub(crate) fn operated(
 }
 
 /// Forms the address of an instruction, and executes it.
-fn addressed(
+fn form_address_and_execute(
     walk: &mut Walk,
     regs: &mut Regs,
     word: Word,
@@ -104,7 +104,7 @@ fn addressed(
 {
     match form_address(walk, regs, inst, refs) {
         Err(halt) => end_of_halt(Some(word), None, halt),
-        Ok(formed) => operated(walk, regs, word, row, &formed, refs),
+        Ok(formed) => execute_at_address(walk, regs, word, row, &formed, refs),
     }
 }
 
@@ -121,7 +121,7 @@ fn no_address(regs: &Regs, effect: Effect) -> Halt
 
 /// Executes an instruction that has passed the privilege check: one without an address ends the
 /// step at once.
-fn started(
+fn execute_permitted(
     walk: &mut Walk,
     regs: &mut Regs,
     word: Word,
@@ -140,13 +140,13 @@ fn started(
 {
     match row.operand {
         Operand::N => end_of_halt(Some(word), None, no_address(regs, row.effect)),
-        _ => addressed(walk, regs, word, inst, row, refs),
+        _ => form_address_and_execute(walk, regs, word, inst, row, refs),
     }
 }
 
 /// Checks the privilege of an instruction, and executes it. Unless `privileged` is on, a privileged
 /// instruction ends the step with fault 10, illegal procedure, at the instruction.
-fn admitted(
+fn check_privilege_and_execute(
     walk: &mut Walk,
     regs: &mut Regs,
     word: Word,
@@ -168,12 +168,12 @@ fn admitted(
     if row.privileged && !privileged {
         return end_of_halt(Some(word), None, Halt::Fault(fault_here(regs, 10)));
     }
-    started(walk, regs, word, inst, row, refs)
+    execute_permitted(walk, regs, word, inst, row, refs)
 }
 
 /// Decodes and executes the instruction in a word. `privileged` says whether it may be a
 /// privileged one.
-fn decoded(walk: &mut Walk, regs: &mut Regs, word: Word, privileged: bool, refs: &mut Refs) -> Ended
+fn decode_and_execute(walk: &mut Walk, regs: &mut Regs, word: Word, privileged: bool, refs: &mut Refs) -> Ended
     requires dbr { walk.old.dbr ≡ regs.old.dbr }
     requires room { length refs.old.items ≤ 4 }
     ensures ends { EndsAs regs.old (decoded regs.old word privileged (decode word)) walk.old.core
@@ -183,7 +183,7 @@ fn decoded(walk: &mut Walk, regs: &mut Regs, word: Word, privileged: bool, refs:
     let inst = Inst::of_word(word);
     match row(inst.code, inst.bit27) {
         None => end_of_halt(Some(word), None, Halt::Stop(Stop::Operation)),
-        Some(row) => admitted(walk, regs, word, &inst, &row, privileged, refs),
+        Some(row) => check_privilege_and_execute(walk, regs, word, &inst, &row, privileged, refs),
     }
 }
 
@@ -205,7 +205,7 @@ pub(crate) fn execute(walk: &mut Walk, regs: &mut Regs, refs: &mut Refs) -> Ende
                 count: 1,
             });
             let (word, privileged) = fetched;
-            decoded(walk, regs, word, privileged, refs)
+            decode_and_execute(walk, regs, word, privileged, refs)
         }
     }
 }

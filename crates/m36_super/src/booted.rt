@@ -126,10 +126,10 @@ impl Super {
     }
 
     /// An empty record with the current registers, for `step_told` to overwrite.
-    pub fn untold(&self) -> StepRecord
+    pub fn empty_record(&self) -> StepRecord
         ensures { result ≡ empty_record_of self.now.regs }
     {
-        self.machine.untold()
+        self.machine.empty_record()
     }
 
     /// Takes the turn, which is a step, and overwrites `told` with its record.
@@ -153,7 +153,7 @@ impl Super {
         requires { self.old.coming ≡ NextEvent.Step }
         ensures { SuperTurns self.old result self.new }
     {
-        let mut told = self.untold();
+        let mut told = self.empty_record();
         self.step_told(&mut told);
         Turn::Stepped(told)
     }

@@ -2,7 +2,7 @@ use Rattle.std.proofs.Common.{refl, Some, None}
 use Rattle.m36_inst.specs.Operands.{operand_of}
 use Rattle.m36_model.specs.Step.{started}
 use Rattle.m36_step.proofs.Ends.{starts_nothing, ends_halted}
-use Rattle.m36_step.proofs.execute.started.Goals as goal
+use Rattle.m36_step.proofs.execute.execute_permitted.Goals as goal
 
 pub returns-in-N-clause-ends : goal.returns-in-N-clause-ends
 returns-in-N-clause-ends c =

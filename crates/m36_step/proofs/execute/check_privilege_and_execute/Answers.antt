@@ -3,7 +3,7 @@ use Rattle.m36_inst.specs.Operands.{is_privileged}
 use Rattle.m36_model.specs.Modification.{here, halt_at}
 use Rattle.m36_model.specs.Step.{admitted}
 use Rattle.m36_step.proofs.Ends.{ends_halted}
-use Rattle.m36_step.proofs.execute.admitted.Goals as goal
+use Rattle.m36_step.proofs.execute.check_privilege_and_execute.Goals as goal
 
 pub returns-then-not-privileged-clause-ends : goal.returns-then-not-privileged-clause-ends
 returns-then-not-privileged-clause-ends c =

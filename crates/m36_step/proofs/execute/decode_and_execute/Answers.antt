@@ -3,7 +3,7 @@ use Rattle.m36_model.specs.Step.{decoded, decode}
 use Rattle.m36_model.specs.declared.outcome.Halt.TheVariants as halt
 use Rattle.m36_model.specs.declared.outcome.Stop.TheVariants as stop
 use Rattle.m36_step.proofs.Ends.{no_row, a_row, ends_halted}
-use Rattle.m36_step.proofs.execute.decoded.Goals as goal
+use Rattle.m36_step.proofs.execute.decode_and_execute.Goals as goal
 
 pub returns-in-None-clause-ends : goal.returns-in-None-clause-ends
 returns-in-None-clause-ends c =
@@ -13,4 +13,4 @@ returns-in-None-clause-ends c =
 pub returns-in-Some-clause-ends : goal.returns-in-Some-clause-ends
 returns-in-Some-clause-ends c =
     let row = a_row c.args.regs.now c.args.word c.args.privileged _ c.in-Some.row (c.inst.view_is ∙ c.of_word-inst.ensures.value) (c.in-Some.ensures {u = tt}).value in
-    rw row c.admitted.ensures.ends
+    rw row c.check_privilege_and_execute.ensures.ends
