@@ -16,7 +16,7 @@ use Rattle.m36_model.specs.declared.place.Reference.{Reference}
 use Rattle.m36_model.specs.declared.place.Kind.TheVariants as reference
 use Rattle.m36_walk.specs.Memory.{Memory}
 use Rattle.m36_walk.specs.Served.{midstep_with, sdw_in, answer_of_words}
-use Rattle.m36_ea.specs.Formed.{ended}
+use Rattle.m36_ea.specs.Formed.{formation_end}
 use Rattle.m36_ea.specs.declared.modification.Action.{Action}
 use Rattle.m36_ea.specs.declared.modification.Action.TheVariants as action
 use Rattle.m36_ea.specs.declared.indirect.Format.{Format}
@@ -94,8 +94,8 @@ Follows g p word held core refs core' refs' result =
 -- the end of a chain that reads a tally word
 abbrev pub counted_end :
     List ℕ → List Reference → Result Formed Fault → ProgramResult (Result ChainEnd Halt) (List ℕ)
-counted_end core refs (Ok f) = ended core refs (Ok f)
-counted_end core refs (Err f) = ended core refs (Err (halt.Fault f))
+counted_end core refs (Ok f) = formation_end core refs (Ok f)
+counted_end core refs (Err f) = formation_end core refs (Err (halt.Fault f))
 
 -- A chain that reads its tally word here ends with this result.
 abbrev pub CountsTally :

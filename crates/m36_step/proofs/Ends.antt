@@ -28,7 +28,7 @@ use Rattle.m36_model.specs.declared.place.Kind.TheVariants as reference
 use Rattle.m36_model.proofs.ChainClaims.{run_then}
 use Rattle.m36_walk.specs.Memory.{Memory}
 use Rattle.m36_walk.specs.Served.{midstep_with, sdw_in, ServesWord}
-use Rattle.m36_ea.specs.Formed.{run_formation, ended}
+use Rattle.m36_ea.specs.Formed.{run_formation, formation_end}
 use Rattle.m36_step.specs.Ended.{StepEndState, end_of_run, code_end, EndsAs, EndsFormed}
 use Rattle.m36_step.specs.Operated.{claims_of, puts_of, run_of_operation, operated_end}
 use Rattle.m36_step.specs.declared.ended.Ended.{Ended}
@@ -74,15 +74,15 @@ module _ (g : RegsFields) where
 
   -- An instruction that forms an address.
   module _ (e : Effect) (n w : ℕ) (i : InstFields) (is : i ≡ inst_of w) (core : List ℕ) (refs : List Reference) (core' : List ℕ) (refs' : List Reference) where
-    forms : (result : Result Formed Halt) → run_formation g i core refs ≡ ended core' refs' result → run core_store g (addressed e n g w) (midstep_with core [] refs) ≡ run core_store g (either (operated e n g w) (halted g (Some w) None) (ended core' refs' result).value) (ended core' refs' result).mid
+    forms : (result : Result Formed Halt) → run_formation g i core refs ≡ formation_end core' refs' result → run core_store g (addressed e n g w) (midstep_with core [] refs) ≡ run core_store g (either (operated e n g w) (halted g (Some w) None) (formation_end core' refs' result).value) (formation_end core' refs' result).mid
     forms result r =
-        goes_on (chain indirect_words g (first_point g (inst_of w))) (operated e n g w) (halted g (Some w) None) (midstep_with core [] refs) (ended core' refs' result) (rw is at r)
+        goes_on (chain indirect_words g (first_point g (inst_of w))) (operated e n g w) (halted g (Some w) None) (midstep_with core [] refs) (formation_end core' refs' result) (rw is at r)
 
-    pub address_refused : (h : Halt) (g' : RegsFields) (end : Ended) → run_formation g i core refs ≡ ended core' refs' (Err h) → g' ≡ g → end ≡ refused (Some w) None h → EndsAs g (addressed e n g w) core refs core' refs' g' end
+    pub address_refused : (h : Halt) (g' : RegsFields) (end : Ended) → run_formation g i core refs ≡ formation_end core' refs' (Err h) → g' ≡ g → end ≡ refused (Some w) None h → EndsAs g (addressed e n g w) core refs core' refs' g' end
     address_refused h g' end r stay same =
         rw (stay, same) (ap end_of_run (forms (Err h) r) ∙ halts (Some w) None h core' [] refs')
 
-    pub address_formed : (f : Formed) (core'' : List ℕ) (refs'' : List Reference) (g' : RegsFields) (end : Ended) → run_formation g i core refs ≡ ended core' refs' (Ok f) → EndsFormed g (operated e n g w (chain_end_fields f)) core' f refs' core'' refs'' g' end → EndsAs g (addressed e n g w) core refs core'' refs'' g' end
+    pub address_formed : (f : Formed) (core'' : List ℕ) (refs'' : List Reference) (g' : RegsFields) (end : Ended) → run_formation g i core refs ≡ formation_end core' refs' (Ok f) → EndsFormed g (operated e n g w (chain_end_fields f)) core' f refs' core'' refs'' g' end → EndsAs g (addressed e n g w) core refs core'' refs'' g' end
     address_formed f core'' refs'' g' end r rest = ap end_of_run (forms (Ok f) r) ∙ rest
 
   -- MME, DRL and DIS

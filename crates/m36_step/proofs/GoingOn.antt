@@ -35,7 +35,7 @@ use Rattle.m36_walk.specs.Memory.{Memory}
 use Rattle.m36_walk.specs.Served.{midstep_with, sdw_in, request, served_with_result, result_at_target, Reads, ServesClaim, ServesWord}
 use Rattle.m36_walk.specs.Words.{run_changes}
 use Rattle.m36_fastpath.specs.FastPath.{IsQuietEffect, operand_of_word, operand_of_pair}
-use Rattle.m36_ea.specs.Formed.{run_formation, ended, without_tally}
+use Rattle.m36_ea.specs.Formed.{run_formation, formation_end, without_tally}
 use Rattle.m36_step.specs.Ended.{EndsAs, end_in_record, code_end}
 use Rattle.m36_step.specs.Operated.{part_of}
 use Rattle.m36_step.specs.Quick.{next_end, EndsWithNext, Operates, Addresses, Decodes, IsNoLdbr, Steps}
@@ -314,7 +314,7 @@ module _ (Has : List Reference → Type 0) (Tells : List Reference → Ended →
 
   module _ (core core' : List ℕ) (after : RegsFields) where
     -- from the address on
-    pub addressed_on : (last : FinalFields) (i : InstFields) → i ≡ inst_of w → ((core : List ℕ) (refs : List Reference) → run_formation g i core refs ≡ ended core refs (Ok (without_tally last)))
+    pub addressed_on : (last : FinalFields) (i : InstFields) → i ≡ inst_of w → ((core : List ℕ) (refs : List Reference) → run_formation g i core refs ≡ formation_end core refs (Ok (without_tally last)))
         → Operates Has Tells q g w last core core' after → Addresses Has Tells q g w core core' after
     addressed_on last i is forms goes refs has =
         let t = goes refs has in

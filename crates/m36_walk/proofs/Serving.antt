@@ -13,7 +13,7 @@ use Rattle.m36_model.specs.Place.{core_sdw}
 use Rattle.m36_model.specs.declared.outcome.Fault.{Fault}
 use Rattle.m36_model.specs.declared.outcome.Refusal.{Refusal}
 use Rattle.m36_model.specs.declared.place.Reference.{Reference}
-use Rattle.m36_walk.specs.ReferenceResult.{ReferenceResult, told, violation_as_fault, reference_result, result_after_descriptor, result_after_rights, result_with_places}
+use Rattle.m36_walk.specs.ReferenceResult.{ReferenceResult, refusal_as_fault, violation_as_fault, reference_result, result_after_descriptor, result_after_rights, result_with_places}
 use Rattle.m36_walk.specs.Runs.{places_as_fault}
 use Rattle.m36_walk.specs.Served.{midstep_with, served_with_result}
 
@@ -37,7 +37,7 @@ module _ (g : RegsFields) (core : List ℕ) (claims : List Spot) (refs : List Re
   abbrev rights : SdwFields → Option ℕ
   rights d = refusing_violation q.kind d q.at.ring g.ppr.prr (q.at.seg == g.ppr.psr) q.at.word
 
-  by_sdw : (s : Result SdwFields Refusal) → serve_sdw core_store g (midstep_with core claims refs) q s ≡ answer (result_after_descriptor (λ d. unless_violation tt (rights d)) (λ d. places core_store core g.dbr d q) q.at (told q.at s))
+  by_sdw : (s : Result SdwFields Refusal) → serve_sdw core_store g (midstep_with core claims refs) q s ≡ answer (result_after_descriptor (λ d. unless_violation tt (rights d)) (λ d. places core_store core g.dbr d q) q.at (refusal_as_fault q.at s))
   by_sdw (Err why) = refl
   by_sdw (Ok d) = by_rights d (rights d)
 
@@ -62,7 +62,7 @@ reached_rights_sdw : (d : SdwFields) (u : Result Unit Fault) (p : Result (List S
 reached_rights_sdw d (Ok u) p r e = reached_places_sdw d p r e
 reached_rights_sdw d (Err f) p r e = cc
 
-reached_by : (R : SdwFields → Result Unit Acv) (P : SdwFields → Result (List Spot) (ℕ × Refusal)) (s : Result SdwFields Refusal) (at : AtFields) (r : ReferenceResult) → result_after_descriptor R P at (told at s) ≡ Ok r → s ≡ Ok r.sdw
+reached_by : (R : SdwFields → Result Unit Acv) (P : SdwFields → Result (List Spot) (ℕ × Refusal)) (s : Result SdwFields Refusal) (at : AtFields) (r : ReferenceResult) → result_after_descriptor R P at (refusal_as_fault at s) ≡ Ok r → s ≡ Ok r.sdw
 reached_by R P (Ok d) at r e = ap Ok (sym (reached_rights_sdw d (violation_as_fault at (R d)) (places_as_fault at (P d)) r e))
 reached_by R P (Err why) at r e = cc
 
