@@ -224,7 +224,7 @@ impl Super {
     // Takes a turn that is not a step, or a step with no record to overwrite.
     #[cold]
     #[inline(never)]
-    fn turn_anew(&mut self, turn: &mut Turn)
+    fn turn_without_record(&mut self, turn: &mut Turn)
         ensures { SuperTurns self.old turn.new self.new }
     {
         let coming = self.coming();
@@ -253,7 +253,7 @@ impl Stepper for Super {
         {
             self.step_told(told);
         } else {
-            self.turn_anew(turn);
+            self.turn_without_record(turn);
         }
     }
 
