@@ -25,7 +25,7 @@ use Rattle.m36_model.specs.Fields.{FinalFields}
 use Rattle.m36_model.specs.Modification.{here}
 use Rattle.m36_model.specs.Registers.{RegsFields}
 use Rattle.m36_model.specs.Results.{ring_only, yields_registers}
-use Rattle.m36_model.specs.Step.{Ending, no_operand, outcome_after, outcome_by, aligned_at, operate_by_kind, writing, decode, decoded, effect_and_number, has_right, program}
+use Rattle.m36_model.specs.Step.{Ending, no_operand, outcome_after, outcome_by, aligned_at, operate_by_kind, writing, decode, execute_decoded, effect_and_number, has_right, program}
 use Rattle.m36_model.specs.Store.{Core_word, serve, changes}
 use Rattle.m36_model.specs.Transfers.{is_taken}
 use Rattle.m36_model.specs.declared.place.Reference.{Reference}
@@ -329,7 +329,7 @@ module _ (Has : List Reference → Type 0) (Tells : List Reference → Ended →
     pub decoded_on : q ≡ quick_row_of w → IsQuick q → (q.group ≡ group.Other → ⊥) → Addresses Has Tells q g w core core' after → Decodes Has Tells g w core core' after
     decoded_on is row other goes privileged refs has =
         let formed = forms_by q.group q.effect (fits q q.group row refl) other in
-        let same = ap (λ (x : Option (Effect × ℕ)). decoded g w privileged x) (decode_quick w q is other) ∙ unprivileged q.effect q.reg w g privileged formed.privileged formed.forms in
+        let same = ap (λ (x : Option (Effect × ℕ)). execute_decoded g w privileged x) (decode_quick w q is other) ∙ unprivileged q.effect q.reg w g privileged formed.privileged formed.forms in
         subst (λ (a : Act Ending). EndsWithNext Tells g a (midstep_with core [] refs) core' after w) (sym same) (goes refs has)
 
 -- The whole step.

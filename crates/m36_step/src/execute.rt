@@ -10,8 +10,8 @@ ghost use Rattle.m36_inst.specs.Operands.{operand_of};
 ghost use Rattle.m36_model.specs.Chain.{chain_end_fields};
 ghost use Rattle.m36_model.specs.Modification.{here};
 ghost use Rattle.m36_model.specs.Registers.{RegsFields};
-ghost use Rattle.m36_model.specs.Step.{program, decoded, decode, admitted, is_barred, started, immediate_halt};
-ghost use Rattle.m36_model.specs.Step.{addressed, operated};
+ghost use Rattle.m36_model.specs.Step.{program, execute_decoded, decode, execute_unless_barred, is_barred, execute_admitted, immediate_halt};
+ghost use Rattle.m36_model.specs.Step.{form_and_operate, operate_and_end};
 ghost use Rattle.m36_step.specs.Ended.{EndsAs, EndsFormed, completed_end};
 
 use crate::ended::{Ended, end_of_halt, fault_here, outcome_after_effect};
@@ -68,7 +68,7 @@ pub(crate) fn execute_at_address(
         refs.old.items }
     requires room { length refs.old.items ≤ 38 }
     ensures ends { EndsFormed regs.old
-        (operated row.now.effect row.now.reg regs.old word (chain_end_fields formed.now))
+        (operate_and_end row.now.effect row.now.reg regs.old word (chain_end_fields formed.now))
         walk.old.core formed.now refs.old.items walk.new.core refs.new.items regs.new result }
     ensures dbr { walk.new.dbr ≡ regs.new.dbr }
 {
@@ -98,7 +98,7 @@ fn form_address_and_execute(
     requires addressed { row.now.operand ≢ N }
     requires inst { inst.now ≡ inst_of word }
     requires room { length refs.old.items ≤ 4 }
-    ensures ends { EndsAs regs.old (addressed row.now.effect row.now.reg regs.old word)
+    ensures ends { EndsAs regs.old (form_and_operate row.now.effect row.now.reg regs.old word)
         walk.old.core refs.old.items walk.new.core refs.new.items regs.new result }
     ensures dbr { walk.new.dbr ≡ regs.new.dbr }
 {
@@ -134,7 +134,7 @@ fn execute_permitted(
     requires inst { inst.now ≡ inst_of word }
     requires room { length refs.old.items ≤ 4 }
     ensures ends { EndsAs regs.old
-        (started row.now.effect row.now.reg regs.old word (operand_of row.now.effect)) walk.old.core
+        (execute_admitted row.now.effect row.now.reg regs.old word (operand_of row.now.effect)) walk.old.core
         refs.old.items walk.new.core refs.new.items regs.new result }
     ensures dbr { walk.new.dbr ≡ regs.new.dbr }
 {
@@ -160,7 +160,7 @@ fn check_privilege_and_execute(
     requires inst { inst.now ≡ inst_of word }
     requires room { length refs.old.items ≤ 4 }
     ensures ends { EndsAs regs.old
-        (admitted row.now.effect row.now.reg regs.old word
+        (execute_unless_barred row.now.effect row.now.reg regs.old word
         (is_barred row.now.effect privileged)) walk.old.core refs.old.items walk.new.core
         refs.new.items regs.new result }
     ensures dbr { walk.new.dbr ≡ regs.new.dbr }
@@ -176,7 +176,7 @@ fn check_privilege_and_execute(
 fn decode_and_execute(walk: &mut Walk, regs: &mut Regs, word: Word, privileged: bool, refs: &mut Refs) -> Ended
     requires dbr { walk.old.dbr ≡ regs.old.dbr }
     requires room { length refs.old.items ≤ 4 }
-    ensures ends { EndsAs regs.old (decoded regs.old word privileged (decode word)) walk.old.core
+    ensures ends { EndsAs regs.old (execute_decoded regs.old word privileged (decode word)) walk.old.core
         refs.old.items walk.new.core refs.new.items regs.new result }
     ensures dbr { walk.new.dbr ≡ regs.new.dbr }
 {
