@@ -20,7 +20,7 @@ use Rattle.m36_model.specs.Results.{OperandFields, EffectFields}
 use Rattle.m36_model.specs.Effect.{exec, is_absa}
 use Rattle.m36_model.specs.WordsPut.{words_written}
 use Rattle.m36_model.specs.Transfers.{is_taken}
-use Rattle.m36_model.specs.Step.{Performed, Operation, operation_result, with_chain_tally, no_operand, reading_word, reading_words, writing, changing, addressing, transferring, calling, operate_by_kind, operate_direct, operate_on, operate, Ending, outcome_of, outcome_by, outcome_after, end_halted, completed, operate_and_end, indirect_words, form_and_operate, no_address, execute_admitted, execute_unless_barred, decode, execute_decoded, program}
+use Rattle.m36_model.specs.Step.{Performed, Operation, operation_result, with_chain_tally, no_operand, reading_word, reading_words, writing, changing, addressing, transferring, calling, operate_by_kind, operate_direct, operate_on, operate, Ending, outcome_of, outcome_by, outcome_after, end_halted, end_completed, operate_and_end, indirect_words, form_and_operate, no_address, execute_admitted, execute_unless_barred, decode, execute_decoded, program}
 use Rattle.m36_model.specs.PagedStep.{DifferInA, IsNoPageFault}
 use Rattle.m36_model.proofs.Computed.{everything}
 use Rattle.m36_model.proofs.PutLaw.{PutsSo, puts_so}
@@ -290,21 +290,21 @@ module _ (g : RegsFields) where
   next_by true mask h = cc
   next_by false mask h = refl
 
-  completed_asks : (e : Effect) (n w : ℕ) (c : ChainEnd) (p : Performed) → decode w ≡ Some (e, n) → LeavesDbr e p → AsksStep (completed g w c.last p)
+  completed_asks : (e : Effect) (n w : ℕ) (c : ChainEnd) (p : Performed) → decode w ≡ Some (e, n) → LeavesDbr e p → AsksStep (end_completed g w c.last p)
   completed_asks e n w c p row h =
       record {
         present = overflow_present (p.overflow && not p.regs.ind.mask);
         dbr = ⊎_elim (λ same. inl same) (λ loads. inr (record { word = w; fetched = refl; number = n; loads = row ∙ ap (λ (x : Effect). Some (x, n)) loads.0; next = next_by p.overflow _ loads.1 })) h;
       }
 
-  ended_asks : (e : Effect) (n w : ℕ) (c : ChainEnd) → decode w ≡ Some (e, n) → (v : Result Performed Halt) → Either (LeavesDbr e) OwnHalt v → AsksStep (either (completed g w c.last) (end_halted g (Some w) (Some c.last)) v)
+  ended_asks : (e : Effect) (n w : ℕ) (c : ChainEnd) → decode w ≡ Some (e, n) → (v : Result Performed Halt) → Either (LeavesDbr e) OwnHalt v → AsksStep (either (end_completed g w c.last) (end_halted g (Some w) (Some c.last)) v)
   ended_asks e n w c row (Ok p) h = completed_asks e n w c p row h
   ended_asks e n w c row (Err k) h = halted_asks (Some w) (Some c.last) k h
 
   stopped_by : {A : Type 0} (ok : A → Act Ending) (word : Option ℕ) (at : Option FinalFields) (f : Fault) (v : Result A Halt) → FailsSo f v → Stops StopsSo f (either ok (end_halted g word at) v)
   stopped_by ok word at f v h = rw h (record { after = refl; puts = refl; outcome = refl })
 
-  placed_ends : (e : Effect) (n w : ℕ) (c : ChainEnd) → decode w ≡ Some (e, n) → (v v' : Result Performed Halt) → ArePlaced e v v' → EndTwo EndPlaced (either (completed g w c.last) (end_halted g (Some w) (Some c.last)) v) (either (completed g w c.last) (end_halted g (Some w) (Some c.last)) v')
+  placed_ends : (e : Effect) (n w : ℕ) (c : ChainEnd) → decode w ≡ Some (e, n) → (v v' : Result Performed Halt) → ArePlaced e v v' → EndTwo EndPlaced (either (end_completed g w c.last) (end_halted g (Some w) (Some c.last)) v) (either (end_completed g w c.last) (end_halted g (Some w) (Some c.last)) v')
   placed_ends e n w c row v v' h =
       rw (h.is, h.other) (record {
         word = w;
@@ -319,7 +319,7 @@ module _ (g : RegsFields) where
 
   operated_asks : (e : Effect) (n w : ℕ) (c : ChainEnd) → decode w ≡ Some (e, n) → AsksStep (operate_and_end e n g w c)
   operated_asks e n w c row =
-      asks_then (Either (LeavesDbr e) OwnHalt) FailsSo (ArePlaced e) EndsSo StopsSo EndPlaced (operate e n g c) _ (operate_asks e n c) (ended_asks e n w c row) (stopped_by (completed g w c.last) (Some w) (Some c.last)) (placed_ends e n w c row)
+      asks_then (Either (LeavesDbr e) OwnHalt) FailsSo (ArePlaced e) EndsSo StopsSo EndPlaced (operate e n g c) _ (operate_asks e n c) (ended_asks e n w c row) (stopped_by (end_completed g w c.last) (Some w) (Some c.last)) (placed_ends e n w c row)
 
   formed_asks : (e : Effect) (n w : ℕ) → decode w ≡ Some (e, n) → (v : Result ChainEnd Halt) → Either AnyEnd OwnHalt v → AsksStep (either (operate_and_end e n g w) (end_halted g (Some w) None) v)
   formed_asks e n w row (Ok c) h = operated_asks e n w c row

@@ -9,7 +9,7 @@ use Rattle.m36_model.specs.Act.{RequestKind, Fetch, Indirect, Odd, Read, Write, 
 use Rattle.m36_model.specs.Store.{Spot, Store, Midstep, Served, violation, refused_reply, is_within_bound, spots_with, spots_from, spots_of, spots_of_request_by, places, bound_only, is_target, touches, refusing_violation, serve, serve_sdw, serve_rights, serve_places, with_odd, with_reference, run}
 use Rattle.m36_model.specs.StoreLaw.{Each}
 use Rattle.m36_model.specs.Core.{core_store}
-use Rattle.m36_model.specs.Step.{record_of, start, program}
+use Rattle.m36_model.specs.Step.{record_of, start_of_step, program}
 use Rattle.m36_model.specs.declared.outcome.Refusal.{Refusal}
 use Rattle.m36_model.specs.declared.place.Kind.TheVariants as reference
 use Rattle.m36_model.specs.declared.place.Reference.{Reference}
@@ -195,7 +195,7 @@ module _ {A S : Type 0} (o : Store S) (g : RegsFields) (post : ℕ → ℕ → A
 pub few_references : FewReferencesLaw
 unfolding record_of
 few_references s =
-    references_few core_store s.regs (λ n k a. Unit {0}) 18 20 None (program s.regs) (start s) (program_plan s.regs)
+    references_few core_store s.regs (λ n k a. Unit {0}) 18 20 None (program s.regs) (start_of_step s) (program_plan s.regs)
 
 -- ---- the pages of references
 

@@ -19,7 +19,7 @@ use Rattle.m36_model.specs.Tally.{indirect_only}
 use Rattle.m36_model.specs.Chain.{indirect, ChainEnd, Formation, IndirectKind, Its, Itp, Plain, found, kind_by_tag, after_word, after_tally, chain_by, chain_exhausted, chain}
 use Rattle.m36_model.specs.Transfers.{is_taken}
 use Rattle.m36_model.specs.Effect.{is_absa}
-use Rattle.m36_model.specs.Step.{Performed, Operation, request_at, with_chain_tally, reading_word, changing, addressing, transferring, operate_by_kind, operate_direct, operate_on, operate, Ending, end_halted, completed, execute_fetched, operate_and_end, indirect_words, form_and_operate, no_address, execute_admitted, execute_unless_barred, decode, execute_decoded, program}
+use Rattle.m36_model.specs.Step.{Performed, Operation, request_at, with_chain_tally, reading_word, changing, addressing, transferring, operate_by_kind, operate_direct, operate_on, operate, Ending, end_halted, end_completed, execute_fetched, operate_and_end, indirect_words, form_and_operate, no_address, execute_admitted, execute_unless_barred, decode, execute_decoded, program}
 use Rattle.m36_model.specs.declared.outcome.Fault.{Fault}
 use Rattle.m36_model.specs.declared.outcome.Halt.{Halt}
 use Rattle.m36_model.specs.declared.outcome.Halt.TheVariants as halt
@@ -267,7 +267,7 @@ module _ (g : RegsFields) where
   abbrev PlansStep : ℕ → ℕ → Option AtFields → Act Ending → Type 0
   PlansStep n k last m = Plan Any n k last m
 
-  ended_plan : (e : Effect) (i w : ℕ) (c : ChainEnd) (n k : ℕ) (last : Option AtFields) (v : Result Performed Halt) → PlansStep n k last (either (completed g w c.last) (end_halted g (Some w) (Some c.last)) v)
+  ended_plan : (e : Effect) (i w : ℕ) (c : ChainEnd) (n k : ℕ) (last : Option AtFields) (v : Result Performed Halt) → PlansStep n k last (either (end_completed g w c.last) (end_halted g (Some w) (Some c.last)) v)
   ended_plan e i w c n k last (Ok p) = tt
   ended_plan e i w c n k last (Err h) = tt
 

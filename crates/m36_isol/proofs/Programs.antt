@@ -17,7 +17,7 @@ use Rattle.m36_model.specs.Act.{Act, either}
 use Rattle.m36_model.specs.Modification.{here, halt_at}
 use Rattle.m36_model.specs.FirstPoint.{first_point, first_point_by}
 use Rattle.m36_model.specs.Chain.{ChainEnd, chain}
-use Rattle.m36_model.specs.Step.{Performed, Ending, outcome_after, end_halted, completed, operate, operate_and_end, indirect_words, form_and_operate, no_address, execute_admitted, execute_unless_barred, decode, execute_decoded, has_right, program}
+use Rattle.m36_model.specs.Step.{Performed, Ending, outcome_after, end_halted, end_completed, operate, operate_and_end, indirect_words, form_and_operate, no_address, execute_admitted, execute_unless_barred, decode, execute_decoded, has_right, program}
 use Rattle.m36_model.specs.Audit.{is_stack_of, IsGuarded}
 use Rattle.m36_model.specs.Isolation.{HasPointers}
 use Rattle.m36_model.specs.declared.outcome.Halt.{Halt}
@@ -74,7 +74,7 @@ module _ (sdws : ℕ → Result SdwFields Refusal) (r : ℕ) (g : RegsFields) wh
   next_by true mask h = cc
   next_by false mask h = refl
 
-  completed_meets : (e : Effect) (n w : ℕ) (c : ChainEnd) (p : Performed) → decode w ≡ Some (e, n) → (e ≡ effect.Ldbr → g.ppr.prr ≡ 0) → IsPerformed sdws r g e c p → MeetsEnd (completed g w c.last p)
+  completed_meets : (e : Effect) (n w : ℕ) (c : ChainEnd) (p : Performed) → decode w ≡ Some (e, n) → (e ≡ effect.Ldbr → g.ppr.prr ≡ 0) → IsPerformed sdws r g e c p → MeetsEnd (end_completed g w c.last p)
   completed_meets e n w c p row lowest h =
       record {
         ring = ⊎_elim (λ above. inl above) (λ fallen. inr (gone fallen)) h.ring;
@@ -136,7 +136,7 @@ module _ (sdws : ℕ → Result SdwFields Refusal) (r : ℕ) (g : RegsFields) wh
     no_address_meets _ w = halted_meets (Some w) None (halt.Stop stop.Dis)
 
     module _ (guarded : IsGuarded g.dbr sdws) (executes : Sees sdws r g.ppr.psr) where
-      operation_meets : (e : Effect) (n w : ℕ) (c : ChainEnd) → decode w ≡ Some (e, n) → (e ≡ effect.Ldbr → g.ppr.prr ≡ 0) → (v : Result Performed Halt) → Either (IsPerformed sdws r g e c) AnyHalt v → MeetsEnd (either (completed g w c.last) (end_halted g (Some w) (Some c.last)) v)
+      operation_meets : (e : Effect) (n w : ℕ) (c : ChainEnd) → decode w ≡ Some (e, n) → (e ≡ effect.Ldbr → g.ppr.prr ≡ 0) → (v : Result Performed Halt) → Either (IsPerformed sdws r g e c) AnyHalt v → MeetsEnd (either (end_completed g w c.last) (end_halted g (Some w) (Some c.last)) v)
       operation_meets e n w c row lowest (Ok p) h = completed_meets e n w c p row lowest h
       operation_meets e n w c row lowest (Err k) h = halted_meets (Some w) (Some c.last) k
 

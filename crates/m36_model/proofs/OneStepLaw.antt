@@ -17,7 +17,7 @@ use Rattle.m36_model.specs.Chain.{ChainEnd, chain}
 use Rattle.m36_model.specs.Results.{OperandFields, EffectFields, words_only}
 use Rattle.m36_model.specs.Transfers.{is_taken}
 use Rattle.m36_model.specs.Effect.{exec, is_absa}
-use Rattle.m36_model.specs.Step.{Performed, operation_result, puts_from, with_chain_tally, perform, no_operand, request_at, got_word, got_words, got_place, got_nothing, got_ring, direct_word, addressing, transferring, operate_by_kind, operate_direct, operate_on, operate, Ending, outcome_of, end_halted, completed, operate_and_end, form_and_operate, immediate_halt, no_address, execute_admitted, execute_unless_barred, execute_decoded, execute_fetched, indirect_words, decode, fetch_request, program, start, step_record, stepped, run_of_step, record_of, state_after}
+use Rattle.m36_model.specs.Step.{Performed, operation_result, puts_from, with_chain_tally, perform, no_operand, request_at, got_word, got_words, got_place, got_nothing, got_ring, direct_word, addressing, transferring, operate_by_kind, operate_direct, operate_on, operate, Ending, outcome_of, end_halted, end_completed, operate_and_end, form_and_operate, immediate_halt, no_address, execute_admitted, execute_unless_barred, execute_decoded, execute_fetched, indirect_words, decode, fetch_request, program, start_of_step, step_record, state_after_run, run_of_step, record_of, state_after}
 use Rattle.m36_model.specs.StepCases.{ChangedOnlyMarks, IsFetched, IsAdmitted, IsFormed, Reached, IsUnreferenced, IsReferenced, IsClaimed, IsReadAndClaimed, IsAddressed, IsTargeted, IsOperandOf, IsOperand, changes_at_spots, HasEffect, StepCase, fetch_refused, no_instruction, privilege_refused, no_address as no_address_case, address_refused, operation_refused, effected, CaseIsTheStep}
 use Rattle.m36_model.proofs.PutLaw.{IsTallied, all_changes}
 use Rattle.m36_model.proofs.OperandWordsLaw.{written_words}
@@ -133,7 +133,7 @@ module _ {S : Type 0} (o : Store S) (g : RegsFields) (e : Effect) (n : ℕ) (c :
 module _ {S : Type 0} (o : Store S) (quiet : (x : S) → o.put x [] ≡ x) (s : State S) (e : StepRecord) (t : State S) where
   -- a run of the step's program gives the record and the state
   abbrev Tells : ProgramResult Ending S → Type 0
-  Tells x = (e ≡ step_record s.regs x) × (t ≡ stepped o x)
+  Tells x = (e ≡ step_record s.regs x) × (t ≡ state_after_run o x)
 
   halts : (m : Midstep S) (word : Option ℕ) (at : Option FinalFields) (h : Halt) → ChangedOnlyMarks s e t m word at (outcome_of h) → Tells (run o s.regs (end_halted s.regs word at h) m)
   unfolding run changes
@@ -173,9 +173,9 @@ module _ {S : Type 0} (o : Store S) (quiet : (x : S) → o.put x [] ≡ x) (s : 
       let ends = subst (λ (y : ProgramResult (Result ChainEnd Halt) S). Tells (run o s.regs (k y.value) y.mid)) (sym known) told in
       on_admitted w i n before a (starts i n w before (operand_of i) f (subst Tells (sym (run_then o s.regs act k before)) ends))
 
-  on_operation : (w : ℕ) (i : Effect) (n : ℕ) (c : ChainEnd) (m : Midstep S) → IsFormed o s w i n c m → (r : ProgramResult (Result Performed Halt) S) → run o s.regs (operate i n s.regs c) m ≡ r → Tells (run o s.regs (either (completed s.regs w c.last) (end_halted s.regs (Some w) (Some c.last)) r.value) r.mid) → Tells (run_of_step o s)
+  on_operation : (w : ℕ) (i : Effect) (n : ℕ) (c : ChainEnd) (m : Midstep S) → IsFormed o s w i n c m → (r : ProgramResult (Result Performed Halt) S) → run o s.regs (operate i n s.regs c) m ≡ r → Tells (run o s.regs (either (end_completed s.regs w c.last) (end_halted s.regs (Some w) (Some c.last)) r.value) r.mid) → Tells (run_of_step o s)
   on_operation w i n c m f r known told =
-      let k = either (completed s.regs w c.last) (end_halted s.regs (Some w) (Some c.last)) in
+      let k = either (end_completed s.regs w c.last) (end_halted s.regs (Some w) (Some c.last)) in
       let ends = subst (λ (y : ProgramResult (Result Performed Halt) S). Tells (run o s.regs (k y.value) y.mid)) (sym known) told in
       on_address w i n f.before f.admitted f.forms (Ok c) m f.formed (subst Tells (sym (run_then o s.regs (operate i n s.regs c) k m)) ends)
 
@@ -183,7 +183,7 @@ module _ {S : Type 0} (o : Store S) (quiet : (x : S) → o.put x [] ≡ x) (s : 
   tallies : (w : ℕ) (i : Effect) (n : ℕ) (c : ChainEnd) (m : Midstep S) → IsFormed o s w i n c m → IsTallied c m.claims
   tallies w i n c m f =
       let fetch = f.admitted.fetched in
-      let none : f.before.claims ≡ [] = ap (λ (v : Served S). v.mid.claims) (sym fetch.served) ∙ same_claims o s.regs (start s) (fetch_request s.regs) (λ x. cc) in
+      let none : f.before.claims ≡ [] = ap (λ (v : Served S). v.mid.claims) (sym fetch.served) ∙ same_claims o s.regs (start_of_step s) (fetch_request s.regs) (λ x. cc) in
       let post = chain_claims o s.regs indirect_words (first_point s.regs (inst_of w)) f.before none in
       subst (λ (r : ProgramResult (Result ChainEnd Halt) S). PostOf r.value r.mid) f.formed post
 

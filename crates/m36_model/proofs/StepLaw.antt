@@ -15,7 +15,7 @@ use Rattle.m36_model.specs.FirstPoint.{first_point}
 use Rattle.m36_model.specs.Chain.{ChainEnd, chain}
 use Rattle.m36_model.specs.Results.{EffectFields}
 use Rattle.m36_model.specs.Effect.{exec}
-use Rattle.m36_model.specs.Step.{Performed, puts_from, with_chain_tally, operate, Ending, outcome_of, end_halted, completed, operate_and_end, form_and_operate, immediate_halt, no_address, execute_admitted, execute_unless_barred, execute_decoded, has_right, execute_fetched, indirect_words, decode, fetch_request, program, start, step_record, stepped, record_of, state_after}
+use Rattle.m36_model.specs.Step.{Performed, puts_from, with_chain_tally, operate, Ending, outcome_of, end_halted, end_completed, operate_and_end, form_and_operate, immediate_halt, no_address, execute_admitted, execute_unless_barred, execute_decoded, has_right, execute_fetched, indirect_words, decode, fetch_request, program, start_of_step, step_record, state_after_run, record_of, state_after}
 use Rattle.m36_model.specs.StepCases.{ChangedOnlyMarks, IsFetched, IsAdmitted, IsFormed, Reached, IsOperand, changes_at_spots, StepCase, fetch_refused, no_instruction, privilege_refused, no_address as no_address_case, address_refused, operation_refused, effected, StepHasACase}
 use Rattle.m36_model.proofs.PutLaw.{IsTallied, tally_changes, all_changes}
 use Rattle.m36_model.specs.declared.outcome.Fault.{Fault}
@@ -37,20 +37,20 @@ not_right false b e = cc
 
 module _ {S : Type 0} (o : Store S) (quiet : (x : S) → o.put x [] ≡ x) (s : State S) where
   abbrev CaseOf : ProgramResult Ending S → Type 0
-  CaseOf x = StepCase o s (step_record s.regs x) (stepped o x)
+  CaseOf x = StepCase o s (step_record s.regs x) (state_after_run o x)
 
   -- a program that ends with nothing changed
-  has_left : (m : Midstep S) (word : Option ℕ) (at : Option FinalFields) (h : Halt) → let x = run o s.regs (end_halted s.regs word at h) m in ChangedOnlyMarks s (step_record s.regs x) (stepped o x) m word at (outcome_of h)
+  has_left : (m : Midstep S) (word : Option ℕ) (at : Option FinalFields) (h : Halt) → let x = run o s.regs (end_halted s.regs word at h) m in ChangedOnlyMarks s (step_record s.regs x) (state_after_run o x) m word at (outcome_of h)
   unfolding run changes
   has_left m word at h =
       record { told = refl; left = λ i. record { regs = s.regs; store = quiet m.store i } }
 
-  at_once_left : (i : Effect) (w : ℕ) (m : Midstep S) → let x = run o s.regs (no_address i s.regs w) m in ChangedOnlyMarks s (step_record s.regs x) (stepped o x) m (Some w) None (outcome_of (immediate_halt i s.regs))
+  at_once_left : (i : Effect) (w : ℕ) (m : Midstep S) → let x = run o s.regs (no_address i s.regs w) m in ChangedOnlyMarks s (step_record s.regs x) (state_after_run o x) m (Some w) None (outcome_of (immediate_halt i s.regs))
   at_once_left effect.Mme w m = has_left m (Some w) None (halt_at 2 (here s.regs))
   at_once_left effect.Drl w m = has_left m (Some w) None (halt_at 6 (here s.regs))
   at_once_left _ w m = has_left m (Some w) None (halt.Stop stop.Dis)
 
-  full_case : (w : ℕ) (i : Effect) (n : ℕ) (c : ChainEnd) (m : Midstep S) → IsFormed o s w i n c m → IsTallied c m.claims → (u : Reached S) (first : ℕ) (x : EffectFields) → IsOperand o s.regs i c c.last.direct m u → exec i n (with_chain_tally s.regs c) c.last u.operand ≡ Ok x → u.mid.claims ≡ m.claims ++ u.spots → length u.spots ≡ length x.put → (u.spots ≡ []) ⊎ (first ≡ length m.claims) → CaseOf (run o s.regs (completed s.regs w c.last (record { regs = x.regs; puts = c.pending ++ puts_from u.part first x.put; overflow = x.overflow })) u.mid)
+  full_case : (w : ℕ) (i : Effect) (n : ℕ) (c : ChainEnd) (m : Midstep S) → IsFormed o s w i n c m → IsTallied c m.claims → (u : Reached S) (first : ℕ) (x : EffectFields) → IsOperand o s.regs i c c.last.direct m u → exec i n (with_chain_tally s.regs c) c.last u.operand ≡ Ok x → u.mid.claims ≡ m.claims ++ u.spots → length u.spots ≡ length x.put → (u.spots ≡ []) ⊎ (first ≡ length m.claims) → CaseOf (run o s.regs (end_completed s.regs w c.last (record { regs = x.regs; puts = c.pending ++ puts_from u.part first x.put; overflow = x.overflow })) u.mid)
   unfolding run
   full_case w i n c m formed t u first x p h a b f =
       let puts = c.pending ++ puts_from u.part first x.put in
@@ -72,16 +72,16 @@ module _ {S : Type 0} (o : Store S) (quiet : (x : S) → o.put x [] ≡ x) (s : 
         left = λ j. record { regs = x.regs; store = o.put u.mid.store (all j) };
       })
 
-  operation_by : (w : ℕ) (i : Effect) (n : ℕ) (c : ChainEnd) (m : Midstep S) → IsFormed o s w i n c m → IsTallied c m.claims → (r : ProgramResult (Result Performed Halt) S) → run o s.regs (operate i n s.regs c) m ≡ r → OperationCase s.regs i n c (IsOperand o s.regs i c c.last.direct m) m r → CaseOf (run o s.regs (either (completed s.regs w c.last) (end_halted s.regs (Some w) (Some c.last)) r.value) r.mid)
+  operation_by : (w : ℕ) (i : Effect) (n : ℕ) (c : ChainEnd) (m : Midstep S) → IsFormed o s w i n c m → IsTallied c m.claims → (r : ProgramResult (Result Performed Halt) S) → run o s.regs (operate i n s.regs c) m ≡ r → OperationCase s.regs i n c (IsOperand o s.regs i c c.last.direct m) m r → CaseOf (run o s.regs (either (end_completed s.regs w c.last) (end_halted s.regs (Some w) (Some c.last)) r.value) r.mid)
   operation_by w i n c m formed t r known (refused_reply h e) =
       let ends : r ≡ record { value = Err h; mid = r.mid } = λ j. record { value = e j; mid = r.mid } in
-      subst (λ (v : Result Performed Halt). CaseOf (run o s.regs (either (completed s.regs w c.last) (end_halted s.regs (Some w) (Some c.last)) v) r.mid)) (sym e) (operation_refused w m r.mid i n c h formed (known ∙ ends) (has_left r.mid (Some w) (Some c.last) h))
+      subst (λ (v : Result Performed Halt). CaseOf (run o s.regs (either (end_completed s.regs w c.last) (end_halted s.regs (Some w) (Some c.last)) v) r.mid)) (sym e) (operation_refused w m r.mid i n c h formed (known ∙ ends) (has_left r.mid (Some w) (Some c.last) h))
   operation_by w i n c m formed t r known (performed_with u first x p h a b f q) =
-      subst (λ (y : ProgramResult (Result Performed Halt) S). CaseOf (run o s.regs (either (completed s.regs w c.last) (end_halted s.regs (Some w) (Some c.last)) y.value) y.mid)) (sym q) (full_case w i n c m formed t u first x p h a b f)
+      subst (λ (y : ProgramResult (Result Performed Halt) S). CaseOf (run o s.regs (either (end_completed s.regs w c.last) (end_halted s.regs (Some w) (Some c.last)) y.value) y.mid)) (sym q) (full_case w i n c m formed t u first x p h a b f)
 
   operated_case : (w : ℕ) (i : Effect) (n : ℕ) (c : ChainEnd) (m : Midstep S) → IsFormed o s w i n c m → IsTallied c m.claims → CaseOf (run o s.regs (operate_and_end i n s.regs w c) m)
   operated_case w i n c m formed t =
-      let k = either (completed s.regs w c.last) (end_halted s.regs (Some w) (Some c.last)) in
+      let k = either (end_completed s.regs w c.last) (end_halted s.regs (Some w) (Some c.last)) in
       let r = run o s.regs (operate i n s.regs c) m in
       subst CaseOf (sym (run_then o s.regs (operate i n s.regs c) k m)) (operation_by w i n c m formed t r refl (operation_case o s.regs i n c m))
 
@@ -115,21 +115,21 @@ module _ {S : Type 0} (o : Store S) (quiet : (x : S) → o.put x [] ≡ x) (s : 
   decoded_case w right m fetched e (Some row) h =
       admitted_case w right m fetched e row.0 row.1 h (is_privileged row.0 && not right) refl
 
-  fetched_case : (reply : Result Answer Fault) → (serve o s.regs (start s) (fetch_request s.regs)).reply ≡ reply → CaseOf (run o s.regs (execute_fetched s.regs reply) (serve o s.regs (start s) (fetch_request s.regs)).mid)
+  fetched_case : (reply : Result Answer Fault) → (serve o s.regs (start_of_step s) (fetch_request s.regs)).reply ≡ reply → CaseOf (run o s.regs (execute_fetched s.regs reply) (serve o s.regs (start_of_step s) (fetch_request s.regs)).mid)
   fetched_case (Err f) h =
-      let t = serve o s.regs (start s) (fetch_request s.regs) in
+      let t = serve o s.regs (start_of_step s) (fetch_request s.regs) in
       fetch_refused f t.mid (served_as t (Err f) h) (has_left t.mid None None (halt.Fault f))
   fetched_case (Ok a) h =
       let q = fetch_request s.regs in
-      let t = serve o s.regs (start s) q in
+      let t = serve o s.regs (start_of_step s) q in
       let w = slice_index a.words 0 in
       let right = has_right a.sdw s.regs.ppr.prr in
       let known : IsFetched o s w right t.mid = record { answer = a; served = served_as t (Ok a) h; word_is = refl; right_is = refl } in
-      decoded_case w right t.mid known (same_claims o s.regs (start s) q (λ x. cc)) (decode w) refl
+      decoded_case w right t.mid known (same_claims o s.regs (start_of_step s) q (λ x. cc)) (decode w) refl
 
   step_case : StepCase o s (record_of o s) (state_after o s)
   unfolding record_of state_after program run
-  step_case = fetched_case (serve o s.regs (start s) (fetch_request s.regs)).reply refl
+  step_case = fetched_case (serve o s.regs (start_of_step s) (fetch_request s.regs)).reply refl
 
 pub core_quiet : (core : List ℕ) → core_put core [] ≡ core
 unfolding core_put

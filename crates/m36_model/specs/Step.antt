@@ -266,8 +266,8 @@ abbrev pub outcome_after : Bool → Bool → RegsFields → Outcome
 outcome_after overflow mask g = outcome_by (overflow && not mask) g
 
 -- the end of a step whose operation was performed
-abbrev pub completed : RegsFields → ℕ → FinalFields → Performed → Act Ending
-completed g w last e =
+abbrev pub end_completed : RegsFields → ℕ → FinalFields → Performed → Act Ending
+end_completed g w last e =
     done (record {
       word = Some w;
       at = Some last;
@@ -279,7 +279,7 @@ completed g w last e =
 -- performs the operation, once the address is formed, and ends the step
 abbrev pub operate_and_end : Effect → ℕ → RegsFields → ℕ → ChainEnd → Act Ending
 operate_and_end e n g w c =
-    otherwise (operate e n g c) (completed g w c.last) (end_halted g (Some w) (Some c.last))
+    otherwise (operate e n g c) (end_completed g w c.last) (end_halted g (Some w) (Some c.last))
 
 -- the most indirect words that one address may have (this project's choice)
 abbrev pub indirect_words : ℕ
@@ -365,17 +365,17 @@ step_record g t =
 
 -- the state after a step: all words of an instruction are written together, once nothing can refuse
 -- it
-abbrev pub stepped : {S : Type 0} → Store S → ProgramResult Ending S → State S
-stepped o t =
+abbrev pub state_after_run : {S : Type 0} → Store S → ProgramResult Ending S → State S
+state_after_run o t =
     record { regs = t.value.after; store = o.put t.mid.store (changes t.mid.claims t.value.puts) }
 
 -- the state within a step at its beginning: nothing is claimed or completed
-abbrev pub start : {S : Type 0} → State S → Midstep S
-start s = initial_midstep s.store
+abbrev pub start_of_step : {S : Type 0} → State S → Midstep S
+start_of_step s = initial_midstep s.store
 
 -- the run of a step's program over a store
 abbrev pub run_of_step : {S : Type 0} → Store S → State S → ProgramResult Ending S
-run_of_step o s = run o s.regs (program s.regs) (start s)
+run_of_step o s = run o s.regs (program s.regs) (start_of_step s)
 
 -- the record of a step
 unfoldable pub record_of : {S : Type 0} → Store S → State S → StepRecord
@@ -383,4 +383,4 @@ record_of o s = step_record s.regs (run_of_step o s)
 
 -- the state after a step
 unfoldable pub state_after : {S : Type 0} → Store S → State S → State S
-state_after o s = stepped o (run_of_step o s)
+state_after o s = state_after_run o (run_of_step o s)

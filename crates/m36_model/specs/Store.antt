@@ -143,8 +143,8 @@ past_bound = violation out_of_segment_bounds
 
 -- Whether a word may have a place: the brackets of its descriptor are in order, and it is within
 -- the bound.
-abbrev pub placed : SdwFields → ℕ → Bool
-placed d word = has_ordered_brackets d && is_within_bound d word
+abbrev pub is_placed : SdwFields → ℕ → Bool
+is_placed d word = has_ordered_brackets d && is_within_bound d word
 
 -- the spot that is given, if the word is within the bound (true); otherwise the refusal
 abbrev pub place_within : Bool → Result Spot Refusal → Result Spot Refusal

@@ -16,7 +16,7 @@ use Rattle.m36_model.specs.Core.{core_store, core_put}
 use Rattle.m36_model.specs.Modification.{here}
 use Rattle.m36_model.specs.FirstPoint.{first_point}
 use Rattle.m36_model.specs.Chain.{chain, chain_end_fields, claimed_by}
-use Rattle.m36_model.specs.Step.{Ending, outcome_of, outcome_after, end_halted, completed, operate, operate_and_end, indirect_words, form_and_operate, immediate_halt, execute_admitted, execute_unless_barred, effect_and_number, decode, execute_decoded, has_right, execute_fetched, program, record_of, state_after}
+use Rattle.m36_model.specs.Step.{Ending, outcome_of, outcome_after, end_halted, end_completed, operate, operate_and_end, indirect_words, form_and_operate, immediate_halt, execute_admitted, execute_unless_barred, effect_and_number, decode, execute_decoded, has_right, execute_fetched, program, record_of, state_after}
 use Rattle.m36_model.specs.declared.effects.Formed.{Formed}
 use Rattle.m36_model.specs.declared.effects.Held.{Held}
 use Rattle.m36_model.specs.declared.outcome.Fault.{Fault}
@@ -59,9 +59,9 @@ module _ (g : RegsFields) where
     Operates result =
         run_of_operation e n g f core refs ≡ operated_end core' refs' f g' put result
 
-    operation_runs : (result : Result Operated Halt) → Operates result → run core_store g (operate_and_end e n g w (chain_end_fields f)) (midstep_with core (claimed_by f.tally f.place) refs) ≡ run core_store g (either (completed g w f.last) (end_halted g (Some w) (Some f.last)) (operated_end core' refs' f g' put result).value) (operated_end core' refs' f g' put result).mid
+    operation_runs : (result : Result Operated Halt) → Operates result → run core_store g (operate_and_end e n g w (chain_end_fields f)) (midstep_with core (claimed_by f.tally f.place) refs) ≡ run core_store g (either (end_completed g w f.last) (end_halted g (Some w) (Some f.last)) (operated_end core' refs' f g' put result).value) (operated_end core' refs' f g' put result).mid
     operation_runs result o =
-        goes_on (operate e n g (chain_end_fields f)) (completed g w f.last) (end_halted g (Some w) (Some f.last)) (midstep_with core (claimed_by f.tally f.place) refs) (operated_end core' refs' f g' put result) o
+        goes_on (operate e n g (chain_end_fields f)) (end_completed g w f.last) (end_halted g (Some w) (Some f.last)) (midstep_with core (claimed_by f.tally f.place) refs) (operated_end core' refs' f g' put result) o
 
     pub operation_refused : (h : Halt) (end : Ended) → Operates (Err h) → g' ≡ g → end ≡ refused (Some w) (Some f.last) h → EndsFormed g (operate_and_end e n g w (chain_end_fields f)) core f refs core' refs' g' end
     operation_refused h end o same is =
