@@ -2,7 +2,7 @@
 
 ghost use Rattle.std.specs.Prelude.{◌≡◌, ◌+◌, ◌<◌, ◌≤◌, ◌^◌, [], ◌∷◌, ◌++◌, IfOk, IfSome};
 ghost use Rattle.std.specs.Prelude.{length};
-ghost use Rattle.m36_model.specs.Chain.{found};
+ghost use Rattle.m36_model.specs.Chain.{indirect_kind};
 ghost use Rattle.m36_walk.specs.Served.{sdw_in, ok_map};
 ghost use Rattle.m36_ea.specs.Formed.{without_tally, HasTally};
 ghost use Rattle.m36_ea.specs.Points.{found_of_format, FollowsEven, ServesIndirect, ServesOdd, Follows};
@@ -29,10 +29,10 @@ pub(crate) enum Format {
 
 /// The format of the indirect word `w` at this word number. A pair begins only at an even word
 /// number.
-#[tactic(auto, unfolding(m36_model::specs::Chain::found))]
+#[tactic(auto, unfolding(m36_model::specs::Chain::indirect_kind))]
 #[inline(always)]
 pub(crate) fn format_of(word: u32, w: Word) -> Format
-    ensures found { found_of_format result ≡ found word w }
+    ensures found { found_of_format result ≡ indirect_kind word w }
     ensures even { FollowsEven word result }
 {
     if word % 2 != 0 {

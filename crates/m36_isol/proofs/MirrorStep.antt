@@ -15,7 +15,7 @@ use Rattle.m36_model.specs.Act.{Part, Whole, Left, Right, Answer, Act, either}
 use Rattle.m36_model.specs.Modification.{Point, Move, Ends, Fails, Reads, Counts, ends_at, ends_direct, direct_upper, direct_lower, is_direct, here, halt_at, move_of_point, move_register, move_register_then_indirect, move_indirect_then_tally, move_indirect_then_register, modifier_value}
 use Rattle.m36_model.specs.Tally.{indirect_only}
 use Rattle.m36_model.specs.FirstPoint.{first_point}
-use Rattle.m36_model.specs.Chain.{ChainEnd, Formation, IndirectKind, Its, Itp, Plain, found, after_word, after_tally, chain_by, chain_exhausted, chain}
+use Rattle.m36_model.specs.Chain.{ChainEnd, Formation, IndirectKind, Its, Itp, Plain, indirect_kind, after_word, after_tally, chain_by, chain_exhausted, chain}
 use Rattle.m36_model.specs.Results.{OperandFields, EffectFields}
 use Rattle.m36_model.specs.Effect.{exec, is_absa}
 use Rattle.m36_model.specs.WordsPut.{words_written}
@@ -120,7 +120,7 @@ module _ (g : RegsFields) where
   move_asks next h p (Ends last) own = tt
   move_asks next h p (Fails k) own = own
   move_asks next h p (Reads word held) own =
-      (one, (λ f. refl), (λ a. word_asks next h p word held a (found word (slice_index a.words 0))), (λ k x y same. absurd cc))
+      (one, (λ f. refl), (λ a. word_asks next h p word held a (indirect_kind word (slice_index a.words 0))), (λ k x y same. absurd cc))
   move_asks next h p Counts own =
       (one, (λ f. refl), (λ a. tally_asks p (p.tag % 16) a (p.tag % 16 == indirect_only)), (λ k x y same. absurd cc))
 

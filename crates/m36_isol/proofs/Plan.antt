@@ -16,7 +16,7 @@ use Rattle.m36_model.specs.Act as act
 use Rattle.m36_model.specs.Modification.{Point, Move, Ends, Fails, Reads, Counts, at_point, move_of_point}
 use Rattle.m36_model.specs.FirstPoint.{first_point}
 use Rattle.m36_model.specs.Tally.{indirect_only}
-use Rattle.m36_model.specs.Chain.{indirect, ChainEnd, Formation, IndirectKind, Its, Itp, Plain, found, kind_by_tag, after_word, after_tally, chain_by, chain_exhausted, chain}
+use Rattle.m36_model.specs.Chain.{indirect_request, ChainEnd, Formation, IndirectKind, Its, Itp, Plain, indirect_kind, kind_by_tag, after_word, after_tally, chain_by, chain_exhausted, chain}
 use Rattle.m36_model.specs.Transfers.{is_taken}
 use Rattle.m36_model.specs.Effect.{is_absa}
 use Rattle.m36_model.specs.Step.{Performed, Operation, request_at, with_chain_tally, reading_word, changing, addressing, transferring, operate_by_kind, operate_direct, operate_on, operate, Ending, end_halted, end_completed, execute_fetched, operate_and_end, indirect_words, form_and_operate, no_address, execute_admitted, execute_unless_barred, decode, execute_decoded, program}
@@ -134,8 +134,8 @@ field_even : (w : ℕ) (b : Bool) (f : IndirectKind) → (w % 2 == 0) ≡ b → 
 field_even w true f e h = eqb-true (w % 2) 0 e
 field_even w false f e h = absurd (h refl)
 
-pair_even : (w v : ℕ) → found w v ≢ Plain → w % 2 ≡ 0
-unfolding found
+pair_even : (w v : ℕ) → indirect_kind w v ≢ Plain → w % 2 ≡ 0
+unfolding indirect_kind
 pair_even w v h = field_even w (w % 2 == 0) (kind_by_tag (field v 30 6)) refl h
 
 module _ (g : RegsFields) where
@@ -163,7 +163,7 @@ module _ (g : RegsFields) where
       let page : word / 1024 ≡ (word + 1) / 1024 = omega arith in
       same_is (at_point p word) (at_point p (word + 1)) refl page
 
-  odd_plan : (c n k : ℕ) (next : Point → Formation) → PlansOn c next → c + 1 ≤ n → c + 3 ≤ k → (p : Point) (word : ℕ) → word % 2 ≡ 0 → (point : Answer → Point) → PlansChain n k (Some (at_point p word)) (refer (indirect Odd p (word + 1)) (λ b. next (point b)))
+  odd_plan : (c n k : ℕ) (next : Point → Formation) → PlansOn c next → c + 1 ≤ n → c + 3 ≤ k → (p : Point) (word : ℕ) → word % 2 ≡ 0 → (point : Answer → Point) → PlansChain n k (Some (at_point p word)) (refer (indirect_request Odd p (word + 1)) (λ b. next (point b)))
   odd_plan c n k next h x y p word even point =
       (one_in (word + 1), (refl, refl, even), n, k, free _ n (odd_free p word even), omega arith, (λ reply. answered_plan Left n k None (λ b. next (point b)) (λ b. h n k None (point b) x y) (λ why. (omega arith, omega arith)) reply))
 
@@ -185,10 +185,10 @@ module _ (g : RegsFields) where
   move_plan c next h n k last x y p (Ends at) = (omega arith, omega arith)
   move_plan c next h n k last x y p (Fails why) = (omega arith, omega arith)
   move_plan c next h n k last x y p (Reads word held) =
-      let most = cost_more (fresh last (indirect Indirect p word)) (c + 1) in
-      (one_in word, tt, c + 1, c + 3, omega arith, omega arith, (λ reply. answered_plan Left (c + 1) (c + 3) _ _ (λ a. word_plan c (c + 1) (c + 3) next h (omega arith) (omega arith) p word held a (found word (slice_index a.words 0)) (pair_even word (slice_index a.words 0))) (λ why. (omega arith, omega arith)) reply))
+      let most = cost_more (fresh last (indirect_request Indirect p word)) (c + 1) in
+      (one_in word, tt, c + 1, c + 3, omega arith, omega arith, (λ reply. answered_plan Left (c + 1) (c + 3) _ _ (λ a. word_plan c (c + 1) (c + 3) next h (omega arith) (omega arith) p word held a (indirect_kind word (slice_index a.words 0)) (pair_even word (slice_index a.words 0))) (λ why. (omega arith, omega arith)) reply))
   move_plan c next h n k last x y p Counts =
-      let most = cost_more (fresh last (indirect Indirect p p.y)) (c + 1) in
+      let most = cost_more (fresh last (indirect_request Indirect p p.y)) (c + 1) in
       (one_in p.y, tt, c + 1, c + 3, omega arith, omega arith, (λ reply. answered_plan Left (c + 1) (c + 3) _ _ (λ a. tally_plan (c + 1) (c + 3) (omega arith) (omega arith) p (p.tag % 16) a (p.tag % 16 == indirect_only)) (λ why. (omega arith, omega arith)) reply))
 
   chain_plan : (c : ℕ) → PlansOn c (chain c g)

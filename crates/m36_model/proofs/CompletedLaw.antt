@@ -3,7 +3,7 @@ use Rattle.std.proofs.Common.{ℕ, ◌≡◌, refl, sym, ap, ◌∙◌, ◌==◌
 use Rattle.m36_desc.specs.Fields.{SdwFields, DbrFields}
 use Rattle.m36_model.specs.Registers.{RegsFields}
 use Rattle.m36_model.specs.Act.{RequestKind, Fetch, Indirect, Odd, Read, Write, Transfer, Call, Locate, Request, Act, done, ask}
-use Rattle.m36_model.specs.Store.{Spot, Store, Midstep, Served, serve, serve_sdw, serve_rights, serve_places, refusing_violation, places, run, with_reference}
+use Rattle.m36_model.specs.Store.{Spot, Store, Midstep, ServeResult, serve, serve_sdw, serve_rights, serve_places, refusing_violation, spots_of_request, run, with_reference}
 use Rattle.m36_model.specs.Core.{core_store}
 use Rattle.m36_model.specs.Step.{program, start_of_step}
 use Rattle.m36_model.specs.Completed.{completed_by, completed_requests, with_marks_of, references_of, MarksOfCompletedReferences}
@@ -21,7 +21,7 @@ more_references refs [] ys = refl
 more_references refs (x ∷ xs) ys = more_references (with_reference x.kind x refs) xs ys
 
 -- how one request changes the store and the references
-record Does {S : Type 0} (o : Store S) (g : RegsFields) (m : Midstep S) (q : Request) (t : Served S) : Type 0 where
+record Does {S : Type 0} (o : Store S) (g : RegsFields) (m : Midstep S) (q : Request) (t : ServeResult S) : Type 0 where
   marks : t.mid.store ≡ with_marks_of o g.dbr m.store (completed_by q t.reply)
   references : t.mid.refs ≡ references_of m.refs (completed_by q t.reply)
 
@@ -41,7 +41,7 @@ module _ {S : Type 0} (o : Store S) (g : RegsFields) (m : Midstep S) where
   by_rights : (q : Request) (d : SdwFields) (r : Option ℕ) → Does o g m q (serve_rights o g m q d r)
   unfolding with_marks_of references_of
   by_rights q d (Some acv) = record { marks = refl; references = refl }
-  by_rights q d None = by_places q q.kind refl d (places o m.store g.dbr d q)
+  by_rights q d None = by_places q q.kind refl d (spots_of_request o m.store g.dbr d q)
 
   by_sdw : (q : Request) (r : Result SdwFields Refusal) → Does o g m q (serve_sdw o g m q r)
   unfolding with_marks_of references_of

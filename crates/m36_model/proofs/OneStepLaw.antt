@@ -9,7 +9,7 @@ use Rattle.m36_inst.specs.declared.operand.Operand.TheVariants as kind
 use Rattle.m36_model.specs.Fields.{FinalFields}
 use Rattle.m36_model.specs.Registers.{RegsFields}
 use Rattle.m36_model.specs.Act.{Read, Write, Transfer, Call, Locate, Part, Whole, Left, Right, Request, Answer, answered, refer, either}
-use Rattle.m36_model.specs.Store.{Spot, Store, Midstep, Served, ProgramResult, State, run, changes}
+use Rattle.m36_model.specs.Store.{Spot, Store, Midstep, ServeResult, ProgramResult, State, run, changes}
 use Rattle.m36_model.specs.Core.{core_store}
 use Rattle.m36_model.specs.Modification.{here, halt_at}
 use Rattle.m36_model.specs.FirstPoint.{first_point}
@@ -72,8 +72,8 @@ module _ {S : Type 0} (o : Store S) (g : RegsFields) (e : Effect) (n : ℕ) (c :
   referenced : (q : Request) (gives : Answer → OperandFields) → (q.kind ≡ Write → ⊥) → IsReferenced o g q gives m u → Effects → Fits → Performs (run o g (refer q (λ a. perform e n g c Whole 0 (gives a))) m)
   unfolding run
   referenced q gives no_write p h b =
-      let same : u.mid.claims ≡ m.claims = ap (λ (v : Served S). v.mid.claims) (sym p.served) ∙ same_claims o g m q no_write in
-      subst (λ (v : Served S). Performs (run o g (answered (λ a. perform e n g c Whole 0 (gives a)) v.reply) v.mid)) (sym p.served) (without_words u.mid refl same p.nothing (gives p.answer) p.operand h b)
+      let same : u.mid.claims ≡ m.claims = ap (λ (v : ServeResult S). v.mid.claims) (sym p.served) ∙ same_claims o g m q no_write in
+      subst (λ (v : ServeResult S). Performs (run o g (answered (λ a. perform e n g c Whole 0 (gives a)) v.reply) v.mid)) (sym p.served) (without_words u.mid refl same p.nothing (gives p.answer) p.operand h b)
 
   claimed : (m' : Midstep S) → m'.claims ≡ m.claims → (count : ℕ) (part : Part) (got : OperandFields) → IsClaimed o g (request_at Write c count) part got m' u → Effects → Performs (run o g (refer (request_at Write c count) (λ a. perform e n g c part a.first got)) m')
   unfolding run
@@ -87,14 +87,14 @@ module _ {S : Type 0} (o : Store S) (g : RegsFields) (e : Effect) (n : ℕ) (c :
         place = inr (w.first ∙ ap length same);
         gives = done_by part p.answer.first got p.operand h u.mid ∙ (λ i. record { value = Ok (record { regs = x.regs; puts = c.pending ++ parts i; overflow = x.overflow }); mid = u.mid });
       } in
-      subst (λ (v : Served S). Performs (run o g (answered (λ a. perform e n g c part a.first got) v.reply) v.mid)) (sym p.served) all
+      subst (λ (v : ServeResult S). Performs (run o g (answered (λ a. perform e n g c part a.first got) v.reply) v.mid)) (sym p.served) all
 
   changed : (part : Part) → IsReadAndClaimed o g c part m u → Effects → Performs (run o g (refer (request_at Read c 1) (λ a. refer (request_at Write c 1) (λ b. perform e n g c part b.first (words_only a.words)))) m)
   unfolding run
   changed part p h =
       let q = request_at Read c 1 in
-      let same : p.between.claims ≡ m.claims = ap (λ (v : Served S). v.mid.claims) (sym p.read) ∙ same_claims o g m q (λ x. cc) in
-      subst (λ (v : Served S). Performs (run o g (answered (λ a. refer (request_at Write c 1) (λ b. perform e n g c part b.first (words_only a.words))) v.reply) v.mid)) (sym p.read) (claimed p.between same 1 part (words_only p.answer.words) p.write h)
+      let same : p.between.claims ≡ m.claims = ap (λ (v : ServeResult S). v.mid.claims) (sym p.read) ∙ same_claims o g m q (λ x. cc) in
+      subst (λ (v : ServeResult S). Performs (run o g (answered (λ a. refer (request_at Write c 1) (λ b. perform e n g c part b.first (words_only a.words))) v.reply) v.mid)) (sym p.read) (claimed p.between same 1 part (words_only p.answer.words) p.write h)
 
   addresses : (absa : Bool) → IsAddressed o g c absa m u → Effects → Fits → Performs (run o g (addressing e n g c absa) m)
   addresses false p h b = unreferenced no_operand p h b
@@ -147,7 +147,7 @@ module _ {S : Type 0} (o : Store S) (quiet : (x : S) → o.put x [] ≡ x) (s : 
       let got = slice_index f.answer.words 0 in
       let by_word = subst (λ (v : ℕ). Tells (run o s.regs (execute_decoded s.regs v right (decode v)) m)) (sym f.word_is) told in
       let by_right = subst (λ (b : Bool). Tells (run o s.regs (execute_decoded s.regs got b (decode got)) m)) (sym f.right_is) by_word in
-      subst (λ (v : Served S). Tells (run o s.regs (execute_fetched s.regs v.reply) v.mid)) (sym f.served) by_right
+      subst (λ (v : ServeResult S). Tells (run o s.regs (execute_fetched s.regs v.reply) v.mid)) (sym f.served) by_right
 
   on_decoded : (w : ℕ) (right : Bool) (m : Midstep S) → IsFetched o s w right m → (d : Option (Effect × ℕ)) → decode w ≡ d → Tells (run o s.regs (execute_decoded s.regs w right d) m) → Tells (run_of_step o s)
   on_decoded w right m f d known told =
@@ -183,7 +183,7 @@ module _ {S : Type 0} (o : Store S) (quiet : (x : S) → o.put x [] ≡ x) (s : 
   tallies : (w : ℕ) (i : Effect) (n : ℕ) (c : ChainEnd) (m : Midstep S) → IsFormed o s w i n c m → IsTallied c m.claims
   tallies w i n c m f =
       let fetch = f.admitted.fetched in
-      let none : f.before.claims ≡ [] = ap (λ (v : Served S). v.mid.claims) (sym fetch.served) ∙ same_claims o s.regs (start_of_step s) (fetch_request s.regs) (λ x. cc) in
+      let none : f.before.claims ≡ [] = ap (λ (v : ServeResult S). v.mid.claims) (sym fetch.served) ∙ same_claims o s.regs (start_of_step s) (fetch_request s.regs) (λ x. cc) in
       let post = chain_claims o s.regs indirect_words (first_point s.regs (inst_of w)) f.before none in
       subst (λ (r : ProgramResult (Result ChainEnd Halt) S). PostOf r.value r.mid) f.formed post
 
@@ -203,7 +203,7 @@ module _ {S : Type 0} (o : Store S) (quiet : (x : S) → o.put x [] ≡ x) (s : 
   case_tells : StepCase o s e t → Tells (run_of_step o s)
   unfolding program run
   case_tells (fetch_refused f m served l) =
-      subst (λ (v : Served S). Tells (run o s.regs (execute_fetched s.regs v.reply) v.mid)) (sym served) (halts m None None (halt.Fault f) l)
+      subst (λ (v : ServeResult S). Tells (run o s.regs (execute_fetched s.regs v.reply) v.mid)) (sym served) (halts m None None (halt.Fault f) l)
   case_tells (no_instruction w right m f none l) =
       on_decoded w right m f None none (halts m (Some w) None (halt.Stop stop.Operation) l)
   case_tells (privilege_refused w m i n f row privileged l) =

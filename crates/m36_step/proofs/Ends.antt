@@ -11,7 +11,7 @@ use Rattle.m36_inst.specs.declared.operand.Operand.TheVariants as kind
 use Rattle.m36_model.specs.Fields.{FinalFields}
 use Rattle.m36_model.specs.Registers.{RegsFields}
 use Rattle.m36_model.specs.Act.{Fetch, Act, either, otherwise}
-use Rattle.m36_model.specs.Store.{Spot, State, Midstep, Served, ProgramResult, run, changes}
+use Rattle.m36_model.specs.Store.{Spot, State, Midstep, ServeResult, ProgramResult, run, changes}
 use Rattle.m36_model.specs.Core.{core_store, core_put}
 use Rattle.m36_model.specs.Modification.{here}
 use Rattle.m36_model.specs.FirstPoint.{first_point}
@@ -106,12 +106,12 @@ module _ (g : RegsFields) where
     pub fetch_refused : (f : Fault) (g' : RegsFields) (end : Ended) → ServesWord (λ x. x.ppr.prr ≡ g.ppr.prr) Fetch m core' (here g) (Err f) → g' ≡ g → end ≡ refused None None (halt.Fault f) → EndsAs g (program g) m.core refs core' refs g' end
     unfolding program run
     fetch_refused f g' end served stay is =
-        rw (stay, is) (ap (λ (t : Served (List ℕ)). end_of_run (run core_store g (execute_fetched g t.reply) t.mid)) (served g same refl [] refs) ∙ halts None None (halt.Fault f) core' [] refs)
+        rw (stay, is) (ap (λ (t : ServeResult (List ℕ)). end_of_run (run core_store g (execute_fetched g t.reply) t.mid)) (served g same refl [] refs) ∙ halts None None (halt.Fault f) core' [] refs)
 
     pub fetches : (w : ℕ) (privileged : Bool) (refs' : List Reference) (core'' : List ℕ) (refs'' : List Reference) (g' : RegsFields) (end : Ended) → ServesWord (λ x. x.ppr.prr ≡ g.ppr.prr) Fetch m core' (here g) (Ok w) → privileged ≡ has_right (sdw_in m g.ppr.psr) g.ppr.prr → refs' ≡ refs ++ record { kind = reference.Fetch; at = here g; count = 1 } ∷ [] → EndsAs g (execute_decoded g w privileged (decode w)) core' refs' core'' refs'' g' end → EndsAs g (program g) m.core refs core'' refs'' g' end
     unfolding program run
     fetches w privileged refs' core'' refs'' g' end served right one rest =
-        ap (λ (t : Served (List ℕ)). end_of_run (run core_store g (execute_fetched g t.reply) t.mid)) (served g same refl [] refs) ∙ rw (right, one) at rest
+        ap (λ (t : ServeResult (List ℕ)). end_of_run (run core_store g (execute_fetched g t.reply) t.mid)) (served g same refl [] refs) ∙ rw (right, one) at rest
 
 -- The whole step.
 module _ (s : State (List ℕ)) (core : List ℕ) (refs : List Reference) (after : RegsFields) (e : Ended) (ends : EndsAs s.regs (program s.regs) s.store [] core refs after e) where

@@ -9,7 +9,7 @@ use Rattle.m36_desc.specs.declared.access.Acv.{Acv}
 use Rattle.m36_model.specs.Fields.{AtFields}
 use Rattle.m36_model.specs.Registers.{RegsFields}
 use Rattle.m36_model.specs.Act.{Answer, Read, Request}
-use Rattle.m36_model.specs.Store.{Spot, Segment_word, Midstep, violation, is_within_bound, fault_by, refusing_violation, serve_sdw, serve_rights, serve_places, spots_from, serve, place, place_by, place_within, when_ordered, places, spots_of, changes, without_marks, examined_reply}
+use Rattle.m36_model.specs.Store.{Spot, Segment_word, Midstep, violation, is_within_bound, fault_by, refusing_violation, serve_sdw, serve_rights, serve_places, spots_from, serve, place, place_by, place_within, when_ordered, spots_of_request, spots_of, changes, without_marks, examined_reply}
 use Rattle.m36_model.specs.Place.{core_sdw}
 use Rattle.m36_model.specs.Sight.{word_if_placed, content_in}
 use Rattle.m36_model.specs.Flat.{Flat, flat_sdw, flat_put, flat_store}
@@ -67,7 +67,7 @@ module _ (f : Flat) (g : RegsFields) (at : AtFields) where
   placed_by d false = refl
 
   placed_is : (d : SdwFields) → (serve_rights (without_marks flat_store) g first request d None).reply ≡ placed_reply d (is_within_bound d at.word)
-  unfolding places spots_of
+  unfolding spots_of_request spots_of
   placed_is d = refl
 
   placed : (d : SdwFields) (b : Bool) → is_within_bound d at.word ≡ b → AreFound b (serve_rights (without_marks flat_store) g first request d None).reply
