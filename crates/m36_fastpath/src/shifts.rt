@@ -113,10 +113,16 @@ pub fn shift(effect: Effect, regs: &mut Regs, f: &Final)
         Effect::Qrs => load_q(shifted_word(Shift::Right, quotient_register(regs), n), regs),
         Effect::Lrs => load_pair(shifted_pair(Shift::Right, aq_pair(regs), n), regs),
         Effect::Arl => load_a(shifted_word(Shift::RightZero, accumulator(regs), n), regs),
-        Effect::Qrl => load_q(shifted_word(Shift::RightZero, quotient_register(regs), n), regs),
+        Effect::Qrl => load_q(
+            shifted_word(Shift::RightZero, quotient_register(regs), n),
+            regs,
+        ),
         Effect::Lrl => load_pair(shifted_pair(Shift::RightZero, aq_pair(regs), n), regs),
         Effect::Alr => load_a(shifted_word(Shift::Rotate, accumulator(regs), n), regs),
-        Effect::Qlr => load_q(shifted_word(Shift::Rotate, quotient_register(regs), n), regs),
+        Effect::Qlr => load_q(
+            shifted_word(Shift::Rotate, quotient_register(regs), n),
+            regs,
+        ),
         Effect::Llr => load_pair(shifted_pair(Shift::Rotate, aq_pair(regs), n), regs),
         _ => unreachable!(),
     }

@@ -173,7 +173,13 @@ fn check_privilege_and_execute(
 
 /// Decodes and executes the instruction in a word. `privileged` says whether it may be a
 /// privileged one.
-fn decode_and_execute(walk: &mut Walk, regs: &mut Regs, word: Word, privileged: bool, refs: &mut Refs) -> Ended
+fn decode_and_execute(
+    walk: &mut Walk,
+    regs: &mut Regs,
+    word: Word,
+    privileged: bool,
+    refs: &mut Refs,
+) -> Ended
     requires dbr { walk.old.dbr ≡ regs.old.dbr }
     requires room { length refs.old.items ≤ 4 }
     ensures ends { EndsAs regs.old (execute_decoded regs.old word privileged (decode word)) walk.old.core

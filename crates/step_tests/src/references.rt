@@ -131,7 +131,9 @@ fn targets_of_calls(rt: HostRuntime) -> Result<(), NoMemory> {
             psr: 7,
             prr: target.ring,
         };
-        assert!(rt; walk.check_call_target(*target, from) == expected.map_err(|acv| violation(acv, *target)));
+        assert!(rt;
+            walk.check_call_target(*target, from) == expected.map_err(|acv| violation(acv, *target))
+        );
     }
     assert!(rt; walk.check_transfer_target(at(2, 0, 3), 3) == Ok(()));
     assert!(rt; walk.check_transfer_target(at(2, 0, 3), 2) == Err(violation(12, at(2, 0, 3))));
