@@ -3,7 +3,7 @@
 ghost use Rattle.std.specs.Prelude.{ℕ, [], ◌≡◌, ◌++◌, ◌+◌, ◌*◌, ◌<◌, ◌≤◌, Some, None};
 ghost use Rattle.std.specs.Bool.{Decides};
 ghost use Rattle.arrayvec.specs.ArrayVec.{array_vec_len};
-ghost use Rattle.m36_model.specs.JointAudit.{between, findings_of_process};
+ghost use Rattle.m36_model.specs.JointAudit.{joint_finding, findings_of_process};
 ghost use Rattle.m36_audit.specs.Findings.{finding_pairs};
 ghost use Rattle.m36_audit.specs.Joints.{all_found};
 
@@ -76,7 +76,7 @@ pub(crate) fn note_between(
 )
     requires room { array_vec_len findings.old < 50 }
     ensures listed { all_found findings.new.items
-        ≡ all_found findings.old.items ++ between condition found }
+        ≡ all_found findings.old.items ++ joint_finding condition found }
     ensures len { array_vec_len findings.new ≤ array_vec_len findings.old + 1 }
 {
     match found {

@@ -1,6 +1,6 @@
 use Rattle.std.proofs.Common.{refl}
 use Rattle.m36_step.proofs.Ends.{address_refused, address_formed}
-use Rattle.m36_step.proofs.execute.addressed.Goals as goal
+use Rattle.m36_step.proofs.execute.form_address_and_execute.Goals as goal
 
 pub returns-in-Err-clause-ends : goal.returns-in-Err-clause-ends
 returns-in-Err-clause-ends c =
@@ -8,4 +8,4 @@ returns-in-Err-clause-ends c =
 
 pub returns-in-Ok-clause-ends : goal.returns-in-Ok-clause-ends
 returns-in-Ok-clause-ends c =
-    address_formed c.args.regs.now c.args.row.now.effect c.args.row.now.reg c.args.word c.args.inst.now c.requires.inst c.args.walk.now.core c.args.refs.now.items c.form_address.new.walk.core c.form_address.new.refs.items c.in-Ok.formed c.operated.new.walk.core c.operated.new.refs.items c.operated.new.regs c.operated.result (c.in-Ok.ensures {u = tt}).forms c.operated.ensures.ends
+    address_formed c.args.regs.now c.args.row.now.effect c.args.row.now.reg c.args.word c.args.inst.now c.requires.inst c.args.walk.now.core c.args.refs.now.items c.form_address.new.walk.core c.form_address.new.refs.items c.in-Ok.formed c.execute_at_address.new.walk.core c.execute_at_address.new.refs.items c.execute_at_address.new.regs c.execute_at_address.result (c.in-Ok.ensures {u = tt}).forms c.execute_at_address.ensures.ends

@@ -1,6 +1,6 @@
 use Rattle.m36_model.specs.declared.place.Kind.TheVariants as reference
 use Rattle.m36_step.proofs.TallyWords.{counted_on}
-use Rattle.m36_step.proofs.try_quick_step.step_count_after.Goals as goal
+use Rattle.m36_step.proofs.try_quick_step.try_tally_address.Goals as goal
 
 pub returns-in-Read-clause-went : goal.returns-in-Read-clause-went
 returns-in-Read-clause-went g c = λ h.

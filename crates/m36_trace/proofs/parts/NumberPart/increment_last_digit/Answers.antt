@@ -1,6 +1,6 @@
 use Rattle.std.proofs.Common.{refl, arith}
 use Rattle.m36_trace.proofs.Numbers.{counted, few_digits}
-use Rattle.m36_trace.proofs.parts.NumberPart.count.Goals as goal
+use Rattle.m36_trace.proofs.parts.NumberPart.increment_last_digit.Goals as goal
 
 pub invariant_of-self : goal.invariant_of-self
 invariant_of-self c =

@@ -1,6 +1,6 @@
 use Rattle.std.proofs.Common.{◌∙◌}
 use Rattle.m36_step.proofs.Ends.{operation_refused, operation_performed}
-use Rattle.m36_step.proofs.execute.operated.Goals as goal
+use Rattle.m36_step.proofs.execute.execute_at_address.Goals as goal
 
 pub returns-in-Err-clause-ends : goal.returns-in-Err-clause-ends
 returns-in-Err-clause-ends c =
