@@ -7,7 +7,7 @@ use Rattle.alm_parse.specs.declared.fault.AlmFault.{AlmFault}
 use Rattle.alm_parse.specs.Sources.{IsResultOf}
 use Rattle.obj36_parts.specs.declared.section.Section.TheVariants.{Text}
 use Rattle.obj36_parts.specs.PartsFields.{PartsFields}
-use Rattle.obj36_parts.specs.ObjectSegment.{is_newer_version, version_of, evened, head_words, is_well_formed}
+use Rattle.obj36_parts.specs.ObjectSegment.{is_newer_version, version_of, rounded_up_to_even, head_words, is_well_formed}
 use Rattle.obj36_parts.proofs.Formed.{is_formed}
 use Rattle.obj36_parts.proofs.LengthLaws.{length-words_of, least_size}
 use Rattle.alm_lines.specs.Spots.{start, count_in, end_of}
@@ -50,8 +50,8 @@ bound_in_text text tables lines above line others split small =
 links_at_by : (newer : Bool) (ending : LocationCounter) (statics : List ℕ) → ending.uses_outer ≡ newer
     → length statics ≡ padded_static_count newer (count_in (static_section newer) ending)
     → first_link ending ≡ head_words + length (cond (is_newer_version (version_of newer)) [] statics)
-links_at_by true ending statics e n = ap (λ b. cond b head_words (head_words + evened ending.inner)) e
-links_at_by false ending statics e n = ap (λ b. cond b head_words (head_words + evened ending.inner)) e ∙ ap (λ k. head_words + k) (sym n)
+links_at_by true ending statics e n = ap (λ b. cond b head_words (head_words + rounded_up_to_even ending.inner)) e
+links_at_by false ending statics e n = ap (λ b. cond b head_words (head_words + rounded_up_to_even ending.inner)) e ∙ ap (λ k. head_words + k) (sym n)
 
 parts_assemble : (source : Source) → refusal_of source ≡ None → is_well_formed (parts_of source) ≡ true → Assembles source (parts_of source)
 unfolding parts_with tables_of refusal_of

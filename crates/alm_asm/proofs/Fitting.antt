@@ -14,8 +14,8 @@ use Rattle.alm_lines.specs.Symbols.{sum_named}
 use Rattle.alm_lines.specs.Arguments.{name_at, first_arg, second_arg, symbol_in, terms_in, section_in}
 use Rattle.alm_lines.specs.Spots.{start, label_sum_in, here, place, plus_words_in, with_section, size_of, next_spot, next_line_spot, end_of}
 use Rattle.alm_lines.specs.Expressions.{symbol_sum, atom_sum, term_sum, with_terms, sum_of}
-use Rattle.alm_lines.specs.Refusals.{has_value}
-use Rattle.alm_lines.specs.Layout.{value_by, equ_sum, defined_symbol, defined_symbol_sum, symbols_with_defined, symbols_with_labels, symbols_after, symbols_from}
+use Rattle.alm_lines.specs.Values.{has_value}
+use Rattle.alm_lines.specs.Layout.{number_or_unknown, equ_sum, defined_symbol, defined_symbol_sum, symbols_with_defined, symbols_with_labels, symbols_after, symbols_from}
 use Rattle.alm_lines.specs.declared.sum.Sum.{Sum}
 use Rattle.alm_lines.specs.declared.sum.Kind.{Kind}
 use Rattle.alm_lines.specs.declared.sum.Kind.TheVariants.{Absolute, Moved, Inexpressible}
@@ -160,7 +160,7 @@ sum_fits outer text symbols spot terms all h = added_fits outer text symbols spo
 
 -- ---- symbols
 
-value_fits : (outer valued : Bool) (sum : Sum) → Fits outer (value_by valued sum)
+value_fits : (outer valued : Bool) (sum : Sum) → Fits outer (number_or_unknown valued sum)
 value_fits outer true sum none = refl
 value_fits outer false sum none = refl
 

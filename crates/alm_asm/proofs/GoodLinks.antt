@@ -22,7 +22,8 @@ use Rattle.alm_lines.specs.Sums.{half_of}
 use Rattle.alm_lines.specs.Arguments.{name_at, first_arg}
 use Rattle.alm_lines.specs.Spots.{next_line_spot}
 use Rattle.alm_lines.specs.Expressions.{sum_of}
-use Rattle.alm_lines.specs.Refusals.{earlier_refusal, refusal_at, has_value}
+use Rattle.alm_lines.specs.Refusals.{earlier_refusal, refusal_at}
+use Rattle.alm_lines.specs.Values.{has_value}
 use Rattle.alm_asm.specs.Links.{link_kind, link_section, link_name, entry_name, link_of, operand_args, link_of_parts, link_in, with_link, links_after, links_from}
 use Rattle.obj36_parts.specs.Indexes.{same_link}
 use Rattle.alm_asm.specs.Definitions.{definitions_after}

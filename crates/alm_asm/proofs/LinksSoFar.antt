@@ -21,7 +21,8 @@ use Rattle.obj36_parts.specs.Sections.{is_text_section}
 use Rattle.alm_lines.specs.Arguments.{first_arg}
 use Rattle.alm_lines.specs.Spots.{next_line_spot}
 use Rattle.alm_lines.specs.SpotFields.{LocationCounter}
-use Rattle.alm_lines.specs.Refusals.{earlier_refusal, refusal_at, has_value}
+use Rattle.alm_lines.specs.Refusals.{earlier_refusal, refusal_at}
+use Rattle.alm_lines.specs.Values.{has_value}
 use Rattle.alm_lines.specs.declared.sum.Sum.{Sum}
 use Rattle.alm_lines.specs.declared.refusal.AlmCode.TheVariants.{E7}
 use Rattle.alm_lines.specs.declared.refusal.ValueField.TheVariants.{Half}

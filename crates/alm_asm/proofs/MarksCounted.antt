@@ -16,7 +16,8 @@ use Rattle.alm_lines.specs.Arguments.{first_arg, second_arg, terms_in}
 use Rattle.alm_lines.specs.Spots.{next_line_spot}
 use Rattle.alm_lines.specs.SpotFields.{LocationCounter}
 use Rattle.alm_lines.specs.Expressions.{sum_of, expression_place}
-use Rattle.alm_lines.specs.Refusals.{refusal_at, has_value}
+use Rattle.alm_lines.specs.Refusals.{refusal_at}
+use Rattle.alm_lines.specs.Values.{has_value}
 use Rattle.alm_lines.specs.declared.sum.Sum.{Sum}
 use Rattle.alm_lines.specs.declared.sum.Kind.{Kind}
 use Rattle.alm_lines.specs.declared.sum.Kind.TheVariants.{Absolute, Moved, Inexpressible}
@@ -24,7 +25,7 @@ use Rattle.alm_lines.specs.declared.refusal.AlmCode.TheVariants.{E7}
 use Rattle.alm_lines.specs.declared.refusal.ValueField.TheVariants.{Half}
 use Rattle.alm_asm.specs.Relocations.{relocation_of_part, operand_part, operand_kind, operand_relocation, with_line_relocations, relocations_after, relocations_from}
 use Rattle.alm_asm.specs.Definitions.{definitions_after}
-use Rattle.alm_asm.specs.LineRefusals.{refusal_unless, op_place, external_place, internal_operand_field, own_operand, operand_refusal, refusal_of_effect, lines_refusal}
+use Rattle.alm_asm.specs.LineRefusals.{refusal_unless, op_place, external_place, internal_operand_field, internal_operand_refusal, operand_refusal, refusal_of_effect, lines_refusal}
 use Rattle.alm_asm.specs.Assembly.{static_section}
 use Rattle.alm_asm.specs.Growth.{relocation_count, operand_count, half_count, line_relocation_count, growth_after_line}
 use Rattle.alm_asm.specs.declared.growth.Growth.{Growth}
@@ -72,7 +73,7 @@ deed_counted text tables spot line marks deed.Words known none = sym (add-zero (
 deed_counted text tables spot line marks deed.Zero known none =
     let left = terms_in (first_arg line.args) in
     let right = terms_in (second_arg line.args) in
-    let free = sooner_none (own_operand text tables spot line Half left) (own_operand text tables spot line Half right) none in
+    let free = sooner_none (internal_operand_refusal text tables spot line Half left) (internal_operand_refusal text tables spot line Half right) none in
     let a = relocation_of_part spot 0 (kind_of (sum_of text tables.symbols spot left)) in
     let b = relocation_of_part spot 1 (kind_of (sum_of text tables.symbols spot right)) in
     let first : length a ≡ half_count text tables.symbols spot left =

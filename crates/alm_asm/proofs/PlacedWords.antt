@@ -13,7 +13,7 @@ use Rattle.alm_lines.specs.Arguments.{first_arg, symbol_in, section_in}
 use Rattle.alm_lines.specs.Spots.{start, count_in, place, plus_words_in, with_section, size_of, next_spot, next_line_spot, end_of}
 use Rattle.alm_asm.specs.Words.{words_of_effect, words_of_line, words_from}
 use Rattle.obj36_parts.specs.Sections.{same_section}
-use Rattle.alm_asm.specs.Assembly.{bound_after_line, bound_from, evened}
+use Rattle.alm_asm.specs.Assembly.{bound_after_line, bound_from, padded_statics}
 use Rattle.alm_asm.specs.Laws.{can_have_words}
 use Rattle.alm_asm.specs.LineRefusals.{is_static}
 use Rattle.alm_asm.specs.Assembles.{OccursAfter, padded_static_count, enters_static, is_use_static, is_entrybound_effect, is_entrybound, padding_words}
@@ -74,7 +74,7 @@ evened_by : (count : ℕ) (part words : List ℕ) (b : Bool) → OccursAfter cou
 evened_by count part words true at = at
 evened_by count part words false at = more_behind count part words (0 ∷ []) at
 
-pub evened_stands : (newer : Bool) (count : ℕ) (part words : List ℕ) → OccursAfter count part words → OccursAfter count part (evened newer words)
+pub evened_stands : (newer : Bool) (count : ℕ) (part words : List ℕ) → OccursAfter count part words → OccursAfter count part (padded_statics newer words)
 evened_stands true count part words at = at
 evened_stands false count part words at = evened_by count part words (eqb (length words % 2) 0) at
 
@@ -95,14 +95,14 @@ behind_by words false e =
     record { front = words; rest = []; whole = ap (λ n. words ++ replicate n 0) (sym o) ∙ sym (append-nil (words ++ replicate (length words % 2) 0)); place = refl }
 
 -- after the words that lines place comes the evening word, if there is one
-evening_by : (newer : Bool) (words : List ℕ) → OccursAfter (length words) (padding_words newer (length words)) (evened newer words)
+evening_by : (newer : Bool) (words : List ℕ) → OccursAfter (length words) (padding_words newer (length words)) (padded_statics newer words)
 evening_by true words = record { front = words; rest = []; whole = sym (append-nil words) ∙ sym (append-nil (words ++ [])); place = refl }
 evening_by false words = behind_by words (eqb (length words % 2) 0) refl
 
-pub evened_behind : (newer : Bool) (words : List ℕ) (count : ℕ) → length words ≡ count → OccursAfter count (padding_words newer count) (evened newer words)
-evened_behind newer words count e = subst (λ n. OccursAfter n (padding_words newer n) (evened newer words)) e (evening_by newer words)
+pub evened_behind : (newer : Bool) (words : List ℕ) (count : ℕ) → length words ≡ count → OccursAfter count (padding_words newer count) (padded_statics newer words)
+evened_behind newer words count e = subst (λ n. OccursAfter n (padding_words newer n) (padded_statics newer words)) e (evening_by newer words)
 
-pub evened_length : (newer : Bool) (words : List ℕ) → length (evened newer words) ≡ padded_static_count newer (length words)
+pub evened_length : (newer : Bool) (words : List ℕ) → length (padded_statics newer words) ≡ padded_static_count newer (length words)
 evened_length true words = refl
 evened_length false words = evened_length_by words (eqb (length words % 2) 0) refl
 

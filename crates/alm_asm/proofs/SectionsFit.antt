@@ -12,7 +12,7 @@ use Rattle.alm_lines.specs.SpotFields.{LocationCounter}
 use Rattle.alm_lines.specs.Layout.{symbols_from}
 use Rattle.alm_asm.specs.Words.{words_from}
 use Rattle.alm_asm.specs.Growth.{first_growth}
-use Rattle.alm_asm.specs.Assembly.{tables_of, static_section, evened, parts_with, parts_of, refusal_of}
+use Rattle.alm_asm.specs.Assembly.{tables_of, static_section, padded_statics, parts_with, parts_of, refusal_of}
 use Rattle.alm_asm.proofs.Unrefused.{no_layout_refusal, no_lines_refusal, no_growth_refusal}
 use Rattle.alm_asm.proofs.PlaceLaws.{places_count}
 use Rattle.alm_asm.proofs.PlacedWords.{evened_length}
@@ -25,12 +25,12 @@ use Rattle.alm_asm.proofs.CountsFit.{counts_fit}
 
 -- The limit is even, and so is the number of words of the linkage section with the evening word.
 linkage_fits : (newer : Bool) (ending : LocationCounter) (words : List ℕ) (links : ℕ) → count_in (static_section newer) ending ≡ length words → 8 + ending.inner + 2 * links ≤ section_limit
-    → 8 + length (cond (is_newer_version (version_of newer)) [] (evened newer words)) + 2 * links ≤ section_limit
+    → 8 + length (cond (is_newer_version (version_of newer)) [] (padded_statics newer words)) + 2 * links ≤ section_limit
 linkage_fits true ending words links same fits = omega arith
 linkage_fits false ending words links same fits = let even = evened_length false words in omega arith
 
 statics_fit : (newer : Bool) (ending : LocationCounter) (words : List ℕ) → count_in (static_section newer) ending ≡ length words → ending.outer ≤ section_limit
-    → length (cond (is_newer_version (version_of newer)) (evened newer words) []) ≤ section_limit
+    → length (cond (is_newer_version (version_of newer)) (padded_statics newer words) []) ≤ section_limit
 statics_fit true ending words same fits = omega arith
 statics_fit false ending words same fits = omega arith
 

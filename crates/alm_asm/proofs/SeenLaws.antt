@@ -18,9 +18,8 @@ use Rattle.alm_lines.specs.Arguments.{first_arg, terms_in}
 use Rattle.alm_lines.specs.Spots.{next_line_spot}
 use Rattle.alm_lines.specs.SpotFields.{LocationCounter}
 use Rattle.alm_lines.specs.Sums.{zero_sum}
-use Rattle.alm_lines.specs.Values.{value_by, value_of_expression}
+use Rattle.alm_lines.specs.Values.{has_value, value_of_sum, value_of_expression}
 use Rattle.alm_lines.proofs.ValueLaws.{no_terms}
-use Rattle.alm_lines.specs.Refusals.{has_value}
 use Rattle.alm_lines.specs.declared.sum.Sum.{Sum}
 use Rattle.alm_lines.specs.declared.refusal.ValueField.TheVariants.{Half}
 use Rattle.alm_asm.specs.Links.{link_of, operand_args, link_of_parts, link_in, with_link, links_after, links_from, offset_of_link_in}
@@ -111,7 +110,7 @@ none_seen text symbols links spot line e =
     ∙ ap (index_in_links links) (nothing_given text symbols spot line.deed))
 
 pub none_valued : (text : List ℕ) (symbols : List (List ℕ × Sum)) (spot : LocationCounter) (line : Line36) → line.args ≡ []
-    → value_by zero_sum None ≡ value_of_expression text symbols spot (terms_in (first_arg line.args))
+    → value_of_sum zero_sum None ≡ value_of_expression text symbols spot (terms_in (first_arg line.args))
 none_valued text symbols spot line e =
     sym (ap (λ (xs : List Arg). value_of_expression text symbols spot (terms_in (first_arg xs))) e ∙ no_terms text symbols spot)
 

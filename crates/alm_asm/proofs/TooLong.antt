@@ -22,7 +22,7 @@ use Rattle.alm_lines.specs.Layout.{symbols_from}
 use Rattle.alm_asm.specs.Definitions.{definitions_from}
 use Rattle.alm_asm.specs.LineRefusals.{lines_refusal}
 use Rattle.alm_asm.proofs.Unrefused.{no_lines_refusal}
-use Rattle.alm_asm.specs.Assembly.{tables_of, bound_after_line, bound_from, static_section, evened, parts_with, parts_of, refusal_of}
+use Rattle.alm_asm.specs.Assembly.{tables_of, bound_after_line, bound_from, static_section, padded_statics, parts_with, parts_of, refusal_of}
 use Rattle.alm_asm.specs.Laws.{can_have_words, lines_are_named}
 use Rattle.alm_lines.specs.declared.sum.Sum.{Sum}
 use Rattle.alm_lines.specs.SpotFields.{LocationCounter}
@@ -111,7 +111,7 @@ even_by words false e =
     eq-eqb (length (words ++ 0 ∷ []) % 2) 0 (omega arith)
 
 statics_even : (newer : Bool) (words text : List ℕ) (definitions : List Named) (links : List LinkFields) (marks : List RelocFields) (bound : ℕ)
-    → (is_newer (made_of newer text (evened newer words) definitions links marks bound) || eqb (length (evened newer words) % 2) 0) ≡ true
+    → (is_newer (made_of newer text (padded_statics newer words) definitions links marks bound) || eqb (length (padded_statics newer words) % 2) 0) ≡ true
 statics_even true words text definitions links marks bound = refl
 statics_even false words text definitions links marks bound = even_by words (eqb (length words % 2) 0) refl
 
@@ -119,7 +119,7 @@ longer_by : (words : List ℕ) (b : Bool) → length words ≤ length (cond b wo
 longer_by words true = omega arith
 longer_by words false = let e = length-append words (0 ∷ []) in omega arith
 
-evened_longer : (newer : Bool) (words : List ℕ) → length words ≤ length (evened newer words)
+evened_longer : (newer : Bool) (words : List ℕ) → length words ≤ length (padded_statics newer words)
 evened_longer true words = omega arith
 evened_longer false words = longer_by words (eqb (length words % 2) 0)
 
@@ -172,7 +172,7 @@ module _ (text : List ℕ) (tables : Tables) (lines : List Line36) (uses : (end_
   bound = bound_from text 0 start lines
 
   abbrev parts : PartsFields
-  parts = made_of newer words (evened newer statics) definitions tables.links marks bound
+  parts = made_of newer words (padded_statics newer statics) definitions tables.links marks bound
 
   fit : AllFit newer tables.symbols
   fit = subst (λ (b : Bool). AllFit b tables.symbols) uses (subst (λ (s : List (List ℕ × Sum)). AllFit (end_of text start lines).uses_outer s) symbols (symbols_fit text lines))
@@ -180,7 +180,7 @@ module _ (text : List ℕ) (tables : Tables) (lines : List Line36) (uses : (end_
   stand : StandAt text newer start lines
   stand = subst (λ (b : Bool). StandAt text b start lines) uses (start_stands text lines)
 
-  relocations_good : length words + 8 < 2 ^ 18 → length (evened newer statics) + 8 < 2 ^ 18 → Good (room_of newer parts) (word_number (static_section newer) (end_of text start lines)) marks
+  relocations_good : length words + 8 < 2 ^ 18 → length (padded_statics newer statics) + 8 < 2 ^ 18 → Good (room_of newer parts) (word_number (static_section newer) (end_of text start lines)) marks
   relocations_good small few =
       let room = room_of newer parts in
       let begin : Good room (word_number Text start) [] = record { order = none_in_order; all = refl } in
@@ -188,7 +188,7 @@ module _ (text : List ℕ) (tables : Tables) (lines : List Line36) (uses : (end_
       let own : count_in Text (end_of text start lines) ≤ limit Text room = omega arith in
       let after = marks_good room text tables Text [] start lines fit stand refl own small begin in
       let in_statics : count_in (static_section newer) (end_of text start lines) ≡ length statics = places_count text tables (static_section newer) lines (static_holds newer) in
-      let wide = static_room newer words (evened newer statics) definitions tables.links marks bound in
+      let wide = static_room newer words (padded_statics newer statics) definitions tables.links marks bound in
       let longer = evened_longer newer statics in
       let theirs : count_in (static_section newer) (end_of text start lines) ≤ limit (static_section newer) room = omega arith in
       let room_left : limit (static_section newer) room + 8 < 2 ^ 18 = omega arith in
@@ -218,7 +218,7 @@ module _ (text : List ℕ) (tables : Tables) (lines : List Line36) (uses : (end_
   unfolding parts_with
   parts_formed =
       by_size parts (leb (length (words_of parts)) (2 ^ 18)) refl
-      (λ size. formed newer words (evened newer statics) definitions tables.links marks bound size (are_good size))
+      (λ size. formed newer words (padded_statics newer statics) definitions tables.links marks bound size (are_good size))
 
 pub only_too_long : (source : Source) → lines_are_named source.text source.lines ≡ true → refusal_of source ≡ None
     → is_well_formed (parts_of source) ≡ leb (length (words_of (parts_of source))) (2 ^ 18)

@@ -15,8 +15,9 @@ use Rattle.alm_lines.specs.Symbols.{sum_named}
 use Rattle.alm_lines.specs.Arguments.{name_at, second_arg, terms_in}
 use Rattle.alm_lines.specs.Spots.{start, label_sum_in, here, next_line_spot}
 use Rattle.alm_lines.specs.Expressions.{symbol_sum, atom_sum, term_sum, with_terms, sum_of, first_undefined_place, expression_place}
-use Rattle.alm_lines.specs.Refusals.{is_expressible, refusal_unless_expressible, expression_refusal, has_value}
-use Rattle.alm_lines.specs.Layout.{defined_symbol, defined_symbol_refusal, value_by, equ_sum, defined_symbol_sum, own_redefinition, symbols_with_defined, definition_refusal, symbols_with_labels, symbols_after, refusal_after, symbols_from, layout_refusal}
+use Rattle.alm_lines.specs.Refusals.{is_expressible, refusal_unless_expressible, expression_refusal}
+use Rattle.alm_lines.specs.Values.{has_value}
+use Rattle.alm_lines.specs.Layout.{defined_symbol, defined_symbol_refusal, number_or_unknown, equ_sum, defined_symbol_sum, own_redefinition, symbols_with_defined, definition_refusal, symbols_with_labels, symbols_after, refusal_after, symbols_from, layout_refusal}
 use Rattle.alm_lines.specs.SpotFields.{LocationCounter}
 use Rattle.alm_lines.specs.declared.sum.Sum.{Sum}
 use Rattle.alm_lines.specs.declared.refusal.AlmRefusal.{AlmRefusal}
@@ -97,7 +98,7 @@ valued text symbols spot line terms place room may_move all e =
 
 -- ---- symbols
 
-value_known : (b : Bool) (sum : Sum) → b ≡ true → IsKnown (value_by b sum)
+value_known : (b : Bool) (sum : Sum) → b ≡ true → IsKnown (number_or_unknown b sum)
 value_known true sum e = refl
 value_known false sum e = absurd (true≢false (sym e))
 

@@ -15,7 +15,7 @@ use Rattle.obj36_parts.specs.declared.section.Section.TheVariants.{Text}
 use Rattle.obj36_parts.specs.Fields.{LinkFields}
 use Rattle.obj36_parts.specs.PartsFields.{PartsFields}
 use Rattle.obj36_parts.specs.ObjectSegment.{definition_names, are_distinct, are_in_order}
-use Rattle.obj36_parts.specs.ObjectSegment.{version_of, evened, first_link, sections_fit}
+use Rattle.obj36_parts.specs.ObjectSegment.{version_of, rounded_up_to_even, first_link, sections_fit}
 use Rattle.obj36_parts.specs.Indexes.{same_link, has_link}
 use Rattle.alm_lines.specs.Symbols.{sum_named}
 use Rattle.alm_lines.specs.Arguments.{name_at, first_arg, symbol_in, section_in}
@@ -127,7 +127,7 @@ PlacesStatics source parts =
 -- here, it is rounded up to an even number.
 abbrev pub padded_static_count : Bool → ℕ → ℕ
 padded_static_count true n = n
-padded_static_count false n = evened n
+padded_static_count false n = rounded_up_to_even n
 
 -- the words after the n static words that lines place: in version 1 a zero word if n is odd
 abbrev pub padding_words : Bool → ℕ → List ℕ

@@ -11,7 +11,7 @@ use Rattle.obj36_parts.specs.declared.section.Section.TheVariants.{Text, Linkage
 use Rattle.obj36_parts.specs.Fields.{RelocFields}
 use Rattle.obj36_parts.specs.PartsFields.{PartsFields}
 use Rattle.obj36_parts.specs.ObjectSegment.{padded_to_even}
-use Rattle.obj36_parts.specs.ObjectSegment.{evened as even_number, is_well_formed, first_link_in_version}
+use Rattle.obj36_parts.specs.ObjectSegment.{rounded_up_to_even, is_well_formed, first_link_in_version}
 use Rattle.alm_lines.specs.Spots.{start, next_line_spot, end_of}
 use Rattle.alm_lines.specs.Refusals.{fault_of, earlier_refusal}
 use Rattle.alm_lines.specs.Layout.{symbols_from, layout_refusal}
@@ -33,7 +33,7 @@ use Rattle.alm_lines.specs.declared.refusal.AlmRefusal.{AlmRefusal}
 -- The offset of the first link in the linkage section, given the place after the last line. Links
 -- are after the head and the static words there, of which there is an even number.
 abbrev pub first_link : LocationCounter → ℕ
-first_link ending = first_link_in_version ending.uses_outer (even_number ending.inner)
+first_link ending = first_link_in_version ending.uses_outer (rounded_up_to_even ending.inner)
 
 -- the symbols of all lines with their sums, the links, and where the links and the static words are
 unfoldable pub tables_of : List ℕ → List Line36 → Tables
@@ -77,9 +77,9 @@ static_section false = Linkage
 
 -- The static words of the object, given those that lines place. In version 1, which is false here,
 -- a zero word follows an odd number of words.
-abbrev pub evened : Bool → List ℕ → List ℕ
-evened true words = words
-evened false words = padded_to_even words
+abbrev pub padded_statics : Bool → List ℕ → List ℕ
+padded_statics true words = words
+padded_statics false words = padded_to_even words
 
 -- the relocations of lines: those of the text, and then those of the static words
 abbrev pub relocations_of : List ℕ → Tables → List Line36 → List RelocFields
@@ -93,7 +93,7 @@ parts_with text tables lines =
     parts_from_tables tables
     (record {
       text = words_from text tables Text [] start lines;
-      statics = evened tables.uses_outer
+      statics = padded_statics tables.uses_outer
           (words_from text tables (static_section tables.uses_outer) [] start lines);
     })
     (record {

@@ -17,7 +17,8 @@ use Rattle.alm_lines.specs.Sums.{zero_sum, kind_of}
 use Rattle.alm_lines.specs.Symbols.{sum_named, with_symbol}
 use Rattle.alm_lines.specs.Arguments.{name_at, first_arg, second_arg, terms_in}
 use Rattle.alm_lines.specs.Spots.{next_line_spot}
-use Rattle.alm_lines.specs.Refusals.{refusal_at, has_value, is_over_limit}
+use Rattle.alm_lines.specs.Refusals.{refusal_at, is_over_limit}
+use Rattle.alm_lines.specs.Values.{has_value}
 use Rattle.alm_asm.specs.Links.{operand_args, link_in}
 use Rattle.alm_lines.specs.Expressions.{sum_of}
 use Rattle.alm_asm.specs.Relocations.{operand_kind}

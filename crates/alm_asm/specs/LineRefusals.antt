@@ -19,7 +19,8 @@ use Rattle.alm_lines.specs.Arguments.{first_arg, second_arg, symbol_in, terms_in
 use Rattle.alm_lines.specs.Spots.{next_line_spot}
 use Rattle.alm_lines.specs.Expressions.{expression_place}
 use Rattle.alm_lines.specs.Refusals.{earlier_refusal, refusal_at, expression_refusal}
-use Rattle.alm_lines.specs.Refusals.{number_refusal, has_number}
+use Rattle.alm_lines.specs.Refusals.{number_refusal}
+use Rattle.alm_lines.specs.Values.{has_number}
 use Rattle.alm_asm.specs.Links.{link_of, offset_of_link_in}
 use Rattle.alm_asm.specs.Definitions.{defines_entries, definitions_after, definitions_refusal}
 use Rattle.alm_lines.specs.SpotFields.{LocationCounter}
@@ -107,8 +108,8 @@ external_refusal text tables spot line segment entry terms tag =
     (refusal_unless (may_name tables (own_section (slice_of text segment))) at)
 
 -- the refusal of an operand that is an expression, without a segment
-abbrev pub own_operand : List ℕ → Tables → LocationCounter → Line36 → ValueField → List Term → Option AlmRefusal
-own_operand text tables spot line room terms =
+abbrev pub internal_operand_refusal : List ℕ → Tables → LocationCounter → Line36 → ValueField → List Term → Option AlmRefusal
+internal_operand_refusal text tables spot line room terms =
     expression_refusal text tables.symbols spot line terms (expression_place terms) room true
 
 -- the refusal of an operand with these parts: external if it names a segment, and otherwise an
@@ -118,7 +119,7 @@ abbrev pub refusal_of_operand_parts : List ℕ → Tables → LocationCounter �
 refusal_of_operand_parts text tables spot line pr (Some segment) entry terms tag =
     external_refusal text tables spot line segment entry terms tag
 refusal_of_operand_parts text tables spot line pr None entry terms tag =
-    own_operand text tables spot line (internal_operand_field pr) terms
+    internal_operand_refusal text tables spot line (internal_operand_field pr) terms
 
 -- the refusal of the operand of an instruction, if it has one; no other argument is refused here
 abbrev pub operand_refusal : List ℕ → Tables → LocationCounter → Line36 → Option Arg → Option AlmRefusal
@@ -154,8 +155,8 @@ use_refusal text spot line =
 -- the first refusal of the two expressions of a `zero` line
 abbrev pub halves_refusal : List ℕ → Tables → LocationCounter → Line36 → Option AlmRefusal
 halves_refusal text tables spot line =
-    earlier_refusal (own_operand text tables spot line Half (terms_in (first_arg line.args)))
-    (own_operand text tables spot line Half (terms_in (second_arg line.args)))
+    earlier_refusal (internal_operand_refusal text tables spot line Half (terms_in (first_arg line.args)))
+    (internal_operand_refusal text tables spot line Half (terms_in (second_arg line.args)))
 
 -- the refusal of the operation of a line, apart from those of the names and symbols that it defines
 abbrev pub refusal_of_effect : List ℕ → Tables → LocationCounter → Line36 → LineEffect → Option AlmRefusal

@@ -20,7 +20,7 @@ use Rattle.alm_lines.specs.Sums.{half_of}
 use Rattle.alm_lines.specs.Arguments.{name_at, first_arg}
 use Rattle.alm_lines.specs.Spots.{next_line_spot}
 use Rattle.alm_lines.specs.Expressions.{sum_of}
-use Rattle.alm_lines.specs.Refusals.{has_number}
+use Rattle.alm_lines.specs.Values.{has_number}
 use Rattle.alm_lines.specs.declared.sum.Sum.{Sum}
 use Rattle.alm_lines.specs.SpotFields.{LocationCounter}
 use Rattle.alm_parse.specs.declared.deed.LineEffect.{LineEffect}

@@ -346,12 +346,12 @@ fn count_link(
 }
 
 // The number of relocations of an expression: 1 if it has a value and is a place of a section.
-fn relocation_count(evaluated_has_value: bool, kind: Kind) -> u64
-    ensures value { result ≡ relocation_count evaluated_has_value kind }
+fn relocation_count(has_value: bool, kind: Kind) -> u64
+    ensures value { result ≡ relocation_count has_value kind }
     ensures bound { result ≤ 1 }
 {
     match kind {
-        Kind::Moved(_) => evaluated_has_value as u64,
+        Kind::Moved(_) => has_value as u64,
         Kind::Absolute | Kind::Inexpressible => 0,
     }
 }
@@ -488,7 +488,7 @@ fn count_relocations(
 
 // Counts the definitions, the link and the relocations of a line.
 #[tactic(auto, unfolding(crate::specs::Growth::growth_after_line))]
-fn take_line(
+fn count_line(
     text: &[u8],
     symbols: &Symbols,
     links: &Links,
@@ -524,7 +524,7 @@ fn take_line(
 // The refusal of the first line with which one of these sections is too long, given their sizes
 // before the lines.
 #[tactic(auto, using(alm_lines::proofs::Rooms::rooms), unfolding(crate::specs::Growth::growth_refusal))]
-fn take_lines(
+fn find_growth_refusal(
     alloc: Global,
     text: &[u8],
     tables: &Tables,
@@ -555,7 +555,7 @@ fn take_lines(
             more,
             left,
         );
-        take_line(
+        count_line(
             text,
             &tables.symbols,
             &tables.links,
@@ -593,7 +593,7 @@ pub fn growth_refusal(
         r ≡ growth_refusal text.now tables.now.symbols first_growth start lines.now) }
 {
     let mut growth = Growth::start(alloc, tables.symbols.seed());
-    let refused = take_lines(alloc, text, tables, lines, seen, &mut growth);
+    let refused = find_growth_refusal(alloc, text, tables, lines, seen, &mut growth);
     // Dropped explicitly, so that the drop is proved once for its type.
     drop(growth);
     refused

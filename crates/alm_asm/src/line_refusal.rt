@@ -11,7 +11,7 @@ ghost use Rattle.alm_lines.specs.Spots.{start};
 ghost use Rattle.alm_asm.specs.Definitions.{definitions_after};
 ghost use Rattle.alm_asm.specs.LineRefusals.{refusal_unless, op_place, external_place, needs_static};
 ghost use Rattle.alm_asm.specs.LineRefusals.{may_name, internal_operand_field, link_expression};
-ghost use Rattle.alm_asm.specs.LineRefusals.{link_is_in_reach, external_refusal, own_operand};
+ghost use Rattle.alm_asm.specs.LineRefusals.{link_is_in_reach, external_refusal, internal_operand_refusal};
 ghost use Rattle.alm_asm.specs.LineRefusals.{operand_refusal, may_select};
 ghost use Rattle.alm_asm.specs.LineRefusals.{instruction_refusal, use_refusal, halves_refusal};
 ghost use Rattle.alm_asm.specs.LineRefusals.{refusal_of_effect, line_refusal, lines_refusal};
@@ -184,10 +184,10 @@ fn external_refusal(
         value,
     );
     let reached = link_is_in_reach(text, tables, spot, segment, entry, terms, tag, value, place);
-    let definition_of_name = may_name(tables, own_section(text, segment));
+    let named = may_name(tables, own_section(text, segment));
     earlier_refusal(
         earlier_refusal(expression, refusal_unless(reached, at)),
-        refusal_unless(definition_of_name, at),
+        refusal_unless(named, at),
     )
 }
 
@@ -202,7 +202,7 @@ fn refusal_of_internal_operand(
     value: Value,
 ) -> Option<AlmRefusal>
     requires { value ≡ value_of_expression text.now tables.now.symbols spot terms.now }
-    ensures { result ≡ own_operand text.now tables.now spot line.now room terms.now }
+    ensures { result ≡ internal_operand_refusal text.now tables.now spot line.now room terms.now }
 {
     let wanted = Requirement {
         place: expression_place(terms) as u64,
@@ -375,7 +375,7 @@ fn refusal_of_effect(
 
 // The refusal of a line with these values, if it is refused. Adds its definitions to `done`.
 #[tactic(auto, unfolding(crate::specs::LineRefusals::line_refusal))]
-fn take_line(
+fn line_refusal(
     text: &[u8],
     tables: &Tables,
     spot: LocationCounter,
@@ -401,7 +401,7 @@ fn take_line(
 
 // The first refusal of a line. `done` has the definitions of the lines above.
 #[tactic(auto, using(alm_lines::proofs::Rooms::rooms), unfolding(crate::specs::LineRefusals::lines_refusal))]
-fn take_lines(
+fn first_line_refusal(
     alloc: Global,
     text: &[u8],
     tables: &Tables,
@@ -428,7 +428,7 @@ fn take_lines(
             more,
             left,
         );
-        if let Some(refusal) = take_line(text, tables, spot, line, &seen, done)? {
+        if let Some(refusal) = line_refusal(text, tables, spot, line, &seen, done)? {
             return Ok(Some(refusal));
         }
         spot = next_line_spot(alloc, text, spot, line)?;
@@ -453,7 +453,7 @@ pub fn lines_refusal(
         r ≡ lines_refusal text.now tables.now [] start lines.now) }
 {
     let mut done = Defs::new(alloc, tables.symbols.seed());
-    let refused = take_lines(alloc, text, tables, lines, seen, &mut done);
+    let refused = first_line_refusal(alloc, text, tables, lines, seen, &mut done);
     // Dropped explicitly, so that the drop is proved once for its type.
     drop(done);
     refused

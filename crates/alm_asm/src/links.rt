@@ -22,7 +22,7 @@ use alm_parse::{Arg, Line36, LineEffect, Span, Term, own_section};
 use m36_text::Name;
 use m36_word::NoMemory;
 use obj36::{Link, Links, Section};
-use obj36_parts::sections::number;
+use obj36_parts::sections::section_number;
 
 // The type of a link: to a section of the object itself (1, or 5 with an entry) or to another
 // segment (3, or 4 with an entry).
@@ -148,7 +148,7 @@ fn link_in(
 pub fn same_section(a: Section, b: Section) -> bool
     ensures { result ≡ same_section a b }
 {
-    number(a) == number(b)
+    section_number(a) == section_number(b)
 }
 
 // Adds a link, unless the list has it. Returns the index of the link.
@@ -156,7 +156,7 @@ fn add_link(links: &mut Links, link: Link) -> Result<u64, NoMemory>
     ensures links { OnOk result (links.new ≡ with_link links.old (Option.Some link)) }
     ensures place { IfOk result (λ place. position (same_link link) links.new ≡ Option.Some place) }
 {
-    if let Some(place) = links.place(&link) {
+    if let Some(place) = links.index_of(&link) {
         return Ok(place);
     }
     let place = links.items().len() as u64;
@@ -230,6 +230,6 @@ pub fn offset_of_link(first: Count, place: Option<u64>) -> u128
 pub fn offset_of_link_in(links: &Links, first: Count, link: &Link) -> u128
     ensures { result ≡ offset_of_link_in links.now first link.now }
 {
-    let index = links.place(link).unwrap_or(0) as u128;
+    let index = links.index_of(link).unwrap_or(0) as u128;
     first.value() + 2 * index
 }

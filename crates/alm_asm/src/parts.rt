@@ -7,7 +7,7 @@ ghost use Rattle.obj36_parts.specs.declared.section.Section.TheVariants.{Text};
 ghost use Rattle.alm_asm.specs.Words.{words_from};
 ghost use Rattle.alm_asm.specs.Definitions.{definitions_from};
 ghost use Rattle.alm_asm.specs.Parts.{parts_from_tables};
-ghost use Rattle.alm_asm.specs.Assembly.{bound_after_line, bound_from, static_section, relocations_of, evened, parts_with};
+ghost use Rattle.alm_asm.specs.Assembly.{bound_after_line, bound_from, static_section, relocations_of, padded_statics, parts_with};
 
 use crate::definitions::definitions_of;
 use crate::relocations::push_relocations_in;
@@ -74,7 +74,7 @@ fn static_section(uses_outer: bool) -> Section
 
 // In version 1 adds a zero word to an odd number of static words.
 fn pad_statics(uses_outer: bool, words: &mut Words) -> Result<(), NoMemory>
-    ensures { OnOk result (words.new ≡ evened uses_outer words.old) }
+    ensures { OnOk result (words.new ≡ padded_statics uses_outer words.old) }
 {
     if uses_outer {
         return Ok(());
@@ -95,7 +95,7 @@ fn statics_of(
         ≡ values_from text.now tables.now.symbols tables.now.links start lines.now }
     ensures { IfOk result (λ words.
         words
-        ≡ evened tables.now.uses_outer
+        ≡ padded_statics tables.now.uses_outer
         (words_from text.now tables.now (static_section tables.now.uses_outer) [] start
         lines.now)) }
 {
@@ -147,7 +147,7 @@ fn placed_words(
         placed.text ≡ words_from text.now tables.now Text [] start lines.now) }
     ensures statics { IfOk result (λ placed.
         placed.statics
-        ≡ evened tables.now.uses_outer
+        ≡ padded_statics tables.now.uses_outer
         (words_from text.now tables.now (static_section tables.now.uses_outer) [] start
         lines.now)) }
 {

@@ -156,7 +156,7 @@ fn push_relocations(
 
 // Adds the relocations of a line, if it is in this section.
 #[tactic(auto, unfolding(crate::specs::Relocations::relocations_after))]
-fn take_line(
+fn push_line_relocations(
     text: &[u8],
     symbols: &Symbols,
     section: Section,
@@ -206,7 +206,7 @@ pub fn push_relocations_in(
             more,
             left,
         );
-        take_line(
+        push_line_relocations(
             text,
             &tables.symbols,
             section,

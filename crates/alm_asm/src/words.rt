@@ -130,7 +130,7 @@ fn external_inst(
 
 // The instruction with an operand that is an expression.
 #[tactic(auto, unfolding(alm_lines::specs::Values::value_of_expression))]
-fn own_operand(
+fn internal_operand_instruction(
     _text: &[u8],
     _tables: &Tables,
     _spot: LocationCounter,
@@ -183,7 +183,9 @@ fn instruction_of_arg(
                 Some(segment) => external_inst(
                     text, tables, spot, operation, *segment, *entry, terms, *tag, value, place,
                 ),
-                None => own_operand(text, tables, spot, operation, *pr, terms, *tag, value),
+                None => internal_operand_instruction(
+                    text, tables, spot, operation, *pr, terms, *tag, value,
+                ),
             }
         }
         _ => address_instruction(operation, 0, 0),
@@ -279,7 +281,7 @@ fn push_words(
 
 // Adds the words of a line, if it is in this section.
 #[tactic(auto, unfolding(crate::specs::Words::words_of_line))]
-fn take_line(
+fn push_line_words(
     alloc: Global,
     text: &[u8],
     tables: &Tables,
@@ -338,7 +340,7 @@ pub fn words_in(
             more,
             left,
         );
-        take_line(alloc, text, tables, section, spot, line, &seen, &mut words)?;
+        push_line_words(alloc, text, tables, section, spot, line, &seen, &mut words)?;
         spot = next_line_spot(alloc, text, spot, line)?;
         rest = more;
         left = later;

@@ -5,7 +5,8 @@ use Rattle.alm_tokens.specs.declared.expression.Term.{Term}
 use Rattle.alm_lines.specs.Sums.{zero_sum, sum_plus, kind_of, IsAtMost, IsTerm}
 use Rattle.alm_lines.specs.Expressions.{sum_of, first_undefined_place}
 use Rattle.alm_lines.specs.Layout.{number_sum}
-use Rattle.alm_lines.specs.Refusals.{fits_field, is_kind_allowed, is_expressible, has_value}
+use Rattle.alm_lines.specs.Refusals.{fits_field, is_kind_allowed, is_expressible}
+use Rattle.alm_lines.specs.Values.{has_value}
 use Rattle.alm_lines.specs.declared.sum.Sum.{Sum}
 use Rattle.alm_lines.specs.SpotFields.{LocationCounter}
 use Rattle.alm_lines.specs.declared.refusal.ValueField.TheVariants.{Half}

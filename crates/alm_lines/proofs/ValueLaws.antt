@@ -5,8 +5,8 @@ use Rattle.alm_tokens.specs.declared.expression.Term.{Term}
 use Rattle.alm_parse.specs.declared.line.Line36.{Line36}
 use Rattle.alm_lines.specs.Sums.{zero_sum, sum_plus, half_of, offset_of, kind_of}
 use Rattle.alm_lines.specs.Expressions.{with_terms, sum_of, term_sum, is_defined, is_symbol_atom, is_undefined, first_undefined_place}
-use Rattle.alm_lines.specs.Refusals.{has_value, is_expressible, expression_refusal}
-use Rattle.alm_lines.specs.Values.{value_by, value_of_expression, is_usable_value, evaluated_refusal}
+use Rattle.alm_lines.specs.Refusals.{is_expressible, expression_refusal}
+use Rattle.alm_lines.specs.Values.{has_value, value_of_sum, value_of_expression, is_usable_value, evaluated_refusal}
 use Rattle.alm_lines.specs.declared.sum.Sum.{Sum}
 use Rattle.alm_lines.specs.declared.sum.Kind.TheVariants.{Absolute}
 use Rattle.alm_lines.specs.declared.refusal.ValueField.{ValueField}
@@ -77,10 +77,10 @@ kind_given text symbols spot terms value e = ap (λ (v : ValueFields). v.kind) e
 
 pub no_value_is : (value : ValueFields)
     → value ≡ record { half = 0; undefined = None; offset = 0; kind = Absolute; fits_half = true; fits_offset = true; unknown = false }
-    → value ≡ value_by zero_sum None
+    → value ≡ value_of_sum zero_sum None
 unfolding half_of offset_of kind_of
 no_value_is value e = e
 
-pub no_terms : (text : List ℕ) (symbols : List (List ℕ × Sum)) (spot : LocationCounter) → value_of_expression text symbols spot [] ≡ value_by zero_sum None
+pub no_terms : (text : List ℕ) (symbols : List (List ℕ × Sum)) (spot : LocationCounter) → value_of_expression text symbols spot [] ≡ value_of_sum zero_sum None
 unfolding value_of_expression with_terms first_undefined_place
 no_terms text symbols spot = refl

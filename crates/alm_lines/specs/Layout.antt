@@ -9,7 +9,8 @@ use Rattle.alm_lines.specs.Sums.{zero_balance, unknown_sum, normalized}
 use Rattle.alm_lines.specs.Symbols.{with_symbol}
 use Rattle.alm_lines.specs.Arguments.{name_at, first_arg, second_arg, symbol_in, terms_in}
 use Rattle.alm_lines.specs.Spots.{count, here, next_line_spot}
-use Rattle.alm_lines.specs.Refusals.{earlier_refusal, refusal_at, number_refusal, has_number}
+use Rattle.alm_lines.specs.Refusals.{earlier_refusal, refusal_at, number_refusal}
+use Rattle.alm_lines.specs.Values.{has_number}
 use Rattle.alm_lines.specs.Refusals.{is_over_limit}
 use Rattle.alm_lines.specs.declared.sum.Sum.{Sum}
 use Rattle.alm_lines.specs.SpotFields.{LocationCounter}
@@ -90,15 +91,15 @@ number_sum sum =
 
 -- the sum of the symbol of an `equ`: the number of its expression, if this has one, which the first
 -- argument says, and otherwise unknown
-abbrev pub value_by : Bool → Sum → Sum
-value_by true sum = number_sum sum
-value_by false sum = unknown_sum
+abbrev pub number_or_unknown : Bool → Sum → Sum
+number_or_unknown true sum = number_sum sum
+number_or_unknown false sum = unknown_sum
 
 -- the sum of the symbol of an `equ`: the number of its expression, unknown if it is refused or
 -- depends on an unknown one
 unfoldable pub equ_sum : List ℕ → List (List ℕ × Sum) → LocationCounter → Line36 → Sum
 equ_sum text symbols spot line =
-    value_by (has_number text symbols spot (terms_in (second_arg line.args)))
+    number_or_unknown (has_number text symbols spot (terms_in (second_arg line.args)))
     (sum_of text symbols spot (terms_in (second_arg line.args)))
 
 -- the sum of the symbol that an operation defines: the number of an `equ`, or the place of the line

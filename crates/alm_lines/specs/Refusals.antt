@@ -1,6 +1,6 @@
 -- Refusals: their order in the text, and how an expression is refused.
-use Rattle.std.specs.Prelude.{ℕ, ◌-◌, ◌%◌, ◌^◌, Bool, true, false, not, ◌&&◌, ◌||◌, nat_eq}
-use Rattle.std.specs.Prelude.{nat_lt, is_some, List, Option, Some, None, if◌then◌else◌}
+use Rattle.std.specs.Prelude.{ℕ, ◌-◌, ◌%◌, ◌^◌, Bool, true, false, ◌&&◌, ◌||◌, nat_eq}
+use Rattle.std.specs.Prelude.{nat_lt, List, Option, Some, None, if◌then◌else◌}
 use Rattle.m36_word.specs.Field.{offset_limit}
 use Rattle.obj36_parts.specs.ObjectSegment.{section_limit}
 use Rattle.alm_tokens.specs.declared.expression.Term.{Term}
@@ -95,23 +95,12 @@ expression_refusal text symbols spot line terms place room may_move =
     refusal_unless_expressible line (first_undefined_place text symbols terms) place
     (sum.unknown || is_expressible room may_move sum)
 
--- Whether an expression has a value: it is not refused, and it does not depend on a refused `equ`.
-unfoldable pub has_value : List ℕ → List (List ℕ × Sum) → LocationCounter → List Term → ValueField → Bool → Bool
-has_value text symbols spot terms room may_move =
-    let sum = sum_of text symbols spot terms in
-    not (is_some (first_undefined_place text symbols terms)) && not sum.unknown
-    && is_expressible room may_move sum
-
 -- The refusal of an expression that must be a number that fits half a word, and not a place of a
 -- section: that of an `equ`, and one after an external name.
 abbrev pub number_refusal : List ℕ → List (List ℕ × Sum) → LocationCounter → Line36 → List Term → ℕ
     → Option AlmRefusal
 number_refusal text symbols spot line terms place =
     expression_refusal text symbols spot line terms place Half false
-
--- whether an expression has a value and is a number that fits half a word
-abbrev pub has_number : List ℕ → List (List ℕ × Sum) → LocationCounter → List Term → Bool
-has_number text symbols spot terms = has_value text symbols spot terms Half false
 
 -- ---- lengths
 

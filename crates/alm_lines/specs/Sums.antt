@@ -22,8 +22,8 @@ abbrev pub balance_plus : Balance → Balance → Balance
 balance_plus a b = record { up = a.up + b.up; down = a.down + b.down }
 
 -- the negative of an integer
-abbrev pub turned : Balance → Balance
-turned b = record { up = b.down; down = b.up }
+abbrev pub negated : Balance → Balance
+negated b = record { up = b.down; down = b.up }
 
 -- whether the integer is 0
 abbrev pub is_zero : Balance → Bool
@@ -89,10 +89,10 @@ sum_plus a b =
 unfoldable pub negated_sum : Sum → Sum
 negated_sum a =
     record {
-      value = turned a.value;
-      text = turned a.text;
-      inner = turned a.inner;
-      outer = turned a.outer;
+      value = negated a.value;
+      text = negated a.text;
+      inner = negated a.inner;
+      outer = negated a.outer;
       unknown = a.unknown;
     }
 

@@ -43,7 +43,7 @@ fn term_sum(text: &[u8], symbols: &Symbols, spot: LocationCounter, term: Term) -
     ensures small { IsTerm result }
 {
     let sum = atom_sum(text, symbols, spot, term.span, term.what);
-    if term.minus { sum.turned() } else { sum }
+    if term.minus { sum.negated() } else { sum }
 }
 
 /// The sum of an expression. A symbol that is not defined counts as 0.

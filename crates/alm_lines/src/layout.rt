@@ -9,7 +9,7 @@ ghost use Rattle.alm_lines.specs.Spots.{start, next_line_spot, end_of, HasRoomFo
 ghost use Rattle.alm_lines.specs.Refusals.{earlier_refusal, fits_field};
 ghost use Rattle.alm_lines.specs.declared.refusal.ValueField.TheVariants.{Half};
 ghost use Rattle.alm_lines.specs.Layout.{redefinition, with_labels, labels_refusal, defined_symbol};
-ghost use Rattle.alm_lines.specs.Layout.{defined_symbol_refusal, equ_refusal, number_sum, value_by, equ_sum};
+ghost use Rattle.alm_lines.specs.Layout.{defined_symbol_refusal, equ_refusal, number_sum, number_or_unknown, equ_sum};
 ghost use Rattle.alm_lines.specs.Layout.{defined_symbol_sum, with_defined_symbol, own_redefinition, symbols_with_defined, definition_refusal};
 ghost use Rattle.alm_lines.specs.Layout.{over_limit_refusal, symbols_after, refusal_after, symbols_from};
 ghost use Rattle.alm_lines.specs.Layout.{layout_refusal};
@@ -17,12 +17,13 @@ ghost use Rattle.alm_lines.specs.Layout.{layout_refusal};
 use crate::arguments::{first_symbol, name_at, second_terms};
 use crate::expression::{expression_place, is_defined, sum_of};
 use crate::refusal::{
-    AlmCode, AlmRefusal, Requirement, ValueField, earlier_refusal, expression_refusal, has_value,
+    AlmCode, AlmRefusal, Requirement, ValueField, earlier_refusal, expression_refusal,
     is_over_limit, refusal_at,
 };
 use crate::spot::{LocationCounter, next_line_spot};
 use crate::sum::{NOTHING, Sum, unknown};
 use crate::symbols::Symbols;
+use crate::value::has_value;
 use alm_parse::{Arg, Line36, LineEffect, Span};
 use m36_text::HashSeed;
 use m36_word::NoMemory;

@@ -3,7 +3,7 @@
 ghost use Rattle.std.specs.Prelude.{ℕ, Bool, ◌≡◌, ◌-◌, ◌+◌, ◌%◌, ◌^◌, ◌≤◌, List, length, Option};
 ghost use Rattle.alm_lines.specs.Refusals.{code_number, precedes, earlier_refusal, refusal_at, column_of};
 ghost use Rattle.alm_lines.specs.Refusals.{fault_by, fault_of, fits_field, is_kind_allowed, is_expressible};
-ghost use Rattle.alm_lines.specs.Refusals.{refusal_unless_expressible, expression_refusal, has_value};
+ghost use Rattle.alm_lines.specs.Refusals.{refusal_unless_expressible, expression_refusal};
 ghost use Rattle.alm_lines.specs.Refusals.{is_over_limit};
 
 use crate::expression::{first_undefined_place, sum_of};
@@ -205,25 +205,6 @@ pub fn expression_refusal(
         wanted.place,
         said,
     )
-}
-
-/// Whether an expression has a value: it is not refused, and it does not depend on a refused `equ`.
-#[tactic(auto, unfolding(crate::specs::Refusals::has_value))]
-pub fn has_value(
-    text: &[u8],
-    symbols: &Symbols,
-    spot: LocationCounter,
-    terms: &[Term],
-    room: ValueField,
-    may_move: bool,
-) -> bool
-    requires { length terms.now ≤ 2 ^ 32 }
-    ensures { result ≡ has_value text.now symbols.now spot terms.now room may_move }
-{
-    let sum = sum_of(text, symbols, spot, terms);
-    first_undefined_place(text, symbols, terms).is_none()
-        && !sum.unknown
-        && is_expressible(room, may_move, sum)
 }
 
 /// Whether this many words are too many for a section of an object.

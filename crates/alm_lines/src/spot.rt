@@ -61,7 +61,7 @@ impl Model for LocationCounter {
 const ONCE: Balance = Balance { up: 1, down: 0 };
 
 // A number as an integer.
-fn up(place: u128) -> Balance
+fn natural_as_integer(place: u128) -> Balance
     ensures { result ≡ balance place 0 }
 {
     Balance { up: place, down: 0 }
@@ -117,14 +117,14 @@ impl LocationCounter {
         let section = self.section;
         match section {
             Section::Text => Sum {
-                value: up(self.text),
+                value: natural_as_integer(self.text),
                 text: ONCE,
                 inner: NOTHING,
                 outer: NOTHING,
                 unknown: false,
             },
             Section::Linkage => Sum {
-                value: up(self.inner + HEAD_WORDS as u128),
+                value: natural_as_integer(self.inner + HEAD_WORDS as u128),
                 text: NOTHING,
                 inner: ONCE,
                 outer: NOTHING,
@@ -132,7 +132,7 @@ impl LocationCounter {
             },
             Section::Symbol => absolute(0),
             Section::Static => Sum {
-                value: up(self.outer),
+                value: natural_as_integer(self.outer),
                 text: NOTHING,
                 inner: NOTHING,
                 outer: ONCE,

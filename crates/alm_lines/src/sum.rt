@@ -1,7 +1,7 @@
 //! Sums of terms: numbers, and how often each section counts in them.
 
 ghost use Rattle.std.specs.Prelude.{ℕ, ◌≡◌, ◌+◌, ◌-◌, ◌%◌, ◌≤◌, ◌<◌, ◌^◌, ◌&&◌};
-ghost use Rattle.alm_lines.specs.Sums.{balance_plus, turned, is_zero, is_one, is_within, half_of};
+ghost use Rattle.alm_lines.specs.Sums.{balance_plus, negated, is_zero, is_one, is_within, half_of};
 ghost use Rattle.alm_lines.specs.Sums.{offset_of, normalized, absolute, unknown_sum, sum_plus};
 ghost use Rattle.alm_lines.specs.Sums.{negated_sum, kind_of, IsAtMost, IsTerm};
 
@@ -52,8 +52,8 @@ impl Balance {
     }
 
     /// The negated number.
-    pub fn turned(self) -> Balance
-        ensures { result ≡ turned self }
+    pub fn negated(self) -> Balance
+        ensures { result ≡ negated self }
     {
         Balance {
             up: self.down,
@@ -171,16 +171,16 @@ impl Sum {
 
     /// The negated sum.
     #[tactic(auto, unfolding(crate::specs::Sums::negated_sum))]
-    pub fn turned(self) -> Sum
+    pub fn negated(self) -> Sum
         requires { IsTerm self }
         ensures value { result ≡ negated_sum self }
         ensures small { IsTerm result }
     {
         Sum {
-            value: self.value.turned(),
-            text: self.text.turned(),
-            inner: self.inner.turned(),
-            outer: self.outer.turned(),
+            value: self.value.negated(),
+            text: self.text.negated(),
+            inner: self.inner.negated(),
+            outer: self.outer.negated(),
             unknown: self.unknown,
         }
     }

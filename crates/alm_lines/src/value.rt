@@ -3,16 +3,17 @@
 ghost use Rattle.std.specs.Prelude.{ℕ, [], ◌∷◌, ◌≡◌, ◌^◌, ◌<◌, ◌≤◌, length, Some, None};
 ghost use Rattle.std.specs.Prelude.{if◌then◌else◌};
 ghost use Rattle.alm_lines.specs.Sums.{kind_of, zero_sum, IsTerm};
-ghost use Rattle.alm_lines.specs.Refusals.{has_value, expression_refusal};
+ghost use Rattle.alm_lines.specs.Refusals.{expression_refusal};
 ghost use Rattle.alm_lines.specs.Expressions.{symbol_sum, atom_sum, sum_of};
 ghost use Rattle.alm_lines.specs.Expressions.{is_defined, first_undefined_place};
-ghost use Rattle.alm_lines.specs.Values.{value_by, value_of_expression, fits, value_is_expressible, is_usable_value};
+ghost use Rattle.alm_lines.specs.Values.{has_value, value_of_sum, value_of_expression, fits_value_field, value_is_expressible, is_usable_value};
 ghost use Rattle.alm_lines.specs.Values.{evaluated_refusal};
 
 use crate::arguments::name_at;
 use crate::expression::{first_undefined_place, sum_of};
 use crate::refusal::{
-    AlmRefusal, Requirement, ValueField, fits_field, is_kind_allowed, refusal_unless_expressible,
+    AlmRefusal, Requirement, ValueField, fits_field, is_expressible, is_kind_allowed,
+    refusal_unless_expressible,
 };
 use crate::spot::LocationCounter;
 use crate::sum::{Kind, Sum, absolute};
@@ -66,8 +67,8 @@ impl Model for Value {
 }
 
 // The value of a sum. `undefined` is the index in the text of the first symbol that is not defined.
-fn value_by(sum: Sum, undefined: Option<u32>) -> Value
-    ensures { result ≡ value_by sum undefined }
+fn value_of_sum(sum: Sum, undefined: Option<u32>) -> Value
+    ensures { result ≡ value_of_sum sum undefined }
 {
     Value {
         half: sum.value.half() as u32,
@@ -146,7 +147,7 @@ fn term_sum_and_undefined(
     let atom = atom_sum_and_undefined(text, symbols, spot, term);
     SumAndUndefined {
         sum: if term.minus {
-            atom.sum.turned()
+            atom.sum.negated()
         } else {
             atom.sum
         },
@@ -182,13 +183,13 @@ pub fn evaluate(text: &[u8], symbols: &Symbols, spot: LocationCounter, terms: &[
     ensures { result ≡ value_of_expression text.now symbols.now spot terms.now }
 {
     let sought = sum_and_undefined(text, symbols, spot, terms);
-    value_by(sought.sum, sought.undefined)
+    value_of_sum(sought.sum, sought.undefined)
 }
 
 /// The value of an expression without terms.
 #[tactic(auto, using(crate::proofs::ValueLaws::no_value_is))]
 pub fn empty_expression_value() -> Value
-    ensures { result ≡ value_by zero_sum None }
+    ensures { result ≡ value_of_sum zero_sum None }
 {
     Value {
         half: 0,
@@ -202,8 +203,8 @@ pub fn empty_expression_value() -> Value
 }
 
 // Whether a value fits a field.
-fn fits(room: ValueField, value: Value) -> bool
-    ensures { result ≡ fits room value }
+fn fits_value_field(room: ValueField, value: Value) -> bool
+    ensures { result ≡ fits_value_field room value }
 {
     match room {
         ValueField::Half => value.fits_half,
@@ -215,7 +216,7 @@ fn fits(room: ValueField, value: Value) -> bool
 fn value_is_expressible(room: ValueField, may_move: bool, value: Value) -> bool
     ensures { result ≡ value_is_expressible room may_move value }
 {
-    fits(room, value) && is_kind_allowed(may_move, value.kind)
+    fits_value_field(room, value) && is_kind_allowed(may_move, value.kind)
 }
 
 // Whether an expression with this value is not refused, and does not depend on a refused `equ`.
@@ -223,6 +224,25 @@ fn is_usable_value(room: ValueField, may_move: bool, value: Value) -> bool
     ensures { result ≡ is_usable_value room may_move value }
 {
     value.undefined.is_none() && !value.unknown && value_is_expressible(room, may_move, value)
+}
+
+/// Whether an expression has a value: it is not refused, and it does not depend on a refused `equ`.
+#[tactic(auto, unfolding(crate::specs::Values::has_value))]
+pub fn has_value(
+    text: &[u8],
+    symbols: &Symbols,
+    spot: LocationCounter,
+    terms: &[Term],
+    room: ValueField,
+    may_move: bool,
+) -> bool
+    requires { length terms.now ≤ 2 ^ 32 }
+    ensures { result ≡ has_value text.now symbols.now spot terms.now room may_move }
+{
+    let sum = sum_of(text, symbols, spot, terms);
+    first_undefined_place(text, symbols, terms).is_none()
+        && !sum.unknown
+        && is_expressible(room, may_move, sum)
 }
 
 /// As `has_value`, if `value` is what `evaluate` returned for the expression: whether it is not

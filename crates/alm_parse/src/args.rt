@@ -83,7 +83,7 @@ impl Args {
 }
 
 // The list with one more argument.
-fn with(mut args: Args, arg: Arg) -> Result<Args, NoMemory>
+fn args_with_one_more(mut args: Args, arg: Arg) -> Result<Args, NoMemory>
     ensures { IfOk result (λ more. more ≡ args ++ arg ∷ []) }
 {
     match args.push(arg) {
@@ -97,11 +97,11 @@ fn with(mut args: Args, arg: Arg) -> Result<Args, NoMemory>
 }
 
 // A list of one argument, with memory for exactly `room` arguments.
-fn begun(alloc: Global, room: usize, arg: Arg) -> Result<Args, NoMemory>
+fn args_with_first(alloc: Global, room: usize, arg: Arg) -> Result<Args, NoMemory>
     ensures { IfOk result (λ args. args ≡ arg ∷ []) }
 {
     match Args::with_room(alloc, room) {
-        Ok(args) => with(args, arg),
+        Ok(args) => args_with_one_more(args, arg),
         Err(fault) => {
             drop(arg);
             Err(fault)
@@ -113,15 +113,15 @@ fn begun(alloc: Global, room: usize, arg: Arg) -> Result<Args, NoMemory>
 pub fn one_arg(alloc: Global, arg: Arg) -> Result<Args, NoMemory>
     ensures { IfOk result (λ args. args ≡ arg ∷ []) }
 {
-    begun(alloc, 1, arg)
+    args_with_first(alloc, 1, arg)
 }
 
 /// A list of two arguments. Fails only with `NoMemory`.
 pub fn two_args(alloc: Global, first: Arg, second: Arg) -> Result<Args, NoMemory>
     ensures { IfOk result (λ args. args ≡ first ∷ second ∷ []) }
 {
-    match begun(alloc, 2, first) {
-        Ok(args) => with(args, second),
+    match args_with_first(alloc, 2, first) {
+        Ok(args) => args_with_one_more(args, second),
         Err(fault) => {
             drop(second);
             Err(fault)

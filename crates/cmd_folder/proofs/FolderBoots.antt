@@ -5,7 +5,7 @@ use Rattle.m36_boot.specs.declared.fault.BootFault.{BootFault}
 use Rattle.m36_boot.specs.declared.fault.BootFault.TheVariants as boot
 use Rattle.m36_super.specs.Library.{Library}
 use Rattle.m36_super.specs.SuperFields.{SuperFields}
-use Rattle.m36_super.specs.declared.coming.NextEvent.TheVariants.{Step}
+use Rattle.m36_super.specs.declared.next_event.NextEvent.TheVariants.{Step}
 use Rattle.m36_super.specs.BootResult.{IsBooted}
 use Rattle.m36_super.proofs.BootTurns.{start_lib, start_next}
 use Rattle.m36_status.specs.declared.refusal.Refusal.{Refusal}
@@ -43,7 +43,7 @@ pub booted_fresh : (lib : Library) (s : SuperFields) → IsBooted lib s → IsFr
 booted_fresh lib s is = subst (λ (l : Library). IsBooted l s) (sym (start_lib lib s is)) is
 
 -- its next turn is a step
-pub fresh_next : (s : SuperFields) → IsFresh s → s.coming ≡ Step
+pub fresh_next : (s : SuperFields) → IsFresh s → s.next_event ≡ Step
 fresh_next s fresh = start_next s.lib s fresh
 
 pub ruleset booting = (booted_given, booted_not, booted_fresh)

@@ -11,7 +11,7 @@ use Rattle.m36_isol.proofs.Findings.{findings_law}
 use Rattle.m36_world.specs.declared.event.Event.{Event}
 use Rattle.m36_step.specs.declared.turns.Turn.{Turn}
 use Rattle.m36_super.specs.Library.{Library}
-use Rattle.m36_super.specs.declared.coming.NextEvent.TheVariants.{Step}
+use Rattle.m36_super.specs.declared.next_event.NextEvent.TheVariants.{Step}
 use Rattle.m36_super.specs.BootedRun.{Booted}
 use Rattle.m36_super.specs.SuperFields.{SuperFields, booted_of}
 use Rattle.m36_super.proofs.BootTurns.{start_next}
@@ -42,7 +42,7 @@ use Rattle.cmd_image.specs.Needs.{MayRun}
 use Rattle.cmd_image.proofs.PutEnds.{whole_ends, none_ends, starts_longer, none_starts}
 use Rattle.cmd_folder.specs.FolderLaw.{OneIsPrefix}
 use Rattle.cmd_folder.specs.Needs.{EndsWithDis, RunNeeds, SystemNeeds, FolderNeeds}
-use Rattle.cmd_folder.specs.OnFolder.{audit_and_run, audit_and_run_if, command_after_audit, running, on_folder}
+use Rattle.cmd_folder.specs.OnFolder.{audit_and_run, audit_and_run_if, command_after_audit, run_of_folder, on_folder}
 use Rattle.cmd_folder.specs.IsBootedRun.{FinishesAs, StopsAs}
 use Rattle.cmd_folder.specs.RunProgram.{RunContext, run_from}
 use Rattle.cmd_folder.proofs.FolderFound.{Found, folder_found}
@@ -65,8 +65,8 @@ starved_ends result is end =
 none_by :
     (system : SuperFields) (findings : List (ℕ × ℕ)) (unaudited : Bool) → AreFindings system.core booted_dbr findings
     → MayRun (IsAudited system.core booted_dbr) unaudited → (findings ≡ []) ⊎ (unaudited ≡ true)
-none_by system findings unaudited found (inl audit_system) =
-    inl (findings_law.complete system.core booted_dbr findings audit_system found)
+none_by system findings unaudited found (inl audited) =
+    inl (findings_law.complete system.core booted_dbr findings audited found)
 none_by system findings unaudited found (inr un) = inr un
 
 runs_by :
@@ -100,7 +100,7 @@ ran_done (Some how) lib limit first turns last unput result needs goes finishes 
 split_done :
     (run : RunContext) (limit : ℕ) (first : Booted) (findings : List (ℕ × ℕ)) (events : List Event)
     (result : Result (Unit {0}) Status)
-    → first.coming ≡ Step → EndsWithDis run.lib limit first
+    → first.next_event ≡ Step → EndsWithDis run.lib limit first
     → PutsSplit (audit_pieces findings) (run_from run 0 limit first) events result → IsEnd result → result ≡ Ok tt
 split_done run limit first findings events result next needs (inl on) end =
     let ran = run_is run limit first on.more result next on.goes in
@@ -111,24 +111,24 @@ run_done :
     (run : FolderRun) (to : RunOutput) (given : FolderFields) (system : SuperFields) (findings : List (ℕ × ℕ))
     (events : List Event)
     (result : Result (Unit {0}) Status)
-    → (booted_of system).coming ≡ Step → AreFindings system.core booted_dbr findings → RunNeeds run given.lib system
-    → Goes (audit_and_run_if (is_run_allowed findings run.unaudited) (running given to) run.steps
+    → (booted_of system).next_event ≡ Step → AreFindings system.core booted_dbr findings → RunNeeds run given.lib system
+    → Goes (audit_and_run_if (is_run_allowed findings run.unaudited) (run_of_folder given to) run.steps
     (booted_of system) findings) events result
     → IsEnd result → result ≡ Ok tt
 unfolding audit_and_run
 run_done run to given system findings events result next found needs goes end =
-    let ran : Goes (audit_and_run_if true (running given to) run.steps (booted_of system) findings) events result =
-    subst (λ b. Goes (audit_and_run_if b (running given to) run.steps (booted_of system) findings) events result)
+    let ran : Goes (audit_and_run_if true (run_of_folder given to) run.steps (booted_of system) findings) events result =
+    subst (λ b. Goes (audit_and_run_if b (run_of_folder given to) run.steps (booted_of system) findings) events result)
     (runs_by findings run.unaudited (none_by system findings run.unaudited found needs.0)) goes in
-    split_done (running given to) run.steps (booted_of system) findings events result next needs.1
-    (puts_split (audit_pieces findings) (run_from (running given to) 0 run.steps (booted_of system)) events
+    split_done (run_of_folder given to) run.steps (booted_of system) findings events result next needs.1
+    (puts_split (audit_pieces findings) (run_from (run_of_folder given to) 0 run.steps (booted_of system)) events
     result ran) end
 
 command_done :
     (command : FolderCommand) (given : FolderFields) (system : SuperFields) (findings : List (ℕ × ℕ))
     (events : List Event)
     (result : Result (Unit {0}) Status)
-    → (booted_of system).coming ≡ Step → AreFindings system.core booted_dbr findings
+    → (booted_of system).next_event ≡ Step → AreFindings system.core booted_dbr findings
     → SystemNeeds command given.lib system
     → Goes (command_after_audit command given (booted_of system) findings) events result → IsEnd result → result ≡ Ok tt
 command_done Audit given system findings events result next found needs goes end =
@@ -188,9 +188,9 @@ command_agrees :
     → Goes (command_after_audit command given first findings) events result → OneIsPrefix (audit_pieces findings) (pieces_of events)
 command_agrees Audit given first findings events result goes = audit_agrees findings events result goes
 command_agrees (Run run) given first findings events result goes =
-    by_agrees (is_run_allowed findings run.unaudited) (running given output.Console) run.steps first findings events result goes
+    by_agrees (is_run_allowed findings run.unaudited) (run_of_folder given output.Console) run.steps first findings events result goes
 command_agrees (Trace run) given first findings events result goes =
-    by_agrees (is_run_allowed findings run.unaudited) (running given output.Trace) run.steps first findings events result goes
+    by_agrees (is_run_allowed findings run.unaudited) (run_of_folder given output.Trace) run.steps first findings events result goes
 
 yes_none :
     (findings : List (ℕ × ℕ)) (pieces : List (List ℕ)) → OneIsPrefix (audit_pieces findings) pieces

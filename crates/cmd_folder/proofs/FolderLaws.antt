@@ -20,7 +20,7 @@ use Rattle.m36_super.specs.BootedRun.{Booted}
 use Rattle.m36_super.specs.SuperFields.{SuperFields, booted_of}
 use Rattle.m36_super.specs.TurnLaws.{IsPlainTurn}
 use Rattle.m36_super.specs.BootResult.{IsBooted}
-use Rattle.m36_super.specs.declared.coming.NextEvent.TheVariants.{Step}
+use Rattle.m36_super.specs.declared.next_event.NextEvent.TheVariants.{Step}
 use Rattle.m36_super.proofs.BootTurns.{start_next}
 use Rattle.m36_status.specs.declared.status.Status.{Status}
 use Rattle.m36_status.specs.declared.status.Status.TheVariants.{NoMemory}
@@ -61,7 +61,7 @@ use Rattle.cmd_folder.specs.FolderLaw.{run_command, is_unaudited, IsPrefix, OneI
 use Rattle.cmd_folder.specs.FolderLaw.{whole_status, HasTextOf, FolderLaw}
 use Rattle.cmd_folder.specs.FolderProgram.{folder_given, folder_program}
 use Rattle.cmd_folder.specs.Needs.{OneEndsWithDis}
-use Rattle.cmd_folder.specs.OnFolder.{AreFolderFindings, audit_and_run, audit_and_run_if, command_after_audit, running, on_system}
+use Rattle.cmd_folder.specs.OnFolder.{AreFolderFindings, audit_and_run, audit_and_run_if, command_after_audit, run_of_folder, on_system}
 use Rattle.cmd_folder.specs.OnFolder.{on_folder}
 use Rattle.cmd_folder.specs.RunProgram.{RunContext, finish_may_end, run_from}
 use Rattle.cmd_folder.proofs.FolderEnds.{unput_ends, starved_ends}
@@ -178,17 +178,17 @@ failed_end :
     (command_after_audit command given (booted_of system) findings)
 failed_end Audit given system findings fails is = audit_end findings
 failed_end (Run run) given system findings fails is =
-    unrun_end (passes findings || run.unaudited) (running given output.Console) run.steps (booted_of system) findings
+    unrun_end (passes findings || run.unaudited) (run_of_folder given output.Console) run.steps (booted_of system) findings
     (ap (λ (b : Bool). b || run.unaudited) fails ∙ is)
 failed_end (Trace run) given system findings fails is =
-    unrun_end (passes findings || run.unaudited) (running given output.Trace) run.steps (booted_of system) findings
+    unrun_end (passes findings || run.unaudited) (run_of_folder given output.Trace) run.steps (booted_of system) findings
     (ap (λ (b : Bool). b || run.unaudited) fails ∙ is)
 
 -- a run that finishes
 ran_end :
     (is : Bool) (run : RunContext) (steps : ℕ) (first : Booted) (findings : List (ℕ × ℕ)) (turns : List Turn)
     (last : Booted) (how : Finish)
-    → first.coming ≡ Step → runs.Goes run.lib steps first turns last → Finishes how run.lib steps turns last
+    → first.next_event ≡ Step → runs.Goes run.lib steps first turns last → Finishes how run.lib steps turns last
     → SomeEnd (audit_and_run_if is run steps first findings)
 unfolding audit_and_run
 ran_end false run steps first findings turns last how next goes finishes = audit_end findings
@@ -205,14 +205,14 @@ command_end :
     (to : RunOutput) (run : FolderRun) (given : FolderFields) (system : SuperFields) (findings : List (ℕ × ℕ))
     (turns : List Turn)
     (last : Booted) (how : Finish)
-    → (booted_of system).coming ≡ Step → runs.Goes given.lib run.steps (booted_of system) turns last
+    → (booted_of system).next_event ≡ Step → runs.Goes given.lib run.steps (booted_of system) turns last
     → Finishes how given.lib run.steps turns last
     → SomeEnd (command_after_audit (run_command to run) given (booted_of system) findings)
 command_end output.Console run given system findings turns last how next goes finishes =
-    ran_end (is_run_allowed findings run.unaudited) (running given output.Console) run.steps
+    ran_end (is_run_allowed findings run.unaudited) (run_of_folder given output.Console) run.steps
     (booted_of system) findings turns last how next goes finishes
 command_end output.Trace run given system findings turns last how next goes finishes =
-    ran_end (is_run_allowed findings run.unaudited) (running given output.Trace) run.steps
+    ran_end (is_run_allowed findings run.unaudited) (run_of_folder given output.Trace) run.steps
     (booted_of system) findings turns last how next goes finishes
 
 -- ---- the one text of plain turns
@@ -265,7 +265,7 @@ run_goes :
     (events : List Event)
     (result : Result (Unit {0}) Status)
     → Goes (command_after_audit (run_command to run) given first findings) events result
-    → Goes (audit_and_run_if (is_run_allowed findings run.unaudited) (running given to) run.steps first findings) events result
+    → Goes (audit_and_run_if (is_run_allowed findings run.unaudited) (run_of_folder given to) run.steps first findings) events result
 run_goes output.Console run given first findings events result goes = goes
 run_goes output.Trace run given first findings events result goes = goes
 
@@ -278,7 +278,7 @@ plain_by :
     → OneIsPrefix (pieces_of events) (plain_pieces to findings turns)
 plain_by run to given findings turns last events result plain (inl goes) =
     run_by_agrees (is_run_allowed findings run.unaudited)
-    (running given to) run.steps plain.system findings turns last events result plain.booted
+    (run_of_folder given to) run.steps plain.system findings turns last events result plain.booted
     plain.goes plain.plain (run_goes to run given (booted_of plain.system) findings events result goes)
 plain_by run to given findings turns last events result plain (inr none) =
     inl (record {
@@ -374,7 +374,7 @@ text_by :
     → HasTextOf run to given findings turns how events result
 text_by run to given findings turns last how events result plain finishes (inl goes) =
     run_by_text (is_run_allowed findings run.unaudited)
-    (running given to) run.steps plain.system findings turns last how events result plain.booted
+    (run_of_folder given to) run.steps plain.system findings turns last how events result plain.booted
     plain.goes finishes plain.plain (run_goes to run given (booted_of plain.system) findings events result goes)
 text_by run to given findings turns last how events result plain finishes (inr none) =
     let is = is_run_allowed findings run.unaudited in

@@ -4,10 +4,10 @@ use Rattle.std.specs.Prelude.{unwrap_or}
 use Rattle.m36_model.specs.Fields.{AtFields}
 use Rattle.m36_model.specs.BootedCore.{descriptor_words}
 use Rattle.m36_model.specs.Residence.{flat_of}
-use Rattle.m36_dir.specs.Catalog.{CatalogFields, found}
+use Rattle.m36_dir.specs.Catalog.{CatalogFields, find_segment}
 use Rattle.m36_link.specs.Fields.{KnownFields, SnapFields}
 use Rattle.m36_link.specs.Known.{nothing_known, segment_of}
-use Rattle.m36_link.specs.Search.{found_in, candidates, search_result}
+use Rattle.m36_link.specs.Search.{find_in_directory, candidates, search_result}
 use Rattle.m36_link.specs.Snap.{outer_target, target_of_link, outer_snap, snap_of}
 use Rattle.m36_link.specs.Accepted.{known_after}
 use Rattle.m36_boot.specs.declared.fault.BootFault.{BootFault}
@@ -17,8 +17,8 @@ use Rattle.m36_boot.specs.Start.{start_answer, start_segment, start_regs}
 use Rattle.m36_boot.specs.Refusals.{StartAnswer, first_or, start_of, boot_answer}
 use Rattle.m36_boot.specs.Image.{booted_word, booted_content, words_from, booted_flat, paged_of}
 use Rattle.m36_super.specs.Library.{Library}
-use Rattle.m36_super.specs.declared.coming.NextEvent.{NextEvent}
-use Rattle.m36_super.specs.declared.coming.NextEvent.TheVariants.{Step, Link, Print, Over}
+use Rattle.m36_super.specs.declared.next_event.NextEvent.{NextEvent}
+use Rattle.m36_super.specs.declared.next_event.NextEvent.TheVariants.{Step, Link, Print, Over}
 use Rattle.m36_super.specs.FlatRun.{FlatRun, flat_link_turn, flat_turn_by, flat_turn}
 use Rattle.m36_super.specs.SuperFields.{SuperFields, booted_of}
 use Rattle.m36_super.specs.BootedRun.{flat_run_of}
@@ -34,10 +34,10 @@ framed catalog n = record catalog { frames = n }
 same_snap :
     (known : KnownFields) (catalog : CatalogFields) (files : List (List ℕ)) (n : ℕ) (at : AtFields)
     → snap_of known catalog files at ≡ snap_of known (framed catalog n) files at
-unfolding snap_of target_of_link outer_target search_result candidates found_in found segment_of
+unfolding snap_of target_of_link outer_target search_result candidates find_in_directory find_segment segment_of
 same_snap known catalog files n at = refl
 
-alike_by : (coming : NextEvent) (lib : Library) (n : ℕ) (r : FlatRun) → flat_turn_by coming lib r ≡ flat_turn_by coming (with_frames lib n) r
+alike_by : (next_event : NextEvent) (lib : Library) (n : ℕ) (r : FlatRun) → flat_turn_by next_event lib r ≡ flat_turn_by next_event (with_frames lib n) r
 alike_by Step lib n r = refl
 alike_by (Link at) lib n r = ap (λ a. flat_link_turn a r at) (same_snap r.known lib.catalog lib.files n at)
 alike_by Print lib n r = refl
@@ -45,7 +45,7 @@ alike_by (Over e) lib n r = refl
 
 pub frames_alike : (lib : Library) (n : ℕ) → AreAlike lib (with_frames lib n)
 unfolding flat_turn
-frames_alike lib n r = alike_by r.coming lib n r
+frames_alike lib n r = alike_by r.next_event lib n r
 
 -- ---- what is booted
 
@@ -75,7 +75,7 @@ same_flat catalog files s n =
     }
 
 same_start : (catalog : CatalogFields) (files : List (List ℕ)) (n : ℕ) → start_of catalog files ≡ start_of (framed catalog n) files
-unfolding start_of start_answer start_segment outer_snap outer_target search_result candidates found_in found segment_of
+unfolding start_of start_answer start_segment outer_snap outer_target search_result candidates find_in_directory find_segment segment_of
 same_start catalog files n = refl
 
 started_by : (few : Bool) (gate : Option BootFault) (start : StartAnswer) (s : SnapFields) → (if few then Err fault.U1 else first_or gate start) ≡ Ok s → start ≡ Ok s
@@ -104,7 +104,7 @@ booted_alike lib n system other a b =
     let same : flat_run_of (booted_of (system_at_start lib a.image)) ≡ flat_run_of (booted_of (system_at_start (with_frames lib n) b.image)) = λ i. record {
       state = record { regs = regs i; store = store i };
       known = known_after nothing_known (snap i);
-      coming = Step;
+      next_event = Step;
       loaded = false;
     } in
     ap (λ (s : SuperFields). flat_run_of (booted_of s)) a.system ∙ same ∙ sym (ap (λ (s : SuperFields). flat_run_of (booted_of s)) b.system)

@@ -9,8 +9,8 @@ use Rattle.m36_model.specs.declared.record.StepRecord.{StepRecord}
 use Rattle.m36_step.specs.declared.turns.Turn.{Turn}
 use Rattle.m36_step.specs.declared.turns.Turn.TheVariants.{Stepped, Linked, Console, Ended, Full, NoMemory}
 use Rattle.m36_super.specs.Library.{Library}
-use Rattle.m36_super.specs.declared.coming.NextEvent.{NextEvent}
-use Rattle.m36_super.specs.declared.coming.NextEvent.TheVariants.{Step, Link, Print, Over}
+use Rattle.m36_super.specs.declared.next_event.NextEvent.{NextEvent}
+use Rattle.m36_super.specs.declared.next_event.NextEvent.TheVariants.{Step, Link, Print, Over}
 use Rattle.m36_super.specs.FlatRun.{FlatRun, FlatTurn, flat_step_turn, flat_turn_by, flat_turn}
 use Rattle.m36_super.specs.BootedRun.{Booted, IsTurn, AreTurns, LaidOutUntilLdbr, flat_run_of}
 use Rattle.m36_super.specs.TurnLaws.{TurnExecutesAbsa, IsFlatTurn, IsPlainTurn}
@@ -82,17 +82,17 @@ plain_like turn other flat is plain (inr h) = absurd (not_located turn (subst Tu
 
 -- If a step is next, the flat turn is a step.
 steps_next :
-    (coming : NextEvent) (lib : Library) (r : FlatRun) → coming ≡ Step
-    → (e : StepRecord) × ((flat_turn_by coming lib r).turn ≡ Stepped e)
+    (next_event : NextEvent) (lib : Library) (r : FlatRun) → next_event ≡ Step
+    → (e : StepRecord) × ((flat_turn_by next_event lib r).turn ≡ Stepped e)
 unfolding flat_step_turn
 steps_next Step lib r is = (record_of flat_store r.state, refl)
 steps_next (Link at) lib r is = absurd (cc)
 steps_next Print lib r is = absurd (cc)
 steps_next (Over e) lib r is = absurd (cc)
 
-next_is : (lib : Library) (r : FlatRun) → r.coming ≡ Step → (e : StepRecord) × ((flat_turn lib r).turn ≡ Stepped e)
+next_is : (lib : Library) (r : FlatRun) → r.next_event ≡ Step → (e : StepRecord) × ((flat_turn lib r).turn ≡ Stepped e)
 unfolding flat_turn
-next_is lib r is = steps_next r.coming lib r is
+next_is lib r is = steps_next r.next_event lib r is
 
 -- A turn that reports an end is the flat turn.
 end_told :
@@ -116,7 +116,7 @@ next_alike lib other r s alike look = alike (flat_run_of r) ∙ ap (flat_turn ot
 -- A run of `taken` steps finishes so.
 abbrev Ends : Finish → Library → ℕ → ℕ → Booted → Type 0
 Ends (finish.Over e) lib limit taken last = (after : Booted) × IsTurn lib last (Ended e) after
-Ends finish.Limit lib limit taken last = (taken ≡ limit) × (last.coming ≡ Step)
+Ends finish.Limit lib limit taken last = (taken ≡ limit) × (last.next_event ≡ Step)
 
 finished :
     (how : Finish) (lib : Library) (limit : ℕ) (turns : List Turn) (last : Booted) → Finishes how lib limit turns last

@@ -10,7 +10,7 @@ use Rattle.m36_link.specs.Fields.{SnapFields}
 use Rattle.m36_link.specs.Known.{nothing_known}
 use Rattle.m36_link.specs.Accepted.{known_after}
 use Rattle.m36_super.specs.Library.{Library}
-use Rattle.m36_super.specs.declared.coming.NextEvent.TheVariants.{Step}
+use Rattle.m36_super.specs.declared.next_event.NextEvent.TheVariants.{Step}
 use Rattle.m36_super.specs.SuperFields.{SuperFields}
 use Rattle.m36_super.specs.BootResult.{IsBooted, system_at_start}
 
@@ -40,7 +40,7 @@ one_system lib s t a b =
       core = core i;
       pager = pager i;
       known = known_after nothing_known (snap i);
-      coming = Step;
+      next_event = Step;
       loaded = false;
     } in
     a.system ∙ same ∙ sym b.system

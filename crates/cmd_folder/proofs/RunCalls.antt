@@ -10,9 +10,9 @@ use Rattle.m36_link.specs.Snap.{snap_of}
 use Rattle.m36_step.specs.declared.turns.Turn.{Turn}
 use Rattle.m36_step.specs.declared.turns.Turn.TheVariants as turn
 use Rattle.m36_super.specs.Library.{Library}
-use Rattle.m36_super.specs.declared.coming.NextEvent.{NextEvent}
-use Rattle.m36_super.specs.declared.coming.NextEvent.TheVariants.{Step, Link, Print}
-use Rattle.m36_super.specs.declared.coming.NextEvent.TheVariants as coming
+use Rattle.m36_super.specs.declared.next_event.NextEvent.{NextEvent}
+use Rattle.m36_super.specs.declared.next_event.NextEvent.TheVariants.{Step, Link, Print}
+use Rattle.m36_super.specs.declared.next_event.NextEvent.TheVariants as next_event
 use Rattle.m36_super.specs.BootedRun.{Booted, IsTurnBy, IsTurn, AreTurns}
 use Rattle.m36_super.specs.SuperTurn.{IsNoService}
 use Rattle.m36_program.specs.Early.{result_of_status}
@@ -82,7 +82,7 @@ record Left (lib : Library) (left : ℕ) (b : Booted) (turns : List Turn) (last 
 abbrev RunWrites : RunContext → ℕ → ℕ → Type 0
 RunWrites run taken left =
     (b : Booted) (turns : List Turn) (last : Booted) (how : Finish)
-    → b.coming ≡ Step → Left run.lib left b turns last how
+    → b.next_event ≡ Step → Left run.lib left b turns last how
     → Writes (run_from run taken left b) (written run taken turns (Some how)) how
 
 finishes_rest :
@@ -121,13 +121,13 @@ none_made lib left b last how run = run.goes.turns_are
 
 turn_by :
     (lib : Library) (b after : Booted) (told : Turn) (next : NextEvent)
-    → b.coming ≡ next → IsTurn lib b told after → IsTurnBy next lib b told after
+    → b.next_event ≡ next → IsTurn lib b told after → IsTurnBy next lib b told after
 unfolding IsTurn
 turn_by lib b after told next is turns = subst (λ c. IsTurnBy c lib b told after) is turns
 
 -- A run is not over where a step is next.
 not_over :
-    {P : Type 0} (lib : Library) (b after : Booted) (e : End) → b.coming ≡ Step → IsTurn lib b (turn.Ended e) after → P
+    {P : Type 0} (lib : Library) (b after : Booted) (e : End) → b.next_event ≡ Step → IsTurn lib b (turn.Ended e) after → P
 not_over lib b after e next is = absurd (is_step lib b after (turn.Ended e) next is)
 
 -- ---- services
@@ -136,54 +136,54 @@ over_same : (e f : End) → turn.Ended f ≡ turn.Ended e → f ≡ e
 over_same e f is = cc
 
 no_step :
-    {P : Type 0} (b last : Booted) (next : NextEvent) → last ≡ b → b.coming ≡ next → last.coming ≡ Step
+    {P : Type 0} (b last : Booted) (next : NextEvent) → last ≡ b → b.next_event ≡ next → last.next_event ≡ Step
     → (next ≡ Step → P) → P
-no_step b last next here is step on = on (sym is ∙ ap (λ (s : Booted). s.coming) (sym here) ∙ step)
+no_step b last next here is step on = on (sym is ∙ ap (λ (s : Booted). s.next_event) (sym here) ∙ step)
 
 -- The run is over in this state, and so it makes no more turns.
 over_writes :
     (run : RunContext) (taken left : ℕ) (b : Booted) (e : End) (turns : List Turn) (last : Booted) (how : Finish)
-    → b.coming ≡ coming.Over e → Left run.lib left b turns last how
+    → b.next_event ≡ next_event.Over e → Left run.lib left b turns last how
     → Writes (put_run_end run taken (Over e)) (written run taken turns (Some how)) how
 unfolding AreTurns
 over_writes run taken left b e [] last Limit is ran =
-    no_step b last (coming.Over e) (none_made run.lib left b last Limit ran) is ran.finishes.1 (λ next. absurd (cc))
+    no_step b last (next_event.Over e) (none_made run.lib left b last Limit ran) is ran.finishes.1 (λ next. absurd (cc))
 over_writes run taken left b e [] last (Over f) is ran =
     let here = none_made run.lib left b last (Over f) ran in
     let ended : IsTurn run.lib b (turn.Ended f) ran.finishes.0 = subst
     (λ s. IsTurn run.lib s (turn.Ended f) ran.finishes.0) here ran.finishes.1 in
-    let by = turn_by run.lib b ran.finishes.0 (turn.Ended f) (coming.Over e) is ended in
+    let by = turn_by run.lib b ran.finishes.0 (turn.Ended f) (next_event.Over e) is ended in
     subst (λ g. Writes (put_run_end run taken (Over g)) (written run taken [] (Some (Over f))) (Over f))
     (over_same e f by.0)
     (writes_here run taken (Over f))
 over_writes run taken left b e (told ∷ turns) last how is ran =
     let made = ran.goes.turns_are in
-    absurd (subst IsEvent (turn_by run.lib b made.0 told (coming.Over e) is made.1).0 ran.goes.events.0)
+    absurd (subst IsEvent (turn_by run.lib b made.0 told (next_event.Over e) is made.1).0 ran.goes.events.0)
 
 -- what follows a service
 after_writes :
     (next : NextEvent) (run : RunContext) (taken left : ℕ) (b : Booted) (turns : List Turn) (last : Booted) (how : Finish)
-    → RunWrites run taken left → IsNoService next → b.coming ≡ next → Left run.lib left b turns last how
+    → RunWrites run taken left → IsNoService next → b.next_event ≡ next → Left run.lib left b turns last how
     → Writes (after_service next run taken (λ b. run_from run taken left b) b) (written run taken turns (Some how)) how
 after_writes Step run taken left b turns last how on silent is ran = on b turns last how is ran
 after_writes (Link at) run taken left b turns last how on silent is ran = absurd silent
 after_writes Print run taken left b turns last how on silent is ran = absurd silent
-after_writes (coming.Over e) run taken left b turns last how on silent is ran =
+after_writes (next_event.Over e) run taken left b turns last how on silent is ran =
     over_writes run taken left b e turns last how is ran
 
 service_writes :
     (run : RunContext) (taken left : ℕ) (after : Booted) (told : Turn) (turns : List Turn) (last : Booted) (how : Finish)
-    → RunWrites run taken left → turn_step_count told ≡ 0 → IsNoService after.coming → Left run.lib left after turns last how
+    → RunWrites run taken left → turn_step_count told ≡ 0 → IsNoService after.next_event → Left run.lib left after turns last how
     → Writes (puts_all (pieces_of_turn run.output taken told) (continue_after_service run taken (λ b. run_from run taken left b) after))
     (written run taken (told ∷ turns) (Some how)) how
 service_writes run taken left after told turns last how on none quiet ran =
     writes_turn run taken taken told turns (continue_after_service run taken (λ b. run_from run taken left b) after) how
     (omega (arith, none))
-    (after_writes after.coming run taken left after turns last how on quiet refl ran)
+    (after_writes after.next_event run taken left after turns last how on quiet refl ran)
 
 link_writes :
     (run : RunContext) (taken left : ℕ) (b : Booted) (at : AtFields) (turns : List Turn) (last : Booted) (how : Finish)
-    → RunWrites run taken left → b.coming ≡ Link at → Left run.lib left b turns last how
+    → RunWrites run taken left → b.next_event ≡ Link at → Left run.lib left b turns last how
     → Writes (serve_event (Link at) run taken (λ b. run_from run taken left b) b) (written run taken turns (Some how)) how
 unfolding AreTurns mid_of
 link_writes run taken left b at [] last Limit on is ran =
@@ -217,7 +217,7 @@ print_counts told next (inr ended) event = absurd (subst IsEvent ended.1.told_is
 printed_writes :
     (run : RunContext) (taken left : ℕ) (b mid : Booted) (told : Turn) (turns : List Turn) (last : Booted) (how : Finish)
     → RunWrites run taken left → IsTurn run.lib b told mid → IsEvent told → Left run.lib left mid turns last how
-    → PrintMade told mid.coming
+    → PrintMade told mid.next_event
     → Goes (some (IsPossibleTurn run.lib b) (puts_turn run taken (continue_after_service run taken (λ b. run_from run taken left b))))
     (outputs (written run taken (told ∷ turns) (Some how))) (result_of_status (finish_status (Some how)))
 printed_writes run taken left b mid told turns last how on made event rest (inl console_pieces_of_turn) =
@@ -230,7 +230,7 @@ printed_writes run taken left b mid told turns last how on made event rest (inr 
 
 print_writes :
     (run : RunContext) (taken left : ℕ) (b : Booted) (turns : List Turn) (last : Booted) (how : Finish)
-    → RunWrites run taken left → b.coming ≡ Print → Left run.lib left b turns last how
+    → RunWrites run taken left → b.next_event ≡ Print → Left run.lib left b turns last how
     → Writes (serve_event Print run taken (λ b. run_from run taken left b) b) (written run taken turns (Some how)) how
 unfolding AreTurns mid_of
 print_writes run taken left b [] last Limit on is ran =
@@ -253,18 +253,18 @@ print_writes run taken left b (told ∷ turns) last how on is ran =
     let mid = ran.goes.turns_are.0 in
     let made = ran.goes.turns_are.1 in
     let kind = print_made _ _ b told mid (turn_by run.lib b mid told Print is made) in
-    let none = print_counts told mid.coming kind ran.goes.events.0 in
+    let none = print_counts told mid.next_event kind ran.goes.events.0 in
     printed_writes run taken left b mid told turns last how on made ran.goes.events.0
     (rest_of run.lib left left b last told turns how (omega (arith, none)) ran) kind
 
 serves_by :
     (next : NextEvent) (run : RunContext) (taken left : ℕ) (b : Booted) (turns : List Turn) (last : Booted) (how : Finish)
-    → RunWrites run taken left → b.coming ≡ next → Left run.lib left b turns last how
+    → RunWrites run taken left → b.next_event ≡ next → Left run.lib left b turns last how
     → Writes (serve_event next run taken (λ b. run_from run taken left b) b) (written run taken turns (Some how)) how
 serves_by Step run taken left b turns last how on is ran = on b turns last how is ran
 serves_by (Link at) run taken left b turns last how on is ran = link_writes run taken left b at turns last how on is ran
 serves_by Print run taken left b turns last how on is ran = print_writes run taken left b turns last how on is ran
-serves_by (coming.Over e) run taken left b turns last how on is ran =
+serves_by (next_event.Over e) run taken left b turns last how on is ran =
     over_writes run taken left b e turns last how is ran
 
 serve_writes :
@@ -272,13 +272,13 @@ serve_writes :
     → RunWrites run taken left → Left run.lib left b turns last how
     → Writes (serve run taken (λ b. run_from run taken left b) b) (written run taken turns (Some how)) how
 unfolding serve
-serve_writes run taken left b turns last how on ran = serves_by b.coming run taken left b turns last how on refl ran
+serve_writes run taken left b turns last how on ran = serves_by b.next_event run taken left b turns last how on refl ran
 
 -- ---- the run
 
 -- No run is over where a step is next.
 not_ended :
-    {P : Type 0} (lib : Library) (left : ℕ) (b last : Booted) (e : End) → b.coming ≡ Step
+    {P : Type 0} (lib : Library) (left : ℕ) (b last : Booted) (e : End) → b.next_event ≡ Step
     → Left lib left b [] last (Over e) → P
 not_ended lib left b last e next ran =
     not_over lib b ran.finishes.0 e next
@@ -306,7 +306,7 @@ run_writes run (suc left) taken b (told ∷ turns) last how next ran =
 -- a run from its start
 pub run_calls :
     (run : RunContext) (limit : ℕ) (first : Booted) (turns : List Turn) (last : Booted) (how : Finish)
-    → first.coming ≡ Step → runs.Goes run.lib limit first turns last → Finishes how run.lib limit turns last
+    → first.next_event ≡ Step → runs.Goes run.lib limit first turns last → Finishes how run.lib limit turns last
     → Goes (run_from run 0 limit first) (outputs (run_pieces run.denied run.output turns (Some how)))
     (result_of_status (finish_status (Some how)))
 run_calls run limit first turns last how next goes finishes =

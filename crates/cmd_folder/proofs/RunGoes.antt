@@ -12,9 +12,9 @@ use Rattle.m36_link.specs.Snap.{RefusedFields, snap_of}
 use Rattle.m36_step.specs.declared.turns.Turn.{Turn}
 use Rattle.m36_step.specs.declared.turns.Turn.TheVariants as turn
 use Rattle.m36_super.specs.Library.{Library}
-use Rattle.m36_super.specs.declared.coming.NextEvent.{NextEvent}
-use Rattle.m36_super.specs.declared.coming.NextEvent.TheVariants.{Step, Link, Print}
-use Rattle.m36_super.specs.declared.coming.NextEvent.TheVariants as coming
+use Rattle.m36_super.specs.declared.next_event.NextEvent.{NextEvent}
+use Rattle.m36_super.specs.declared.next_event.NextEvent.TheVariants.{Step, Link, Print}
+use Rattle.m36_super.specs.declared.next_event.NextEvent.TheVariants as next_event
 use Rattle.m36_super.specs.BootedRun.{Booted, IsLinkTurn, IsConsoleTurn, IsTurnBy, IsTurn, AreTurns}
 use Rattle.m36_super.specs.SuperTurn.{IsNoService, link_quiet}
 use Rattle.m36_status.specs.declared.status.Status.{Status}
@@ -193,7 +193,7 @@ turn_goes run taken now left all b after told rest events result is event all_is
 
 -- ---- which turns there are
 
-pub is_step : (lib : Library) (b after : Booted) (told : Turn) → b.coming ≡ Step → IsTurn lib b told after → IsStep told
+pub is_step : (lib : Library) (b after : Booted) (told : Turn) → b.next_event ≡ Step → IsTurn lib b told after → IsStep told
 unfolding IsTurn
 is_step lib b after told is turns =
     let so : IsTurnBy Step lib b told after = subst (λ c. IsTurnBy c lib b told after) is turns in
@@ -224,7 +224,7 @@ pub record IsServiceMade (told : Turn) (next : NextEvent) : Type 0 where
 pub linked_made :
     (answer : Result SnapFields RefusedFields) (frames : ℕ) (at : AtFields) (before : Booted) (told : Turn)
     (after : Booted)
-    → IsLinkTurn answer frames at before told after → told ≢ turn.NoMemory → IsServiceMade told after.coming
+    → IsLinkTurn answer frames at before told after → told ≢ turn.NoMemory → IsServiceMade told after.next_event
 linked_made (Ok s) frames at before (turn.Linked note) after is found =
     record { event = tt; counts = refl; quiet = link_quiet (Ok s) frames at before (turn.Linked note) after is tt }
 linked_made (Ok s) frames at before turn.NoMemory after is found = absurd (found refl)
@@ -247,30 +247,30 @@ pub record Printed (text : List ℕ) (told : Turn) (next : NextEvent) : Type 0 w
 
 pub record PrintEnded (e : End) (told : Turn) (next : NextEvent) : Type 0 where
   pub told_is : told ≡ turn.Ended e
-  pub next_is : next ≡ coming.Over e
+  pub next_is : next ≡ next_event.Over e
 
 abbrev pub PrintMade : Turn → NextEvent → Type 0
 PrintMade told next = ((text : List ℕ) × Printed text told next) ⊎ ((e : End) × PrintEnded e told next)
 
 pub print_made :
     (many : Bool) (text : Result (List ℕ) Fault) (before : Booted) (told : Turn) (after : Booted)
-    → IsConsoleTurn many text before told after → PrintMade told after.coming
+    → IsConsoleTurn many text before told after → PrintMade told after.next_event
 print_made true text before told after is =
-    inr (end.Console, record { told_is = is.0; next_is = ap (λ (r : Booted). r.coming) is.1 })
+    inr (end.Console, record { told_is = is.0; next_is = ap (λ (r : Booted). r.next_event) is.1 })
 print_made false (Err f) before told after is =
-    inr (end.Fault f, record { told_is = is.0; next_is = ap (λ (r : Booted). r.coming) is.1 })
+    inr (end.Fault f, record { told_is = is.0; next_is = ap (λ (r : Booted). r.next_event) is.1 })
 print_made false (Ok text) before told after is =
-    inl (text, record { told_is = is.0; next_is = ap (λ (r : Booted). r.coming) is.1 })
+    inl (text, record { told_is = is.0; next_is = ap (λ (r : Booted). r.next_event) is.1 })
 
 -- ---- services
 
 -- The program that follows a step or a service goes as a run.
-abbrev StepFollows : RunContext → ℕ → ℕ → Type 0
-StepFollows run taken left =
+abbrev RestGoes : RunContext → ℕ → ℕ → Type 0
+RestGoes run taken left =
     (b : Booted) (events : List Event) (result : Result (Unit {0}) Status)
-    → b.coming ≡ Step → Goes (run_from run taken left b) events result → RunGoes run taken left b events result
+    → b.next_event ≡ Step → Goes (run_from run taken left b) events result → RunGoes run taken left b events result
 
-over_turn : (lib : Library) (b : Booted) (e : End) → b.coming ≡ coming.Over e → IsTurn lib b (turn.Ended e) b
+over_turn : (lib : Library) (b : Booted) (e : End) → b.next_event ≡ next_event.Over e → IsTurn lib b (turn.Ended e) b
 unfolding IsTurn
 over_turn lib b e is = subst (λ c. IsTurnBy c lib b (turn.Ended e) b) (sym is) (refl, refl)
 
@@ -278,20 +278,20 @@ over_turn lib b e is = subst (λ c. IsTurnBy c lib b (turn.Ended e) b) (sym is) 
 after_goes :
     (next : NextEvent) (run : RunContext) (taken left : ℕ) (b : Booted) (events : List Event)
     (result : Result (Unit {0}) Status)
-    → StepFollows run taken left → IsNoService next → b.coming ≡ next
+    → RestGoes run taken left → IsNoService next → b.next_event ≡ next
     → Goes (after_service next run taken (λ b. run_from run taken left b) b) events result
     → RunGoes run taken left b events result
 after_goes Step run taken left b events result on silent is goes = on b events result is goes
 after_goes (Link at) run taken left b events result on silent is goes = absurd silent
 after_goes Print run taken left b events result on silent is goes = absurd silent
-after_goes (coming.Over e) run taken left b events result on silent is goes =
+after_goes (next_event.Over e) run taken left b events result on silent is goes =
     ends_here run taken left b (Over e) events result (b, over_turn run.lib b e is) goes
 
 -- a service was made
 service_goes :
     (run : RunContext) (taken left : ℕ) (b after : Booted) (told : Turn) (events : List Event)
     (result : Result (Unit {0}) Status)
-    → StepFollows run taken left → IsTurn run.lib b told after → IsServiceMade told after.coming
+    → RestGoes run taken left → IsTurn run.lib b told after → IsServiceMade told after.next_event
     → Goes (puts_all (pieces_of_turn run.output taken told) (continue_after_service run taken
     (λ b. run_from run taken left b) after)) events result
     → RunGoes run taken left b events result
@@ -300,14 +300,14 @@ service_goes run taken left b after told events result on is made goes =
     turn_goes run taken taken left left b after told
     (continue_after_service run taken (λ b. run_from run taken left b) after) events result is made.event
     (omega (arith, none)) (omega (arith, none))
-    (λ more goes. after_goes after.coming run taken left after more result on made.quiet refl goes)
+    (λ more goes. after_goes after.next_event run taken left after more result on made.quiet refl goes)
     (puts_split (pieces_of_turn run.output taken told) (continue_after_service run taken (λ b. run_from run taken left b) after)
     events result goes)
 
 print_goes :
     (run : RunContext) (taken left : ℕ) (b after : Booted) (told : Turn) (events : List Event)
     (result : Result (Unit {0}) Status)
-    → StepFollows run taken left → IsTurn run.lib b told after → PrintMade told after.coming
+    → RestGoes run taken left → IsTurn run.lib b told after → PrintMade told after.next_event
     → Goes (puts_all (pieces_of_turn run.output taken told) (continue_after_service run taken
     (λ b. run_from run taken left b) after)) events result
     → RunGoes run taken left b events result
@@ -331,7 +331,7 @@ print_goes run taken left b after told events result on is (inr ended) goes =
 -- memory ran out for a link service
 starved_here :
     (run : RunContext) (taken left : ℕ) (b : Booted) (events : List Event) (result : Result (Unit {0}) Status)
-    → AwaitsLink b.coming → Ends (Err NoMemory) events result → RunGoes run taken left b events result
+    → AwaitsLink b.next_event → Ends (Err NoMemory) events result → RunGoes run taken left b events result
 starved_here run taken left b events result waits ends = record {
   turns = [];
   last = b;
@@ -346,7 +346,7 @@ starved_here run taken left b events result waits ends = record {
 link_goes :
     (run : RunContext) (taken left : ℕ) (b : Booted) (at : AtFields) (events : List Event)
     (result : Result (Unit {0}) Status)
-    → StepFollows run taken left → b.coming ≡ Link at
+    → RestGoes run taken left → b.next_event ≡ Link at
     → Goes (serve_event (Link at) run taken (λ b. run_from run taken left b) b) events result
     → RunGoes run taken left b events result
 unfolding Goes IsTurn
@@ -362,7 +362,7 @@ link_goes run taken left b at events result on is (inr ends) =
 
 print_serves :
     (run : RunContext) (taken left : ℕ) (b : Booted) (events : List Event) (result : Result (Unit {0}) Status)
-    → StepFollows run taken left → b.coming ≡ Print
+    → RestGoes run taken left → b.next_event ≡ Print
     → Goes (serve_event Print run taken (λ b. run_from run taken left b) b) events result
     → RunGoes run taken left b events result
 unfolding Goes IsTurn
@@ -375,28 +375,28 @@ print_serves run taken left b events result on is goes =
 serves_by :
     (next : NextEvent) (run : RunContext) (taken left : ℕ) (b : Booted) (events : List Event)
     (result : Result (Unit {0}) Status)
-    → StepFollows run taken left → b.coming ≡ next
+    → RestGoes run taken left → b.next_event ≡ next
     → Goes (serve_event next run taken (λ b. run_from run taken left b) b) events result
     → RunGoes run taken left b events result
 serves_by Step run taken left b events result on is goes = on b events result is goes
 serves_by (Link at) run taken left b events result on is goes = link_goes run taken left b at events result on is goes
 serves_by Print run taken left b events result on is goes = print_serves run taken left b events result on is goes
-serves_by (coming.Over e) run taken left b events result on is goes =
+serves_by (next_event.Over e) run taken left b events result on is goes =
     ends_here run taken left b (Over e) events result (b, over_turn run.lib b e is) goes
 
 serve_goes :
     (run : RunContext) (taken left : ℕ) (b : Booted) (events : List Event) (result : Result (Unit {0}) Status)
-    → StepFollows run taken left → Goes (serve run taken (λ b. run_from run taken left b) b) events result
+    → RestGoes run taken left → Goes (serve run taken (λ b. run_from run taken left b) b) events result
     → RunGoes run taken left b events result
 unfolding serve
-serve_goes run taken left b events result on goes = serves_by b.coming run taken left b events result on refl goes
+serve_goes run taken left b events result on goes = serves_by b.next_event run taken left b events result on refl goes
 
 -- ---- the run
 
 step_goes :
     (run : RunContext) (taken left : ℕ) (b after : Booted) (told : Turn) (events : List Event)
     (result : Result (Unit {0}) Status)
-    → StepFollows run (taken + 1) left → b.coming ≡ Step → IsTurn run.lib b told after
+    → RestGoes run (taken + 1) left → b.next_event ≡ Step → IsTurn run.lib b told after
     → Goes (puts_all (pieces_of_turn run.output taken told) (serve run (taken + 1)
     (λ b. run_from run (taken + 1) left b) after)) events result
     → RunGoes run taken (suc left) b events result
@@ -409,7 +409,7 @@ step_goes run taken left b after told events result on next is goes =
     (λ more goes. serve_goes run (taken + 1) left after more result on goes)
     (puts_split (pieces_of_turn run.output taken told) rest events result goes)
 
-run_goes : (run : RunContext) (left taken : ℕ) → StepFollows run taken left
+run_goes : (run : RunContext) (left taken : ℕ) → RestGoes run taken left
 unfolding Goes run_from turns_step_count
 run_goes run zero taken b events result next goes = ends_here run taken 0 b Limit events result (refl, next) goes
 run_goes run (suc left) taken b events result next goes =
@@ -419,7 +419,7 @@ run_goes run (suc left) taken b events result next goes =
 -- a run from its start
 pub run_is :
     (run : RunContext) (limit : ℕ) (first : Booted) (events : List Event) (result : Result (Unit {0}) Status)
-    → first.coming ≡ Step → Goes (run_from run 0 limit first) events result → IsBootedRun run limit first events result
+    → first.next_event ≡ Step → Goes (run_from run 0 limit first) events result → IsBootedRun run limit first events result
 run_is run limit first events result next goes =
     let ran = run_goes run limit 0 first events result next goes in record {
       turns = ran.turns;

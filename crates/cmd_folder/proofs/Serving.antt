@@ -11,8 +11,8 @@ use Rattle.m36_step.specs.LinkNoteFields.{LinkNoteFields}
 use Rattle.m36_step.specs.declared.turns.Turn.{Turn}
 use Rattle.m36_step.specs.declared.turns.Turn.TheVariants as turn
 use Rattle.m36_super.specs.Library.{Library}
-use Rattle.m36_super.specs.declared.coming.NextEvent.{NextEvent}
-use Rattle.m36_super.specs.declared.coming.NextEvent.TheVariants.{Step, Link, Print, Over}
+use Rattle.m36_super.specs.declared.next_event.NextEvent.{NextEvent}
+use Rattle.m36_super.specs.declared.next_event.NextEvent.TheVariants.{Step, Link, Print, Over}
 use Rattle.m36_super.specs.BootedRun.{Booted, IsConsoleTurn, IsTurnBy, IsTurn}
 use Rattle.m36_super.specs.SuperFields.{SuperFields, booted_of}
 use Rattle.m36_super.specs.SuperTurn.{SuperTurns}
@@ -43,15 +43,15 @@ abbrev then_from : RunContext → ℕ → ℕ → Booted → Program quiet (Unit
 then_from run taken left b = continue_after_service run taken (λ b. run_from run taken left b) b
 
 serve_is :
-    (coming : NextEvent) (run : RunContext) (taken left : ℕ) (b : Booted)
-    → b.coming ≡ coming → served run taken left b ≡ serve_event coming run taken (λ b. run_from run taken left b) b
+    (next_event : NextEvent) (run : RunContext) (taken left : ℕ) (b : Booted)
+    → b.next_event ≡ next_event → served run taken left b ≡ serve_event next_event run taken (λ b. run_from run taken left b) b
 unfolding serve
-serve_is coming run taken left b is = ap (λ c. serve_event c run taken (λ b. run_from run taken left b) b) is
+serve_is next_event run taken left b is = ap (λ c. serve_event c run taken (λ b. run_from run taken left b) b) is
 
 then_is :
-    (coming : NextEvent) (run : RunContext) (taken left : ℕ) (b : Booted)
-    → b.coming ≡ coming → then_from run taken left b ≡ after_service coming run taken (λ b. run_from run taken left b) b
-then_is coming run taken left b is = ap (λ c. after_service c run taken (λ b. run_from run taken left b) b) is
+    (next_event : NextEvent) (run : RunContext) (taken left : ℕ) (b : Booted)
+    → b.next_event ≡ next_event → then_from run taken left b ≡ after_service next_event run taken (λ b. run_from run taken left b) b
+then_is next_event run taken left b is = ap (λ c. after_service c run taken (λ b. run_from run taken left b) b) is
 
 -- ---- a turn goes as the program says
 
@@ -61,7 +61,7 @@ goes_by p q r same on events result goes = subst (λ p. Goes p events result) (s
 
 link_as :
     (run : RunContext) (taken left : ℕ) (b after : Booted) (note : LinkNoteFields) (at : AtFields)
-    → b.coming ≡ Link at → IsTurn run.lib b (turn.Linked note) after
+    → b.next_event ≡ Link at → IsTurn run.lib b (turn.Linked note) after
     → GoesAs (puts_all (pieces_of_turn run.output taken (turn.Linked note)) (then_from run taken left after)) (served run taken left b)
 link_as run taken left b after note at is turns =
     let made : TurnAndState = record { turn = turn.Linked note; after = after } in
@@ -73,7 +73,7 @@ link_as run taken left b after note at is turns =
 
 print_as :
     (run : RunContext) (taken left : ℕ) (b after : Booted) (told : Turn)
-    → b.coming ≡ Print → IsTurn run.lib b told after
+    → b.next_event ≡ Print → IsTurn run.lib b told after
     → GoesAs (puts_all (pieces_of_turn run.output taken told) (then_from run taken left after)) (served run taken left b)
 print_as run taken left b after told is turns =
     let made : TurnAndState = record { turn = told; after = after } in
@@ -112,7 +112,7 @@ lost_turn block pieces rest now old new on lost =
 
 pub serve_none :
     (output : RunOutput) (taken : ℕ) (s : SuperFields) (block : List (List ℕ)) (seen : Seen)
-    → s.coming ≡ Step → IsConsoleTextPut output block
+    → s.next_event ≡ Step → IsConsoleTextPut output block
     → TurnResult after.Next s.lib output (rest_from_service block taken (booted_of s)) taken s block seen seen
 serve_none output taken s block seen is shown = record {
   leads = λ denied left.
@@ -127,7 +127,7 @@ serve_none output taken s block seen is shown = record {
 
 pub serve_over :
     (output : RunOutput) (taken : ℕ) (s : SuperFields) (e : End) (block : List (List ℕ)) (seen : Seen)
-    → s.coming ≡ Over e
+    → s.next_event ≡ Over e
     → TurnResult (after.Ended e) s.lib output (rest_from_service block taken (booted_of s)) taken s block seen seen
 serve_over output taken s e block seen is = record {
   leads = λ denied left.
@@ -140,7 +140,7 @@ serve_over output taken s e block seen is = record {
 -- a link service ran out of memory: the lines before it were put, or not
 pub link_starves :
     (output : RunOutput) (taken : ℕ) (before later : SuperFields) (at : AtFields) (block block' : List (List ℕ)) (old new : Seen)
-    → before.coming ≡ Link at → Follow (outputs block) old new
+    → before.next_event ≡ Link at → Follow (outputs block) old new
     → TurnResult after.NoMemory before.lib output (rest_from_service block taken (booted_of before)) taken later block' old new
 link_starves output taken before later at block block' old new is follow = record {
   performs = λ denied left.
@@ -159,7 +159,7 @@ link_unput output taken before later block block' old new fails = record {
 
 pub link_lost :
     (output : RunOutput) (taken : ℕ) (before later : SuperFields) (note : LinkNoteFields) (at : AtFields) (block block' : List (List ℕ)) (old new : Seen)
-    → before.coming ≡ Link at → SuperTurns before (turn.Linked note) later
+    → before.next_event ≡ Link at → SuperTurns before (turn.Linked note) later
     → Loses (block ++ pieces_of_turn output taken (turn.Linked note)) old new
     → TurnResult after.WriteFailed before.lib output (rest_from_service block taken (booted_of before)) taken later block' old new
 link_lost output taken before later note at block block' old new is turns lost = record {
@@ -172,9 +172,9 @@ link_lost output taken before later note at block block' old new is turns lost =
 pub link_goes :
     (p : AfterTurn) (output : RunOutput) (taken : ℕ) (before later : SuperFields) (note : LinkNoteFields) (at : AtFields)
     (block block' : List (List ℕ)) (old new : Seen)
-    → before.coming ≡ Link at → SuperTurns before (turn.Linked note) later
+    → before.next_event ≡ Link at → SuperTurns before (turn.Linked note) later
     → Gathers block block' (pieces_of_turn output taken (turn.Linked note)) old new → IsConsoleTextPut output block'
-    → MatchesNextEvent p later.coming
+    → MatchesNextEvent p later.next_event
     → TurnResult p before.lib output (rest_from_service block taken (booted_of before)) taken later block' old new
 link_goes after.Next output taken before later note at block block' old new is turns adds shown next = record {
   leads = λ denied left.
@@ -200,7 +200,7 @@ link_goes after.NoMemory output taken before later note at block block' old new 
 
 pub print_lost :
     (output : RunOutput) (taken : ℕ) (before later : SuperFields) (told : List ℕ) (block block' : List (List ℕ)) (old new : Seen)
-    → before.coming ≡ Print → SuperTurns before (turn.Console told) later
+    → before.next_event ≡ Print → SuperTurns before (turn.Console told) later
     → Loses (block ++ pieces_of_turn output taken (turn.Console told)) old new
     → TurnResult after.WriteFailed before.lib output (rest_from_service block taken (booted_of before)) taken later block' old new
 print_lost output taken before later told block block' old new is turns lost = record {
@@ -212,11 +212,11 @@ print_lost output taken before later told block block' old new is turns lost = r
 
 pub print_goes :
     (output : RunOutput) (taken : ℕ) (before later : SuperFields) (told : List ℕ) (block block' : List (List ℕ)) (old new : Seen)
-    → before.coming ≡ Print → SuperTurns before (turn.Console told) later
+    → before.next_event ≡ Print → SuperTurns before (turn.Console told) later
     → Gathers block block' (pieces_of_turn output taken (turn.Console told)) old new → IsConsoleTextPut output block'
     → TurnResult after.Next before.lib output (rest_from_service block taken (booted_of before)) taken later block' old new
 print_goes output taken before later told block block' old new is turns adds shown =
-    let next : later.coming ≡ Step = print_behind before later told is turns in record {
+    let next : later.next_event ≡ Step = print_behind before later told is turns in record {
       leads = λ denied left.
           let run = run_of before.lib output denied in
           leads_turn block block' (pieces_of_turn output taken (turn.Console told)) (run_from run taken left (booted_of later)) (served run taken left (booted_of before)) old new
@@ -248,16 +248,16 @@ end_in turn.NoMemory e = e
 
 pub console_over :
     (many : Bool) (text : Result (List ℕ) Fault) (before : Booted) (e : End) (later : Booted)
-    → IsConsoleTurn many text before (turn.Ended e) later → later.coming ≡ Over e
+    → IsConsoleTurn many text before (turn.Ended e) later → later.next_event ≡ Over e
 console_over true text before e later is =
-    ap (λ (r : Booted). r.coming) is.1 ∙ ap (λ t. Over (end_in t e)) (sym is.0)
+    ap (λ (r : Booted). r.next_event) is.1 ∙ ap (λ t. Over (end_in t e)) (sym is.0)
 console_over false (Err f) before e later is =
-    ap (λ (r : Booted). r.coming) is.1 ∙ ap (λ t. Over (end_in t e)) (sym is.0)
+    ap (λ (r : Booted). r.next_event) is.1 ∙ ap (λ t. Over (end_in t e)) (sym is.0)
 console_over false (Ok text) before e later is = absurd (subst IsEnd is.0 tt)
 
 pub print_over :
     (lib : Library) (before : Booted) (e : End) (later : Booted)
-    → before.coming ≡ Print → IsTurn lib before (turn.Ended e) later → later.coming ≡ Over e
+    → before.next_event ≡ Print → IsTurn lib before (turn.Ended e) later → later.next_event ≡ Over e
 unfolding IsTurn
 print_over lib before e later is turns =
     let so : IsTurnBy Print lib before (turn.Ended e) later = subst (λ c. IsTurnBy c lib before (turn.Ended e) later) is turns in
@@ -269,7 +269,7 @@ ended_pieces output.Trace taken e = refl
 
 over_as :
     (run : RunContext) (taken left : ℕ) (b later : Booted) (e : End)
-    → b.coming ≡ Print → IsTurn run.lib b (turn.Ended e) later → GoesAs (put_run_end run taken (finish.Over e)) (served run taken left b)
+    → b.next_event ≡ Print → IsTurn run.lib b (turn.Ended e) later → GoesAs (put_run_end run taken (finish.Over e)) (served run taken left b)
 over_as run taken left b later e is turns =
     let over = print_over run.lib b e later is turns in
     subst (λ p. GoesAs p (served run taken left b))
@@ -279,7 +279,7 @@ over_as run taken left b later e is turns =
 
 pub print_ends :
     (output : RunOutput) (taken : ℕ) (before later : SuperFields) (e : End) (block : List (List ℕ)) (seen : Seen)
-    → before.coming ≡ Print → SuperTurns before (turn.Ended e) later
+    → before.next_event ≡ Print → SuperTurns before (turn.Ended e) later
     → TurnResult (after.Ended e) before.lib output (rest_from_service block taken (booted_of before)) taken later block seen seen
 print_ends output taken before later e block seen is turns = record {
   leads = λ denied left.

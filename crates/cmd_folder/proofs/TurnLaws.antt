@@ -9,8 +9,8 @@ use Rattle.m36_step.specs.LinkNoteFields.{LinkNoteFields}
 use Rattle.m36_step.specs.declared.turns.Turn.{Turn}
 use Rattle.m36_step.specs.declared.turns.Turn.TheVariants.{Stepped, Linked, Console, Ended, Full, NoMemory}
 use Rattle.m36_super.specs.Library.{Library}
-use Rattle.m36_super.specs.declared.coming.NextEvent.{NextEvent}
-use Rattle.m36_super.specs.declared.coming.NextEvent.TheVariants.{Step, Link, Print, Over}
+use Rattle.m36_super.specs.declared.next_event.NextEvent.{NextEvent}
+use Rattle.m36_super.specs.declared.next_event.NextEvent.TheVariants.{Step, Link, Print, Over}
 use Rattle.m36_super.specs.BootedRun.{Booted, IsStepTurn, IsLinkTurn, IsConsoleTurn, IsTurnBy, IsTurn}
 use Rattle.m36_super.specs.SuperFields.{SuperFields, booted_of}
 use Rattle.m36_super.specs.SuperTurn.{SuperTurns, IsNoService, link_quiet}
@@ -70,29 +70,29 @@ print_is true text before turn after is = subst IsPrint (sym is.0) tt
 print_is false (Err f) before turn after is = subst IsPrint (sym is.0) tt
 print_is false (Ok text) before turn after is = subst IsPrint (sym is.0) tt
 
-by_coming :
-    (lib : Library) (before after : SuperFields) (turn : Turn) (coming : NextEvent)
-    → before.coming ≡ coming → IsTurn lib (booted_of before) turn (booted_of after)
-    → IsTurnBy coming lib (booted_of before) turn (booted_of after)
+by_next_event :
+    (lib : Library) (before after : SuperFields) (turn : Turn) (next_event : NextEvent)
+    → before.next_event ≡ next_event → IsTurn lib (booted_of before) turn (booted_of after)
+    → IsTurnBy next_event lib (booted_of before) turn (booted_of after)
 unfolding IsTurn
-by_coming lib before after turn coming is turns =
+by_next_event lib before after turn next_event is turns =
     subst (λ c. IsTurnBy c lib (booted_of before) turn (booted_of after)) is turns
 
 pub turn_prints :
     (before after : SuperFields) (turn : Turn)
-    → before.coming ≡ Print → SuperTurns before turn after → IsPrint turn
+    → before.next_event ≡ Print → SuperTurns before turn after → IsPrint turn
 turn_prints before after turn is turns =
     print_is _ _ (booted_of before) turn (booted_of after)
-    (by_coming before.lib before after turn Print is turns.0)
+    (by_next_event before.lib before after turn Print is turns.0)
 
 -- ---- what is next after them
 
 pub link_behind :
     (before after : SuperFields) (note : LinkNoteFields) (at : AtFields)
-    → before.coming ≡ Link at → SuperTurns before (Linked note) after → IsNoService after.coming
+    → before.next_event ≡ Link at → SuperTurns before (Linked note) after → IsNoService after.next_event
 link_behind before after note at is turns =
     link_quiet _ before.lib.catalog.frames at (booted_of before) (Linked note) (booted_of after)
-    (by_coming before.lib before after (Linked note) (Link at) is turns.0) tt
+    (by_next_event before.lib before after (Linked note) (Link at) is turns.0) tt
 
 abbrev IsUnended : Turn → Type 0
 IsUnended (Stepped told) = Unit {0}
@@ -104,17 +104,17 @@ IsUnended NoMemory = Unit {0}
 
 behind_print :
     (many : Bool) (text : Result (List ℕ) Fault) (before : Booted) (told : List ℕ) (after : Booted)
-    → IsConsoleTurn many text before (Console told) after → after.coming ≡ Step
+    → IsConsoleTurn many text before (Console told) after → after.next_event ≡ Step
 behind_print true text before told after is = absurd (subst IsUnended is.0 tt)
 behind_print false (Err f) before told after is = absurd (subst IsUnended is.0 tt)
-behind_print false (Ok text) before told after is = ap (λ (r : Booted). r.coming) is.1
+behind_print false (Ok text) before told after is = ap (λ (r : Booted). r.next_event) is.1
 
 pub print_behind :
     (before after : SuperFields) (told : List ℕ)
-    → before.coming ≡ Print → SuperTurns before (Console told) after → after.coming ≡ Step
+    → before.next_event ≡ Print → SuperTurns before (Console told) after → after.next_event ≡ Step
 print_behind before after told is turns =
     behind_print _ _ (booted_of before) told (booted_of after)
-    (by_coming before.lib before after (Console told) Print is turns.0)
+    (by_next_event before.lib before after (Console told) Print is turns.0)
 
 -- ---- the registers after a turn that ends the run
 
@@ -126,8 +126,8 @@ print_leaves false (Err f) before e after is = ap (λ (r : Booted). r.state.regs
 print_leaves false (Ok text) before e after is = absurd (subst IsUnended (sym is.0) tt)
 
 end_leaves :
-    (coming : NextEvent) (lib : Library) (before : Booted) (e : End) (after : Booted)
-    → IsTurnBy coming lib before (Ended e) after → after.state.regs ≡ before.state.regs
+    (next_event : NextEvent) (lib : Library) (before : Booted) (e : End) (after : Booted)
+    → IsTurnBy next_event lib before (Ended e) after → after.state.regs ≡ before.state.regs
 end_leaves Step lib before e after is = absurd (step_is before.loaded lib.catalog.frames before (Ended e) after is)
 end_leaves (Link at) lib before e after is =
     absurd (link_is (snap_of before.known lib.catalog lib.files at) lib.catalog.frames at before (Ended e) after is)
@@ -138,4 +138,4 @@ pub ended_leaves :
     (lib : Library) (before : Booted) (e : End) (after : Booted)
     → IsTurn lib before (Ended e) after → after.state.regs ≡ before.state.regs
 unfolding IsTurn
-ended_leaves lib before e after is = end_leaves before.coming lib before e after is
+ended_leaves lib before e after is = end_leaves before.next_event lib before e after is

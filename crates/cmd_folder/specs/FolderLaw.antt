@@ -15,7 +15,7 @@ use Rattle.m36_super.specs.BootedRun.{Booted}
 use Rattle.m36_super.specs.SuperFields.{SuperFields, booted_of}
 use Rattle.m36_super.specs.TurnLaws.{IsPlainTurn}
 use Rattle.m36_super.specs.BootResult.{IsBooted}
-use Rattle.m36_super.specs.declared.coming.NextEvent.TheVariants.{Step}
+use Rattle.m36_super.specs.declared.next_event.NextEvent.TheVariants.{Step}
 use Rattle.m36_status.specs.declared.status.Status.{Status}
 use Rattle.m36_status.specs.declared.status.Status.TheVariants.{NoMemory}
 use Rattle.m36_program.specs.Alike.{IsEnd, OneText}
@@ -165,12 +165,12 @@ pub record FolderLaw : Type 0 where
   pub run :
       (run : RunContext) (limit : ℕ) (first : Booted) (events : List Event)
       (result : Result (Unit {0}) Status)
-      → first.coming ≡ Step → Goes (run_from run 0 limit first) events result
+      → first.next_event ≡ Step → Goes (run_from run 0 limit first) events result
       → IsBootedRun run limit first events result
   pub some_call :
       (run : RunContext) (limit : ℕ) (first : Booted) (turns : List Turn) (last : Booted)
       (how : Finish)
-      → first.coming ≡ Step → runs.Goes run.lib limit first turns last
+      → first.next_event ≡ Step → runs.Goes run.lib limit first turns last
       → Finishes how run.lib limit turns last
       → Goes (run_from run 0 limit first)
       (outputs (run_pieces run.denied run.output turns (Some how)))

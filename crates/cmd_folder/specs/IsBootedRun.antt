@@ -21,7 +21,7 @@ FinishesAs (Some how) lib limit turns last = Finishes how lib limit turns last
 
 -- The call ended as the run finished; or memory ran out in the link service that is next.
 abbrev pub EndsAs : Option Finish → Booted → Result (Unit {0}) Status → Type 0
-EndsAs None last result = AwaitsLink last.coming × (result ≡ Err NoMemory)
+EndsAs None last result = AwaitsLink last.next_event × (result ≡ Err NoMemory)
 EndsAs (Some how) last result = result ≡ result_of_status (finish_status (Some how))
 
 -- All pieces were put, and then the call ended; or the output failed.

@@ -4,9 +4,9 @@ use Rattle.std.specs.Prelude.{ℕ, zero, suc, ◌≢◌, ◌+◌, List, Some}
 use Rattle.m36_step.specs.declared.turns.Turn.{Turn}
 use Rattle.m36_step.specs.declared.turns.Turn.TheVariants.{NoMemory}
 use Rattle.m36_super.specs.Library.{Library}
-use Rattle.m36_super.specs.declared.coming.NextEvent.{NextEvent}
-use Rattle.m36_super.specs.declared.coming.NextEvent.TheVariants.{Step, Link, Print}
-use Rattle.m36_super.specs.declared.coming.NextEvent.TheVariants as coming
+use Rattle.m36_super.specs.declared.next_event.NextEvent.{NextEvent}
+use Rattle.m36_super.specs.declared.next_event.NextEvent.TheVariants.{Step, Link, Print}
+use Rattle.m36_super.specs.declared.next_event.NextEvent.TheVariants as next_event
 use Rattle.m36_super.specs.BootedRun.{Booted, IsTurn}
 use Rattle.m36_program.specs.Early.{MayEnd, ends}
 use Rattle.m36_program.specs.Program.{quiet, Program, puts_all, some, wants}
@@ -69,12 +69,12 @@ abbrev pub after_service :
 after_service Step run taken on b = on b
 after_service (Link at) run taken on b = on b
 after_service Print run taken on b = on b
-after_service (coming.Over e) run taken on b = put_run_end run taken (Over e)
+after_service (next_event.Over e) run taken on b = put_run_end run taken (Over e)
 
 -- what follows a service in this state, by the next event; the number is the count of steps taken
 abbrev pub continue_after_service :
     RunContext → ℕ → (Booted → Program quiet (Unit {0})) → Booted → Program quiet (Unit {0})
-continue_after_service run taken on b = after_service b.coming run taken on b
+continue_after_service run taken on b = after_service b.next_event run taken on b
 
 -- What follows a step, by the next event: another step; a link service, for which memory may run
 -- out; a console service; or the end of the run.
@@ -86,13 +86,13 @@ serve_event (Link at) run taken on b =
     wants (some (FindsMemory run.lib b) (puts_turn run taken (continue_after_service run taken on)))
 serve_event Print run taken on b =
     some (IsPossibleTurn run.lib b) (puts_turn run taken (continue_after_service run taken on))
-serve_event (coming.Over e) run taken on b = put_run_end run taken (Over e)
+serve_event (next_event.Over e) run taken on b = put_run_end run taken (Over e)
 
 -- performs the service for which the step that was just taken calls, if any, and continues with
 -- `on` if a step follows, or ends the run; the number is the count of steps taken
 unfoldable pub serve :
     RunContext → ℕ → (Booted → Program quiet (Unit {0})) → Booted → Program quiet (Unit {0})
-serve run taken on b = serve_event b.coming run taken on b
+serve run taken on b = serve_event b.next_event run taken on b
 
 -- ---- the run
 

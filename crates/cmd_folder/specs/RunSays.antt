@@ -5,9 +5,9 @@ use Rattle.m36_model.specs.declared.endings.End.{End}
 use Rattle.m36_status.specs.declared.status.Status.{Status}
 use Rattle.m36_status.specs.declared.status.Status.TheVariants.{WriteFault, NoMemory}
 use Rattle.m36_super.specs.Library.{Library}
-use Rattle.m36_super.specs.declared.coming.NextEvent.{NextEvent}
-use Rattle.m36_super.specs.declared.coming.NextEvent.TheVariants.{Step}
-use Rattle.m36_super.specs.declared.coming.NextEvent.TheVariants as coming
+use Rattle.m36_super.specs.declared.next_event.NextEvent.{NextEvent}
+use Rattle.m36_super.specs.declared.next_event.NextEvent.TheVariants.{Step}
+use Rattle.m36_super.specs.declared.next_event.NextEvent.TheVariants as next_event
 use Rattle.m36_super.specs.BootedRun.{Booted}
 use Rattle.m36_super.specs.SuperFields.{SuperFields, booted_of}
 use Rattle.m36_program.specs.Performs.{Performs, Leads}
@@ -49,7 +49,7 @@ pub record StepFollows (lib : Library) (output : RunOutput) (first : RestOfRun) 
       (denied : List (List ℕ)) (left : ℕ)
       → Leads (puts_all block (run_from (run_of lib output denied) taken left (booted_of after)))
       (first (run_of lib output denied) left) old new
-  pub next : after.coming ≡ Step
+  pub next : after.next_event ≡ Step
   pub same : after.lib ≡ lib
   pub shown : IsConsoleTextPut output block
 
@@ -85,6 +85,6 @@ TurnResult turn.NoMemory lib output first taken after block old new =
 -- An answer after a link service agrees with what is next: a step, or the end of the run.
 abbrev pub MatchesNextEvent : AfterTurn → NextEvent → Type 0
 MatchesNextEvent turn.Next next = next ≡ Step
-MatchesNextEvent (turn.Ended e) next = next ≡ coming.Over e
+MatchesNextEvent (turn.Ended e) next = next ≡ next_event.Over e
 MatchesNextEvent turn.WriteFailed next = ⊥
 MatchesNextEvent turn.NoMemory next = ⊥

@@ -5,9 +5,9 @@ use Rattle.m36_step.specs.declared.turns.Turn.{Turn}
 use Rattle.m36_step.specs.declared.turns.Turn.TheVariants.{Stepped, Linked, Console, Ended}
 use Rattle.m36_step.specs.declared.turns.Turn.TheVariants.{Full, NoMemory}
 use Rattle.m36_super.specs.Library.{Library}
-use Rattle.m36_super.specs.declared.coming.NextEvent.{NextEvent}
-use Rattle.m36_super.specs.declared.coming.NextEvent.TheVariants.{Step, Link, Print}
-use Rattle.m36_super.specs.declared.coming.NextEvent.TheVariants as coming
+use Rattle.m36_super.specs.declared.next_event.NextEvent.{NextEvent}
+use Rattle.m36_super.specs.declared.next_event.NextEvent.TheVariants.{Step, Link, Print}
+use Rattle.m36_super.specs.declared.next_event.NextEvent.TheVariants as next_event
 use Rattle.m36_super.specs.BootedRun.{Booted, IsTurn, AreTurns}
 use Rattle.cmd_folder.specs.declared.finish.Finish.{Finish}
 use Rattle.cmd_folder.specs.declared.finish.Finish.TheVariants.{Over, Limit}
@@ -36,11 +36,11 @@ pub record Goes
 abbrev pub Finishes : Finish → Library → ℕ → List Turn → Booted → Type 0
 Finishes (Over e) lib limit turns last =
     (after : Booted) × IsTurn lib last (Ended e) after
-Finishes Limit lib limit turns last = (turns_step_count turns ≡ limit) × (last.coming ≡ Step)
+Finishes Limit lib limit turns last = (turns_step_count turns ≡ limit) × (last.next_event ≡ Step)
 
 -- A link service is next.
 abbrev pub AwaitsLink : NextEvent → Type 0
 AwaitsLink (Link at) = ⊤
 AwaitsLink Step = ⊥
 AwaitsLink Print = ⊥
-AwaitsLink (coming.Over e) = ⊥
+AwaitsLink (next_event.Over e) = ⊥

@@ -2,7 +2,7 @@
 
 ghost use Rattle.std.specs.Prelude.{◌≡◌};
 ghost use Rattle.m36_audit.specs.Findings.{finding_pairs};
-ghost use Rattle.m36_super.specs.declared.coming.NextEvent.TheVariants.{Step};
+ghost use Rattle.m36_super.specs.declared.next_event.NextEvent.TheVariants.{Step};
 ghost use Rattle.m36_super.specs.SuperFields.{booted_of};
 ghost use Rattle.cmd_image.specs.ImageAudit.{is_run_allowed};
 ghost use Rattle.m36_program.specs.Performs.{Performs};
@@ -34,7 +34,7 @@ fn run_audited<W: World>(
     denied: &DeniedLines,
     world: &mut W,
 ) -> Result<(), Status>
-    requires { system.old.coming ≡ Step }
+    requires { system.old.next_event ≡ Step }
     ensures { Performs (audit_and_run (run_of system.old.lib output denied.now) steps
         (booted_of system.old) (finding_pairs findings.now)) result (W.seen world.old) (W.seen world.new) }
 {
@@ -61,7 +61,7 @@ fn answer_run<W: World>(
     denied: &DeniedLines,
     world: &mut W,
 ) -> Result<(), Status>
-    requires { system.old.coming ≡ Step }
+    requires { system.old.next_event ≡ Step }
     ensures { Performs (audit_and_run_if (is_run_allowed (finding_pairs findings.now) run.unaudited)
         (run_of system.old.lib output denied.now) run.steps (booted_of system.old)
         (finding_pairs findings.now)) result (W.seen world.old) (W.seen world.new) }
@@ -81,7 +81,7 @@ fn perform_for_findings<W: World>(
     findings: &[Finding],
     world: &mut W,
 ) -> Result<(), Status>
-    requires { system.old.coming ≡ Step }
+    requires { system.old.next_event ≡ Step }
     ensures { Performs (command_after_audit command
         record { lib = system.old.lib; denied = denied.now } (booted_of system.old)
         (finding_pairs findings.now)) result (W.seen world.old) (W.seen world.new) }

@@ -3,7 +3,7 @@
 //! before the code makes the next turn.
 
 ghost use Rattle.std.specs.Prelude.{◌≡◌, ◌<◌, ◌+◌, ◌^◌, ◌++◌, Some, [], ◌∷◌};
-ghost use Rattle.m36_super.specs.declared.coming.NextEvent.TheVariants.{Step, Link, Print};
+ghost use Rattle.m36_super.specs.declared.next_event.NextEvent.TheVariants.{Step, Link, Print};
 ghost use Rattle.m36_super.specs.SuperFields.{booted_of};
 ghost use Rattle.m36_super.specs.SuperTurn.{IsNoService};
 ghost use Rattle.m36_program.specs.Performs.{Performs};
@@ -41,10 +41,10 @@ pub enum AfterTurn {
 
 // What follows a link service: a step, or the end of the run if the link was refused.
 fn after_link(system: &Super) -> AfterTurn
-    requires { IsNoService system.now.coming }
-    ensures { MatchesNextEvent result system.now.coming }
+    requires { IsNoService system.now.next_event }
+    ensures { MatchesNextEvent result system.now.next_event }
 {
-    match system.coming() {
+    match system.next_event() {
         NextEvent::Step => AfterTurn::Next,
         NextEvent::Over(end) => AfterTurn::Ended(end),
         NextEvent::Link(_) | NextEvent::Print => unreachable!(),
@@ -61,7 +61,7 @@ fn perform_link_service<W: World>(
     block: &mut Block,
     world: &mut W,
 ) -> AfterTurn
-    requires coming { system.old.coming ≡ Link at }
+    requires next_event { system.old.next_event ≡ Link at }
     requires shown { IsConsoleTextPut output block.old }
     ensures { TurnResult result system.old.lib output
         (rest_from_service block.old taken (booted_of system.old)) taken system.new block.new
@@ -88,7 +88,7 @@ fn perform_console_service<W: World>(
     block: &mut Block,
     world: &mut W,
 ) -> AfterTurn
-    requires coming { system.old.coming ≡ Print }
+    requires next_event { system.old.next_event ≡ Print }
     requires shown { IsConsoleTextPut output block.old }
     ensures { TurnResult result system.old.lib output
         (rest_from_service block.old taken (booted_of system.old)) taken system.new block.new
@@ -118,7 +118,7 @@ fn serve<W: World>(
         (rest_from_service block.old taken (booted_of system.old)) taken system.new block.new
         (W.seen world.old) (W.seen world.new) }
 {
-    match system.coming() {
+    match system.next_event() {
         NextEvent::Step => AfterTurn::Next,
         NextEvent::Link(at) => perform_link_service(system, at, taken, output, block, world),
         NextEvent::Print => perform_console_service(system, taken, output, block, world),
@@ -139,7 +139,7 @@ fn take_step<W: World>(
     block: &mut Block,
     world: &mut W,
 ) -> AfterTurn
-    requires step { system.old.coming ≡ Step }
+    requires step { system.old.next_event ≡ Step }
     requires few { taken + 1 < 2 ^ 32 }
     requires shown { IsConsoleTextPut output block.old }
     ensures { TurnResult result system.old.lib output
@@ -182,12 +182,12 @@ pub fn run<W: World>(
     denied: &DeniedLines,
     world: &mut W,
 ) -> Result<(), Status>
-    requires { system.old.coming ≡ Step }
+    requires { system.old.next_event ≡ Step }
     ensures { Performs (run_from (run_of system.old.lib output denied.now) 0 steps
         (booted_of system.old)) result (W.seen world.old) (W.seen world.new) }
 {
     let mut block = Block::new();
-    let mut told = system.untold();
+    let mut told = system.empty_record();
     let mut text = TraceText::new();
     let mut taken: u32 = 0;
     let mut left = steps;

@@ -18,7 +18,7 @@ use Rattle.m36_program.specs.Program.{quiet, Program, puts, puts_all}
 use Rattle.m36_program.proofs.PieceLaws.{PutsBy, puts_ended}
 use Rattle.m36_program.proofs.PutLaws.{puts_both, puts_one}
 use Rattle.cmd_image.specs.AuditText.{audit_pieces}
-use Rattle.cmd_image.specs.Machine.{told, after}
+use Rattle.cmd_image.specs.Machine.{step_record, after}
 use Rattle.cmd_image.specs.Output.{pieces_from, run_pieces, status_after}
 use Rattle.cmd_image.specs.ImageAudit.{passes, is_run_allowed, audit_status}
 use Rattle.cmd_image.specs.Run.{run, last_outcome}
@@ -84,7 +84,7 @@ run_is taken zero state =
     ∙ ap (λ l. puts_all l (ends (status_after Next) (own_after Next))) (sym (pieces_none taken))
     ∙ ap (rest_by taken) (sym (run_none state))
 run_is taken (suc left) state =
-    step_is taken (told state) (told state).outcome (run left (after state)) (run_from (taken + 1) left (after state)) refl
+    step_is taken (step_record state) (step_record state).outcome (run left (after state)) (run_from (taken + 1) left (after state)) refl
     (run_is (taken + 1) left (after state))
     ∙ ap (rest_by taken) (sym (run_more left state))
 

@@ -11,9 +11,9 @@ use Rattle.m36_link.specs.Snap.{RefusedFields, snap_of}
 use Rattle.m36_step.specs.declared.turns.Turn.{Turn}
 use Rattle.m36_step.specs.declared.turns.Turn.TheVariants as turn
 use Rattle.m36_super.specs.Library.{Library}
-use Rattle.m36_super.specs.declared.coming.NextEvent.{NextEvent}
-use Rattle.m36_super.specs.declared.coming.NextEvent.TheVariants.{Step, Link, Print}
-use Rattle.m36_super.specs.declared.coming.NextEvent.TheVariants as coming
+use Rattle.m36_super.specs.declared.next_event.NextEvent.{NextEvent}
+use Rattle.m36_super.specs.declared.next_event.NextEvent.TheVariants.{Step, Link, Print}
+use Rattle.m36_super.specs.declared.next_event.NextEvent.TheVariants as next_event
 use Rattle.m36_super.specs.BootedRun.{Booted, IsLinkTurn, IsConsoleTurn, IsTurnBy, IsTurn, AreTurns}
 use Rattle.m36_super.specs.SuperTurn.{IsNoService, link_quiet}
 use Rattle.m36_status.specs.declared.status.Status.{Status}
@@ -125,7 +125,7 @@ turn_goes lib taken now left all b after told events result is event all_is now_
 
 -- ---- which turns there are
 
-pub is_step : (lib : Library) (b after : Booted) (told : Turn) → b.coming ≡ Step → IsTurn lib b told after → IsStep told
+pub is_step : (lib : Library) (b after : Booted) (told : Turn) → b.next_event ≡ Step → IsTurn lib b told after → IsStep told
 unfolding IsTurn
 is_step lib b after told is turns =
     let so : IsTurnBy Step lib b told after = subst (λ c. IsTurnBy c lib b told after) is turns in
@@ -156,7 +156,7 @@ pub record IsServiceMade (told : Turn) (next : NextEvent) : Type 0 where
 pub linked_made :
     (answer : Result SnapFields RefusedFields) (frames : ℕ) (at : AtFields) (before : Booted) (told : Turn)
     (after : Booted)
-    → IsLinkTurn answer frames at before told after → told ≢ turn.NoMemory → IsServiceMade told after.coming
+    → IsLinkTurn answer frames at before told after → told ≢ turn.NoMemory → IsServiceMade told after.next_event
 linked_made (Ok s) frames at before (turn.Linked note) after is found =
     record { event = tt; counts = refl; silent = link_quiet (Ok s) frames at before (turn.Linked note) after is tt }
 linked_made (Ok s) frames at before turn.NoMemory after is found = absurd (found refl)
@@ -175,7 +175,7 @@ linked_made (Err why) frames at before turn.Full after is found = absurd (subst 
 -- A console service was made and a step follows, or the run has ended.
 pub record PrintEnded (e : End) (told : Turn) (next : NextEvent) : Type 0 where
   pub told_is : told ≡ turn.Ended e
-  pub next_is : next ≡ coming.Over e
+  pub next_is : next ≡ next_event.Over e
 
 abbrev pub PrintMade : Turn → NextEvent → Type 0
 PrintMade told next = IsServiceMade told next ⊎ ((e : End) × PrintEnded e told next)
@@ -190,21 +190,21 @@ printed text told next told_is next_is = record {
 
 pub print_made :
     (many : Bool) (text : Result (List ℕ) Fault) (before : Booted) (told : Turn) (after : Booted)
-    → IsConsoleTurn many text before told after → PrintMade told after.coming
+    → IsConsoleTurn many text before told after → PrintMade told after.next_event
 print_made true text before told after is =
-    inr (end.Console, record { told_is = is.0; next_is = ap (λ (r : Booted). r.coming) is.1 })
+    inr (end.Console, record { told_is = is.0; next_is = ap (λ (r : Booted). r.next_event) is.1 })
 print_made false (Err f) before told after is =
-    inr (end.Fault f, record { told_is = is.0; next_is = ap (λ (r : Booted). r.coming) is.1 })
+    inr (end.Fault f, record { told_is = is.0; next_is = ap (λ (r : Booted). r.next_event) is.1 })
 print_made false (Ok text) before told after is =
-    inl (printed text told after.coming is.0 (ap (λ (r : Booted). r.coming) is.1))
+    inl (printed text told after.next_event is.0 (ap (λ (r : Booted). r.next_event) is.1))
 
 -- ---- services
 
 -- The program that follows a step or a service goes as a run.
-abbrev GoesOn : Library → ℕ → ℕ → Type 0
-GoesOn lib taken left =
+abbrev RestGoes : Library → ℕ → ℕ → Type 0
+RestGoes lib taken left =
     (b : Booted) (events : List Event) (result : Result RunSummary Status)
-    → b.coming ≡ Step → Goes (run_from lib taken left b) events result → RunGoes lib taken left b events result
+    → b.next_event ≡ Step → Goes (run_from lib taken left b) events result → RunGoes lib taken left b events result
 
 abbrev then_by : NextEvent → Library → ℕ → ℕ → Booted → Program quiet RunSummary
 then_by next lib taken left b = after_service next taken (λ b. run_from lib taken left b) b
@@ -212,44 +212,44 @@ then_by next lib taken left b = after_service next taken (λ b. run_from lib tak
 abbrev served_by : NextEvent → Library → ℕ → ℕ → Booted → Program quiet RunSummary
 served_by next lib taken left b = serve_event next lib taken (λ b. run_from lib taken left b) b
 
-over_turn : (lib : Library) (b : Booted) (e : End) → b.coming ≡ coming.Over e → IsTurn lib b (turn.Ended e) b
+over_turn : (lib : Library) (b : Booted) (e : End) → b.next_event ≡ next_event.Over e → IsTurn lib b (turn.Ended e) b
 unfolding IsTurn
 over_turn lib b e is = subst (λ c. IsTurnBy c lib b (turn.Ended e) b) (sym is) (refl, refl)
 
 -- what follows a service
 after_goes :
     (next : NextEvent) (lib : Library) (taken left : ℕ) (b : Booted) (events : List Event) (result : Result RunSummary Status)
-    → GoesOn lib taken left → IsNoService next → b.coming ≡ next
+    → RestGoes lib taken left → IsNoService next → b.next_event ≡ next
     → Goes (then_by next lib taken left b) events result → RunGoes lib taken left b events result
 unfolding Goes
 after_goes Step lib taken left b events result on silent is goes = on b events result is goes
 after_goes (Link at) lib taken left b events result on silent is goes = absurd silent
 after_goes Print lib taken left b events result on silent is goes = absurd silent
-after_goes (coming.Over e) lib taken left b events result on silent is goes =
+after_goes (next_event.Over e) lib taken left b events result on silent is goes =
     ends_here lib taken left b b (Over e) events result (b, over_turn lib b e is) refl goes
 
 -- a service was made
 service_goes :
     (lib : Library) (taken left : ℕ) (b after : Booted) (told : Turn) (events : List Event) (result : Result RunSummary Status)
-    → GoesOn lib taken left → IsTurn lib b told after → IsServiceMade told after.coming
-    → Goes (then_by after.coming lib taken left after) events result → RunGoes lib taken left b events result
+    → RestGoes lib taken left → IsTurn lib b told after → IsServiceMade told after.next_event
+    → Goes (then_by after.next_event lib taken left after) events result → RunGoes lib taken left b events result
 service_goes lib taken left b after told events result on is made goes =
     let none = made.counts in
     turn_goes lib taken taken left left b after told events result is made.event (omega (arith, none))
     (omega (arith, none))
-    (after_goes after.coming lib taken left after events result on made.silent refl goes)
+    (after_goes after.next_event lib taken left after events result on made.silent refl goes)
 
 print_goes :
     (lib : Library) (taken left : ℕ) (b after : Booted) (told : Turn) (events : List Event) (result : Result RunSummary Status)
-    → GoesOn lib taken left → IsTurn lib b told after → PrintMade told after.coming
-    → Goes (then_by after.coming lib taken left after) events result → RunGoes lib taken left b events result
+    → RestGoes lib taken left → IsTurn lib b told after → PrintMade told after.next_event
+    → Goes (then_by after.next_event lib taken left after) events result → RunGoes lib taken left b events result
 unfolding Goes
 print_goes lib taken left b after told events result on is (inl made) goes =
     service_goes lib taken left b after told events result on is made goes
 print_goes lib taken left b after told events result on is (inr over) goes =
     let e = over.0 in
     let ended : IsTurn lib b (turn.Ended e) after = subst (λ t. IsTurn lib b t after) over.1.told_is is in
-    let so : Goes (then_by (coming.Over e) lib taken left after) events result =
+    let so : Goes (then_by (next_event.Over e) lib taken left after) events result =
     subst (λ c. Goes (then_by c lib taken left after) events result) over.1.next_is goes in
     ends_here lib taken left b after (Over e) events result (after, ended) (ended_leaves lib b e after ended) so
 
@@ -264,7 +264,7 @@ no_memory_here lib taken left b events result ends = record {
 
 link_goes :
     (lib : Library) (taken left : ℕ) (b : Booted) (at : AtFields) (events : List Event) (result : Result RunSummary Status)
-    → GoesOn lib taken left → b.coming ≡ Link at
+    → RestGoes lib taken left → b.next_event ≡ Link at
     → Goes (served_by (Link at) lib taken left b) events result → RunGoes lib taken left b events result
 unfolding Goes IsTurn
 link_goes lib taken left b at events result on is (inl goes) =
@@ -279,7 +279,7 @@ link_goes lib taken left b at events result on is (inr ends) =
 
 print_serves :
     (lib : Library) (taken left : ℕ) (b : Booted) (events : List Event) (result : Result RunSummary Status)
-    → GoesOn lib taken left → b.coming ≡ Print
+    → RestGoes lib taken left → b.next_event ≡ Print
     → Goes (served_by Print lib taken left b) events result → RunGoes lib taken left b events result
 unfolding Goes IsTurn
 print_serves lib taken left b events result on is goes =
@@ -290,27 +290,27 @@ print_serves lib taken left b events result on is goes =
 
 serves_by :
     (next : NextEvent) (lib : Library) (taken left : ℕ) (b : Booted) (events : List Event) (result : Result RunSummary Status)
-    → GoesOn lib taken left → b.coming ≡ next
+    → RestGoes lib taken left → b.next_event ≡ next
     → Goes (served_by next lib taken left b) events result → RunGoes lib taken left b events result
 unfolding Goes
 serves_by Step lib taken left b events result on is goes = on b events result is goes
 serves_by (Link at) lib taken left b events result on is goes = link_goes lib taken left b at events result on is goes
 serves_by Print lib taken left b events result on is goes = print_serves lib taken left b events result on is goes
-serves_by (coming.Over e) lib taken left b events result on is goes =
+serves_by (next_event.Over e) lib taken left b events result on is goes =
     ends_here lib taken left b b (Over e) events result (b, over_turn lib b e is) refl goes
 
 serve_goes :
     (lib : Library) (taken left : ℕ) (b : Booted) (events : List Event) (result : Result RunSummary Status)
-    → GoesOn lib taken left → Goes (serve lib taken (λ b. run_from lib taken left b) b) events result
+    → RestGoes lib taken left → Goes (serve lib taken (λ b. run_from lib taken left b) b) events result
     → RunGoes lib taken left b events result
 unfolding serve
-serve_goes lib taken left b events result on goes = serves_by b.coming lib taken left b events result on refl goes
+serve_goes lib taken left b events result on goes = serves_by b.next_event lib taken left b events result on refl goes
 
 -- ---- the run
 
 step_goes :
     (lib : Library) (taken left : ℕ) (b after : Booted) (told : Turn) (events : List Event) (result : Result RunSummary Status)
-    → GoesOn lib (taken + 1) left → b.coming ≡ Step → IsTurn lib b told after
+    → RestGoes lib (taken + 1) left → b.next_event ≡ Step → IsTurn lib b told after
     → Goes (serve lib (taken + 1) (λ b. run_from lib (taken + 1) left b) after) events result
     → RunGoes lib taken (suc left) b events result
 step_goes lib taken left b after told events result on next is goes =
@@ -320,7 +320,7 @@ step_goes lib taken left b after told events result on next is goes =
     (omega (arith, one)) (omega (arith, one))
     (serve_goes lib (taken + 1) left after events result on goes)
 
-pub run_goes : (lib : Library) (left taken : ℕ) → GoesOn lib taken left
+pub run_goes : (lib : Library) (left taken : ℕ) → RestGoes lib taken left
 unfolding Goes run_from turns_step_count
 run_goes lib zero taken b events result next goes = ends_here lib taken 0 b b Limit events result (refl, next) refl goes
 run_goes lib (suc left) taken b events result next goes =

@@ -7,9 +7,9 @@ use Rattle.m36_link.specs.Snap.{snap_of}
 use Rattle.m36_step.specs.declared.turns.Turn.{Turn}
 use Rattle.m36_step.specs.declared.turns.Turn.TheVariants as turn
 use Rattle.m36_super.specs.Library.{Library}
-use Rattle.m36_super.specs.declared.coming.NextEvent.{NextEvent}
-use Rattle.m36_super.specs.declared.coming.NextEvent.TheVariants.{Step, Link, Print}
-use Rattle.m36_super.specs.declared.coming.NextEvent.TheVariants as coming
+use Rattle.m36_super.specs.declared.next_event.NextEvent.{NextEvent}
+use Rattle.m36_super.specs.declared.next_event.NextEvent.TheVariants.{Step, Link, Print}
+use Rattle.m36_super.specs.declared.next_event.NextEvent.TheVariants as next_event
 use Rattle.m36_super.specs.BootedRun.{Booted, IsTurnBy, IsTurn, AreTurns}
 use Rattle.m36_super.specs.SuperTurn.{IsNoService}
 use Rattle.m36_program.specs.Goes.{Goes}
@@ -37,7 +37,7 @@ pub record RunsOn (how : Finish) (lib : Library) (left : ℕ) (b : Booted) (turn
 -- then the program ends from a state before a step
 abbrev pub Ends : Finish → Library → ℕ → ℕ → Booted → Type 0
 Ends how lib taken left last =
-    (b : Booted) (turns : List Turn) → b.coming ≡ Step → RunsOn how lib left b turns last
+    (b : Booted) (turns : List Turn) → b.next_event ≡ Step → RunsOn how lib left b turns last
     → Gone (run_from lib taken left b)
 
 -- ---- the turns that are left
@@ -93,18 +93,18 @@ served_by next lib taken left b = serve_event next lib taken (λ b. run_from lib
 
 after_gone :
     (next : NextEvent) (how : Finish) (lib : Library) (taken left : ℕ) (b : Booted) (turns : List Turn) (last : Booted)
-    → Ends how lib taken left last → IsNoService next → b.coming ≡ next → RunsOn how lib left b turns last
+    → Ends how lib taken left last → IsNoService next → b.next_event ≡ next → RunsOn how lib left b turns last
     → Gone (then_by next lib taken left b)
 after_gone Step how lib taken left b turns last on silent is runs = on b turns is runs
 after_gone (Link at) how lib taken left b turns last on silent is runs = absurd silent
 after_gone Print how lib taken left b turns last on silent is runs = absurd silent
-after_gone (coming.Over e) how lib taken left b turns last on silent is runs =
+after_gone (next_event.Over e) how lib taken left b turns last on silent is runs =
     (summary_of_run (Over e) taken b, goes_done quiet (summary_of_run (Over e) taken b))
 
 -- a console service that ended the run
 over_gone :
-    (lib : Library) (taken left : ℕ) (b : Booted) (e : End) → b.coming ≡ coming.Over e
-    → Gone (then_by b.coming lib taken left b)
+    (lib : Library) (taken left : ℕ) (b : Booted) (e : End) → b.next_event ≡ next_event.Over e
+    → Gone (then_by b.next_event lib taken left b)
 over_gone lib taken left b e is =
     subst (λ (c : NextEvent). Gone (then_by c lib taken left b)) (sym is)
     (summary_of_run (Over e) taken b, goes_done quiet (summary_of_run (Over e) taken b))
@@ -113,7 +113,7 @@ over_gone lib taken left b e is =
 
 link_chosen :
     (lib : Library) (taken left : ℕ) (b mid : Booted) (told : Turn) (at : AtFields)
-    → IsTurn lib b told mid → IsEvent told → Gone (then_by mid.coming lib taken left mid)
+    → IsTurn lib b told mid → IsEvent told → Gone (then_by mid.next_event lib taken left mid)
     → Gone (served_by (Link at) lib taken left b)
 unfolding Goes
 link_chosen lib taken left b mid told at is event gone = (
@@ -127,14 +127,14 @@ link_chosen lib taken left b mid told at is event gone = (
 
 print_chosen :
     (lib : Library) (taken left : ℕ) (b mid : Booted) (told : Turn)
-    → IsTurn lib b told mid → Gone (then_by mid.coming lib taken left mid) → Gone (served_by Print lib taken left b)
+    → IsTurn lib b told mid → Gone (then_by mid.next_event lib taken left mid) → Gone (served_by Print lib taken left b)
 unfolding Goes
 print_chosen lib taken left b mid told is gone =
     (gone.0, record { value = record { turn = told; after = mid }; is = is; rest = gone.1 })
 
 -- No run ends before a link service.
 no_end_here :
-    (how : Finish) (lib : Library) (left : ℕ) (b : Booted) (at : AtFields) → b.coming ≡ Link at
+    (how : Finish) (lib : Library) (left : ℕ) (b : Booted) (at : AtFields) → b.next_event ≡ Link at
     → Finishes how lib left [] b → ⊥
 unfolding IsTurn
 no_end_here (Over e) lib left b at is ends =
@@ -144,47 +144,47 @@ no_end_here Limit lib left b at is ends = let next = ends.1 in absurd (cc)
 
 link_gone :
     (how : Finish) (lib : Library) (taken left : ℕ) (b : Booted) (turns : List Turn) (last : Booted) (at : AtFields)
-    → Ends how lib taken left last → b.coming ≡ Link at → RunsOn how lib left b turns last
+    → Ends how lib taken left last → b.next_event ≡ Link at → RunsOn how lib left b turns last
     → Gone (served_by (Link at) lib taken left b)
 unfolding IsTurn
 link_gone how lib taken left b [] last at on is runs =
     absurd (no_end_here how lib left b at is (none_left how lib left b last runs))
 link_gone how lib taken left b (told ∷ turns) last at on is runs =
     let first = first_turn how lib left b told turns last runs in
-    let made : IsServiceMade told first.mid.coming =
+    let made : IsServiceMade told first.mid.next_event =
     linked_made (snap_of b.known lib.catalog lib.files at) lib.catalog.frames at b told first.mid
     (subst (λ c. IsTurnBy c lib b told first.mid) is first.is) (λ e. subst IsEvent e first.event) in
     let none = made.counts in
     link_chosen lib taken left b first.mid told at first.is first.event
-    (after_gone first.mid.coming how lib taken left first.mid turns last on made.silent refl
+    (after_gone first.mid.next_event how lib taken left first.mid turns last on made.silent refl
     (first.on left (omega (arith, none))))
 
 print_made_by :
-    (lib : Library) (b mid : Booted) (told : Turn) → b.coming ≡ Print → IsTurn lib b told mid
-    → PrintMade told mid.coming
+    (lib : Library) (b mid : Booted) (told : Turn) → b.next_event ≡ Print → IsTurn lib b told mid
+    → PrintMade told mid.next_event
 unfolding IsTurn
 print_made_by lib b mid told is turns = print_made _ _ b told mid (subst (λ c. IsTurnBy c lib b told mid) is turns)
 
 print_first :
     (how : Finish) (lib : Library) (taken left : ℕ) (b : Booted) (told : Turn) (turns : List Turn) (last : Booted)
     → Ends how lib taken left last → (first : FirstTurn how lib left b told turns last)
-    → PrintMade told first.mid.coming
-    → Gone (then_by first.mid.coming lib taken left first.mid)
+    → PrintMade told first.mid.next_event
+    → Gone (then_by first.mid.next_event lib taken left first.mid)
 print_first how lib taken left b told turns last on first (inl made) =
     let none = made.counts in
-    after_gone first.mid.coming how lib taken left first.mid turns last on made.silent refl
+    after_gone first.mid.next_event how lib taken left first.mid turns last on made.silent refl
     (first.on left (omega (arith, none)))
 print_first how lib taken left b told turns last on first (inr over) =
     over_gone lib taken left first.mid over.0 over.1.next_is
 
 print_last :
-    (lib : Library) (taken left : ℕ) (after : Booted) (e : End) → PrintMade (turn.Ended e) after.coming
-    → Gone (then_by after.coming lib taken left after)
+    (lib : Library) (taken left : ℕ) (after : Booted) (e : End) → PrintMade (turn.Ended e) after.next_event
+    → Gone (then_by after.next_event lib taken left after)
 print_last lib taken left after e (inl made) = absurd made.event
 print_last lib taken left after e (inr over) = over_gone lib taken left after over.0 over.1.next_is
 
 print_ends :
-    (how : Finish) (lib : Library) (taken left : ℕ) (b : Booted) → b.coming ≡ Print → Finishes how lib left [] b
+    (how : Finish) (lib : Library) (taken left : ℕ) (b : Booted) → b.next_event ≡ Print → Finishes how lib left [] b
     → Gone (served_by Print lib taken left b)
 print_ends (Over e) lib taken left b is ends =
     print_chosen lib taken left b ends.0 (turn.Ended e) ends.1
@@ -193,7 +193,7 @@ print_ends Limit lib taken left b is ends = let next = ends.1 in absurd (cc)
 
 print_gone :
     (how : Finish) (lib : Library) (taken left : ℕ) (b : Booted) (turns : List Turn) (last : Booted)
-    → Ends how lib taken left last → b.coming ≡ Print → RunsOn how lib left b turns last
+    → Ends how lib taken left last → b.next_event ≡ Print → RunsOn how lib left b turns last
     → Gone (served_by Print lib taken left b)
 print_gone how lib taken left b [] last on is runs =
     print_ends how lib taken left b is (none_left how lib left b last runs)
@@ -204,13 +204,13 @@ print_gone how lib taken left b (told ∷ turns) last on is runs =
 
 serves_gone :
     (next : NextEvent) (how : Finish) (lib : Library) (taken left : ℕ) (b : Booted) (turns : List Turn) (last : Booted)
-    → Ends how lib taken left last → b.coming ≡ next → RunsOn how lib left b turns last
+    → Ends how lib taken left last → b.next_event ≡ next → RunsOn how lib left b turns last
     → Gone (served_by next lib taken left b)
 serves_gone Step how lib taken left b turns last on is runs = on b turns is runs
 serves_gone (Link at) how lib taken left b turns last on is runs =
     link_gone how lib taken left b turns last at on is runs
 serves_gone Print how lib taken left b turns last on is runs = print_gone how lib taken left b turns last on is runs
-serves_gone (coming.Over e) how lib taken left b turns last on is runs =
+serves_gone (next_event.Over e) how lib taken left b turns last on is runs =
     (summary_of_run (Over e) taken b, goes_done quiet (summary_of_run (Over e) taken b))
 
 serve_gone :
@@ -218,13 +218,13 @@ serve_gone :
     → Ends how lib taken left last → RunsOn how lib left b turns last
     → Gone (serve lib taken (λ b. run_from lib taken left b) b)
 unfolding serve
-serve_gone how lib taken left b turns last on runs = serves_gone b.coming how lib taken left b turns last on refl runs
+serve_gone how lib taken left b turns last on runs = serves_gone b.next_event how lib taken left b turns last on refl runs
 
 -- ---- the run
 
 -- No run ends before a step if one is left.
 step_left :
-    (how : Finish) (lib : Library) (left : ℕ) (b : Booted) → b.coming ≡ Step → Finishes how lib (suc left) [] b → ⊥
+    (how : Finish) (lib : Library) (left : ℕ) (b : Booted) → b.next_event ≡ Step → Finishes how lib (suc left) [] b → ⊥
 unfolding turns_step_count
 step_left (Over e) lib left b is ends = is_step lib b ends.0 (turn.Ended e) is ends.1
 step_left Limit lib left b is ends = let none = ends.0 in absurd (omega (arith, none))
@@ -245,7 +245,7 @@ run_gone how lib (suc left) taken last b (told ∷ turns) is runs =
 -- A run that ends, from a state before a step.
 pub run_ends :
     (how : Finish) (lib : Library) (limit : ℕ) (first : Booted) (turns : List Turn) (last : Booted)
-    → first.coming ≡ Step → AreTurns lib first turns last → Each IsEvent turns → Finishes how lib limit turns last
+    → first.next_event ≡ Step → AreTurns lib first turns last → Each IsEvent turns → Finishes how lib limit turns last
     → Gone (run_from lib 0 limit first)
 run_ends how lib limit first turns last is are events finishes =
     run_gone how lib limit 0 last first turns is (record { are = are; events = events; finishes = finishes })

@@ -7,8 +7,8 @@ use Rattle.m36_step.specs.LinkNoteFields.{LinkNoteFields}
 use Rattle.m36_step.specs.declared.turns.Turn.{Turn}
 use Rattle.m36_step.specs.declared.turns.Turn.TheVariants as turn
 use Rattle.m36_super.specs.Library.{Library}
-use Rattle.m36_super.specs.declared.coming.NextEvent.{NextEvent}
-use Rattle.m36_super.specs.declared.coming.NextEvent.TheVariants.{Step, Link, Print, Over}
+use Rattle.m36_super.specs.declared.next_event.NextEvent.{NextEvent}
+use Rattle.m36_super.specs.declared.next_event.NextEvent.TheVariants.{Step, Link, Print, Over}
 use Rattle.m36_super.specs.BootedRun.{Booted, IsTurn}
 use Rattle.m36_super.specs.SuperFields.{SuperFields, booted_of}
 use Rattle.m36_super.specs.SuperTurn.{SuperTurns}
@@ -32,24 +32,24 @@ served lib taken left b = serve lib taken (λ b. run_from lib taken left b) b
 
 -- the program after a step, by what is next
 abbrev served_by : NextEvent → Library → ℕ → ℕ → Booted → Program quiet RunSummary
-served_by coming lib taken left b = serve_event coming lib taken (λ b. run_from lib taken left b) b
+served_by next_event lib taken left b = serve_event next_event lib taken (λ b. run_from lib taken left b) b
 
 -- the program after a service, by what is next
 abbrev then_by : NextEvent → Library → ℕ → ℕ → Booted → Program quiet RunSummary
-then_by coming lib taken left b = after_service coming taken (λ b. run_from lib taken left b) b
+then_by next_event lib taken left b = after_service next_event taken (λ b. run_from lib taken left b) b
 
 serve_is :
-    (coming : NextEvent) (lib : Library) (taken left : ℕ) (b : Booted)
-    → b.coming ≡ coming → served lib taken left b ≡ served_by coming lib taken left b
+    (next_event : NextEvent) (lib : Library) (taken left : ℕ) (b : Booted)
+    → b.next_event ≡ next_event → served lib taken left b ≡ served_by next_event lib taken left b
 unfolding serve
-serve_is coming lib taken left b is = ap (λ c. served_by c lib taken left b) is
+serve_is next_event lib taken left b is = ap (λ c. served_by c lib taken left b) is
 
 -- ---- a turn goes as the program says
 
 link_as :
     (lib : Library) (taken left : ℕ) (b later : Booted) (note : LinkNoteFields) (at : AtFields)
-    → b.coming ≡ Link at → IsTurn lib b (turn.Linked note) later
-    → IsRestOf (then_by later.coming lib taken left later) (served lib taken left b)
+    → b.next_event ≡ Link at → IsTurn lib b (turn.Linked note) later
+    → IsRestOf (then_by later.next_event lib taken left later) (served lib taken left b)
 link_as lib taken left b later note at is turns result goes =
     let made : TurnAndState = record { turn = turn.Linked note; after = later } in
     let go = continue_after_service taken (λ b. run_from lib taken left b) in
@@ -59,8 +59,8 @@ link_as lib taken left b later note at is turns result goes =
 
 print_as :
     (lib : Library) (taken left : ℕ) (b later : Booted) (told : Turn)
-    → b.coming ≡ Print → IsTurn lib b told later
-    → IsRestOf (then_by later.coming lib taken left later) (served lib taken left b)
+    → b.next_event ≡ Print → IsTurn lib b told later
+    → IsRestOf (then_by later.next_event lib taken left later) (served lib taken left b)
 print_as lib taken left b later told is turns result goes =
     let made : TurnAndState = record { turn = told; after = later } in
     let go = continue_after_service taken (λ b. run_from lib taken left b) in
@@ -78,14 +78,14 @@ step_as lib taken left b later told turns result goes =
 
 then_next :
     (lib : Library) (taken left : ℕ) (b later : Booted)
-    → later.coming ≡ Step → IsRestOf (then_by later.coming lib taken left later) (served lib taken left b)
+    → later.next_event ≡ Step → IsRestOf (then_by later.next_event lib taken left later) (served lib taken left b)
     → IsRestOf (run_from lib taken left later) (served lib taken left b)
 then_next lib taken left b later is on result goes =
     on result (subst (λ c. Goes (then_by c lib taken left later) [] result) (sym is) goes)
 
 then_over :
     (lib : Library) (taken left : ℕ) (b later : Booted) (e : End)
-    → later.coming ≡ Over e → IsRestOf (then_by later.coming lib taken left later) (served lib taken left b)
+    → later.next_event ≡ Over e → IsRestOf (then_by later.next_event lib taken left later) (served lib taken left b)
     → Goes (served lib taken left b) [] (Ok (summary_of_run (finish.Over e) taken later))
 then_over lib taken left b later e is on =
     let result : Result RunSummary Status = Ok (summary_of_run (finish.Over e) taken later) in
@@ -94,7 +94,7 @@ then_over lib taken left b later e is on =
 
 -- ---- services
 
-pub serve_none : (s : SuperFields) → s.coming ≡ Step → TurnResult after.Next s.lib (rest_from_service s.lib (booted_of s)) s
+pub serve_none : (s : SuperFields) → s.next_event ≡ Step → TurnResult after.Next s.lib (rest_from_service s.lib (booted_of s)) s
 serve_none s is = record {
   leads = λ taken left result goes.
       subst (λ p. Goes p [] result) (sym (serve_is Step s.lib taken left (booted_of s) is)) goes;
@@ -103,7 +103,7 @@ serve_none s is = record {
 }
 
 pub serve_over :
-    (s : SuperFields) (e : End) → s.coming ≡ Over e
+    (s : SuperFields) (e : End) → s.next_event ≡ Over e
     → TurnResult (after.Ended e) s.lib (rest_from_service s.lib (booted_of s)) s
 serve_over s e is = record {
   goes = λ taken left.
@@ -114,7 +114,7 @@ serve_over s e is = record {
 
 pub link_starves :
     (before later : SuperFields) (at : AtFields)
-    → before.coming ≡ Link at → TurnResult after.NoMemory before.lib (rest_from_service before.lib (booted_of before)) later
+    → before.next_event ≡ Link at → TurnResult after.NoMemory before.lib (rest_from_service before.lib (booted_of before)) later
 link_starves before later at is = record {
   goes = λ taken left.
       subst (λ p. Goes p [] (Err NoMemory)) (sym (serve_is (Link at) before.lib taken left (booted_of before) is))
@@ -124,7 +124,7 @@ link_starves before later at is = record {
 
 pub link_goes :
     (p : AfterTurn) (before later : SuperFields) (note : LinkNoteFields) (at : AtFields)
-    → before.coming ≡ Link at → SuperTurns before (turn.Linked note) later → MatchesNextEvent p later.coming
+    → before.next_event ≡ Link at → SuperTurns before (turn.Linked note) later → MatchesNextEvent p later.next_event
     → TurnResult p before.lib (rest_from_service before.lib (booted_of before)) later
 link_goes after.Next before later note at is turns next = record {
   leads = λ taken left.
@@ -142,10 +142,10 @@ link_goes after.NoMemory before later note at is turns next = absurd next
 
 pub print_goes :
     (before later : SuperFields) (told : List ℕ)
-    → before.coming ≡ Print → SuperTurns before (turn.Console told) later
+    → before.next_event ≡ Print → SuperTurns before (turn.Console told) later
     → TurnResult after.Next before.lib (rest_from_service before.lib (booted_of before)) later
 print_goes before later told is turns =
-    let next : later.coming ≡ Step = print_behind before later told is turns in record {
+    let next : later.next_event ≡ Step = print_behind before later told is turns in record {
       leads = λ taken left.
           then_next before.lib taken left (booted_of before) (booted_of later) next
           (print_as before.lib taken left (booted_of before) (booted_of later) (turn.Console told) is turns.0);
@@ -155,7 +155,7 @@ print_goes before later told is turns =
 
 pub print_ends :
     (before later : SuperFields) (e : End)
-    → before.coming ≡ Print → SuperTurns before (turn.Ended e) later
+    → before.next_event ≡ Print → SuperTurns before (turn.Ended e) later
     → TurnResult (after.Ended e) before.lib (rest_from_service before.lib (booted_of before)) later
 print_ends before later e is turns = record {
   goes = λ taken left.

@@ -6,7 +6,7 @@ use Rattle.m36_world.specs.declared.event.Event.TheVariants.{Output}
 use Rattle.m36_world.specs.Follow.{outputs}
 use Rattle.m36_step.specs.declared.turns.Turn.{Turn}
 use Rattle.m36_super.specs.Library.{Library}
-use Rattle.m36_super.specs.declared.coming.NextEvent.TheVariants.{Step}
+use Rattle.m36_super.specs.declared.next_event.NextEvent.TheVariants.{Step}
 use Rattle.m36_super.specs.BootedRun.{Booted}
 use Rattle.m36_status.specs.declared.setting.Set.{Set}
 use Rattle.m36_status.specs.declared.status.Status.{Status}
@@ -98,7 +98,7 @@ run_ended lib limit first r events result ended run goes = record {
 
 run_split :
     (lib : Library) (limit : ℕ) (first : Booted) (events : List Event) (result : Result (Unit {0}) Status)
-    → first.coming ≡ Step → IsEnd result → Split (run_from lib 0 limit first) put_summary events result
+    → first.next_event ≡ Step → IsEnd result → Split (run_from lib 0 limit first) put_summary events result
     → RunPuts lib limit first events result
 run_split lib limit first events result next ended (inl both) =
     let run = run_goes lib limit 0 first both.first (Ok both.value) next both.begins in
@@ -115,7 +115,7 @@ run_split lib limit first events result next ended (inr (inr across)) =
 
 run_puts :
     (lib : Library) (limit : ℕ) (first : Booted) (events : List Event) (result : Result (Unit {0}) Status)
-    → first.coming ≡ Step → IsEnd result → Goes (run_and_summarise lib limit first) events result
+    → first.next_event ≡ Step → IsEnd result → Goes (run_and_summarise lib limit first) events result
     → RunPuts lib limit first events result
 unfolding run_and_summarise
 run_puts lib limit first events result next ended goes =
@@ -163,7 +163,7 @@ run_after sets lib first more events result is then on =
 pub found_puts :
     (findings : List (ℕ × ℕ)) (sets : List Set) (lib : Library) (first : Booted) (more events : List Event)
     (result : Result (Unit {0}) Status)
-    → first.coming ≡ Step → IsEnd result → events ≡ all_written sets ++ more
+    → first.next_event ≡ Step → IsEnd result → events ≡ all_written sets ++ more
     → Goes (make_after_audit lib first findings) more result
     → PutsFor findings sets lib first events result
 unfolding make_after_audit

@@ -4,9 +4,9 @@ use Rattle.m36_model.specs.declared.endings.End.{End}
 use Rattle.m36_status.specs.declared.status.Status.{Status}
 use Rattle.m36_status.specs.declared.status.Status.TheVariants as status
 use Rattle.m36_super.specs.Library.{Library}
-use Rattle.m36_super.specs.declared.coming.NextEvent.{NextEvent}
-use Rattle.m36_super.specs.declared.coming.NextEvent.TheVariants.{Step}
-use Rattle.m36_super.specs.declared.coming.NextEvent.TheVariants as coming
+use Rattle.m36_super.specs.declared.next_event.NextEvent.{NextEvent}
+use Rattle.m36_super.specs.declared.next_event.NextEvent.TheVariants.{Step}
+use Rattle.m36_super.specs.declared.next_event.NextEvent.TheVariants as next_event
 use Rattle.m36_super.specs.BootedRun.{Booted}
 use Rattle.m36_super.specs.SuperFields.{SuperFields, booted_of}
 use Rattle.m36_program.specs.Goes.{Goes}
@@ -37,10 +37,10 @@ abbrev pub rest_from_service : Library → Booted → RestOfRun
 rest_from_service lib b taken left = serve lib taken (λ b. run_from lib taken left b) b
 
 -- A step follows, over the same library.
-pub record GoesOn (lib : Library) (first : RestOfRun) (after : SuperFields) : Type 0 where
+pub record StepFollows (lib : Library) (first : RestOfRun) (after : SuperFields) : Type 0 where
   pub leads :
       (taken left : ℕ) → IsRestOf (run_from lib taken left (booted_of after)) (first taken left)
-  pub next : after.coming ≡ Step
+  pub next : after.next_event ≡ Step
   pub same : after.lib ≡ lib
 
 -- The run has ended in this way.
@@ -54,14 +54,14 @@ pub record RunsOutOfMemory (first : RestOfRun) : Type 0 where
 
 -- what the result of a turn implies for the program that is left
 abbrev pub TurnResult : AfterTurn → Library → RestOfRun → SuperFields → Type 0
-TurnResult turn.Next lib first after = GoesOn lib first after
+TurnResult turn.Next lib first after = StepFollows lib first after
 TurnResult (turn.Ended e) lib first after = RunIsOver e first after
 TurnResult turn.NoMemory lib first after = RunsOutOfMemory first
 
 -- An answer after a link service agrees with what is next: a step, or the end of the run.
 abbrev pub MatchesNextEvent : AfterTurn → NextEvent → Type 0
 MatchesNextEvent turn.Next next = next ≡ Step
-MatchesNextEvent (turn.Ended e) next = next ≡ coming.Over e
+MatchesNextEvent (turn.Ended e) next = next ≡ next_event.Over e
 MatchesNextEvent turn.NoMemory next = ⊥
 
 -- the value of the program, from the result of the code and the system that it left

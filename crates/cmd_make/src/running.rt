@@ -1,7 +1,7 @@
 //! Runs a booted system and writes nothing of its turns.
 
 ghost use Rattle.std.specs.Prelude.{◌≡◌, []};
-ghost use Rattle.m36_super.specs.declared.coming.NextEvent.TheVariants.{Step, Link, Print};
+ghost use Rattle.m36_super.specs.declared.next_event.NextEvent.TheVariants.{Step, Link, Print};
 ghost use Rattle.m36_super.specs.SuperFields.{booted_of};
 ghost use Rattle.m36_super.specs.SuperTurn.{IsNoService};
 ghost use Rattle.m36_program.specs.Goes.{Goes};
@@ -35,10 +35,10 @@ pub enum AfterTurn {
 
 // What follows a link service: a step, or the end of the run if the link was refused.
 fn after_link(system: &Super) -> AfterTurn
-    requires { IsNoService system.now.coming }
-    ensures { MatchesNextEvent result system.now.coming }
+    requires { IsNoService system.now.next_event }
+    ensures { MatchesNextEvent result system.now.next_event }
 {
-    match system.coming() {
+    match system.next_event() {
         NextEvent::Step => AfterTurn::Next,
         NextEvent::Over(end) => AfterTurn::Ended(end),
         NextEvent::Link(_) | NextEvent::Print => unreachable!(),
@@ -48,7 +48,7 @@ fn after_link(system: &Super) -> AfterTurn
 // Performs the link service for the link at `at`.
 #[tactic(auto, using(crate::proofs::Serving::services))]
 fn perform_link_service(system: &mut Super, at: At) -> AfterTurn
-    requires { system.old.coming ≡ Link at }
+    requires { system.old.next_event ≡ Link at }
     ensures { TurnResult result system.old.lib (rest_from_service system.old.lib (booted_of system.old))
         system.new }
 {
@@ -61,7 +61,7 @@ fn perform_link_service(system: &mut Super, at: At) -> AfterTurn
 // Performs a console service. What the console writes is not put.
 #[tactic(auto, using(crate::proofs::Serving::services))]
 fn perform_console_service(system: &mut Super) -> AfterTurn
-    requires { system.old.coming ≡ Print }
+    requires { system.old.next_event ≡ Print }
     ensures { TurnResult result system.old.lib (rest_from_service system.old.lib (booted_of system.old))
         system.new }
 {
@@ -78,7 +78,7 @@ fn serve(system: &mut Super) -> AfterTurn
     ensures { TurnResult result system.old.lib (rest_from_service system.old.lib (booted_of system.old))
         system.new }
 {
-    match system.coming() {
+    match system.next_event() {
         NextEvent::Step => AfterTurn::Next,
         NextEvent::Link(at) => perform_link_service(system, at),
         NextEvent::Print => perform_console_service(system),
@@ -89,7 +89,7 @@ fn serve(system: &mut Super) -> AfterTurn
 // Takes a step and performs its service. `told` may have the record of an earlier step; it is
 // overwritten.
 fn take_step(system: &mut Super, told: &mut StepRecord) -> AfterTurn
-    requires { system.old.coming ≡ Step }
+    requires { system.old.next_event ≡ Step }
     ensures { TurnResult result system.old.lib (rest_from_step system.old.lib (booted_of system.old))
         system.new }
 {
@@ -99,11 +99,11 @@ fn take_step(system: &mut Super, told: &mut StepRecord) -> AfterTurn
 
 /// Runs a system for at most `steps` steps. Fails only with NoMemory, in a link service.
 pub fn run_quietly(system: &mut Super, steps: u32) -> Result<RunEnd, Status>
-    requires { system.old.coming ≡ Step }
+    requires { system.old.next_event ≡ Step }
     ensures { Goes (run_from system.old.lib 0 steps (booted_of system.old)) []
         (summary_in_result result system.new) }
 {
-    let mut told = system.untold();
+    let mut told = system.empty_record();
     let mut taken: u32 = 0;
     let mut left = steps;
     'steps: while left > 0 {

@@ -2,7 +2,7 @@
 
 ghost use Rattle.std.specs.Prelude.{ℕ, ◌≡◌, ◌<◌, List, [], ◌∷◌, length, Some};
 ghost use Rattle.m36_text.specs.Lines.{as_line};
-ghost use Rattle.m36_super.specs.declared.coming.NextEvent.TheVariants.{Step};
+ghost use Rattle.m36_super.specs.declared.next_event.NextEvent.TheVariants.{Step};
 ghost use Rattle.m36_super.specs.SuperFields.{booted_of};
 ghost use Rattle.m36_audit.specs.Findings.{finding_pairs};
 ghost use Rattle.m36_program.specs.Early.{ends};
@@ -99,7 +99,7 @@ fn put_summary<W: World>(end: RunEnd, regs: &Regs, world: &mut W) -> Result<(), 
 
 // Runs the system for at most `steps` steps, and puts the lines after the run.
 fn run_and_summarise<W: World>(system: &mut Super, steps: u32, world: &mut W) -> Result<(), Status>
-    requires { system.old.coming ≡ Step }
+    requires { system.old.next_event ≡ Step }
     ensures { Performs (run_and_summarise system.old.lib steps (booted_of system.old)) result
         (W.seen world.old) (W.seen world.new) }
 {
@@ -116,7 +116,7 @@ fn run_or_end<W: World>(
     findings: &[Finding],
     world: &mut W,
 ) -> Result<(), Status>
-    requires { system.old.coming ≡ Step }
+    requires { system.old.next_event ≡ Step }
     ensures { Performs (runs_or_ends (passes (finding_pairs findings.now)) system.old.lib
         (booted_of system.old)) result (W.seen world.old) (W.seen world.new) }
 {
@@ -134,7 +134,7 @@ fn perform_for_findings<W: World>(
     findings: &[Finding],
     world: &mut W,
 ) -> Result<(), Status>
-    requires { system.old.coming ≡ Step }
+    requires { system.old.next_event ≡ Step }
     ensures { Performs (make_after_audit system.old.lib (booted_of system.old) (finding_pairs findings.now))
         result (W.seen world.old) (W.seen world.new) }
 {

@@ -2,7 +2,7 @@
 use Rattle.std.proofs.Common.{ℕ, List, Result, Ok, Err}
 use Rattle.m36_procs.specs.ProcsFields.{ProcsFields}
 use Rattle.m36_procs.specs.ProcsFile.{procs_of_text}
-use Rattle.m36_procs.specs.declared.fault.Code.{Code as ProcsCode}
+use Rattle.m36_procs.specs.declared.fault.ProcsCode.{ProcsCode}
 use Rattle.m36_program.specs.Program.{May}
 use Rattle.m36_program.specs.Reader.{IsReader}
 use Rattle.m36_program.specs.Readers.{bad_file, file_bytes}

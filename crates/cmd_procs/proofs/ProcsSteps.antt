@@ -5,7 +5,7 @@ use Rattle.m36_audit.specs.Joints.{all_found}
 use Rattle.m36_audit.specs.declared.joint_verdict.JointFinding.{JointFinding}
 use Rattle.m36_procs.specs.ProcsFields.{ProcsFields}
 use Rattle.m36_procs.specs.ProcsFile.{procs_of_text}
-use Rattle.m36_procs.specs.declared.fault.Code.{Code as ProcsCode}
+use Rattle.m36_procs.specs.declared.fault.ProcsCode.{ProcsCode}
 use Rattle.m36_world.specs.Seen.{Seen}
 use Rattle.m36_status.specs.declared.status.Status.{Status}
 use Rattle.m36_status.specs.declared.status.Status.TheVariants.{AuditNo, NoMemory}

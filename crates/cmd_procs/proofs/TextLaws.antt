@@ -5,7 +5,7 @@ use Rattle.m36_isol.proofs.JointFindings.{joint_findings_law}
 use Rattle.m36_procs.specs.ProcsFields.{ProcsFields}
 use Rattle.m36_procs.specs.ProcsFile.{procs_of_text}
 use Rattle.m36_procs.specs.ScheduleText.{schedule_pieces}
-use Rattle.m36_procs.specs.declared.fault.Code.{Code as ProcsCode}
+use Rattle.m36_procs.specs.declared.fault.ProcsCode.{ProcsCode}
 use Rattle.m36_status.specs.declared.status.Status.TheVariants.{Done}
 use Rattle.m36_program.specs.Alike.{Alike}
 use Rattle.m36_program.specs.Early.{ends}

@@ -6,8 +6,8 @@ use Rattle.m36_model.specs.Core.{core_store, core_tables}
 use Rattle.m36_model.specs.Schedule.{Processes}
 use Rattle.m36_model.specs.JointAudit.{IsJointlyAudited}
 use Rattle.m36_model.specs.JointIsolation.{JointlyIsolated}
-use Rattle.m36_procs.specs.declared.fault.Code.{Code as ProcsCode}
-use Rattle.m36_procs.specs.declared.fault.Code.TheVariants as procs
+use Rattle.m36_procs.specs.declared.fault.ProcsCode.{ProcsCode}
+use Rattle.m36_procs.specs.declared.fault.ProcsCode.TheVariants as procs
 use Rattle.m36_status.specs.declared.status.Code.{Code}
 use Rattle.m36_status.specs.declared.status.Code.TheVariants as code
 

@@ -7,7 +7,7 @@ use Rattle.m36_desc.specs.Descriptors.{ptw_of}
 use Rattle.m36_model.specs.Place.{wrapped_address, address_in_frame, address_in_frame_by, ptw_at, directory_at, page_at, has_descriptor_in_bounds, sdw_place, sdw_place_by, sdw_at, core_sdw, word_place_by, with_used, with_modified, marked_word, with_mark}
 use Rattle.m36_model.specs.declared.outcome.Refusal.{Refusal}
 use Rattle.m36_associative.specs.Watched.{is_watched}
-use Rattle.m36_associative.specs.Right.{IsMarked, IsWatched, IsDescriptor, IsTableWord, IsPage, IsFetching, AreCoherent}
+use Rattle.m36_associative.specs.Right.{IsMarked, IsWatched, IsKeptDescriptor, IsKeptTableWord, DescribesPage, IsFetching, AreCoherent}
 use Rattle.m36_associative.specs.declared.front.Fetching.{Fetching}
 use Rattle.m36_associative.specs.declared.front.Page.{Page}
 use Rattle.m36_associative.specs.declared.memories.Memories.{Memories}
@@ -42,10 +42,10 @@ module _ (core now words tables : List ℕ) (dbr : DbrFields) (alike : AreAlike 
   still_watched : (seg : ℕ) → IsWatched core dbr words tables seg → IsWatched now dbr words tables seg
   still_watched seg h = record { even = λ a e. h.even a (sym (same_place seg h) ∙ e); odd = λ a e. h.odd a (sym (same_place seg h) ∙ e); directory = h.directory }
 
-  pub descriptor_alike : (seg : ℕ) (d : SdwFields) → IsDescriptor core dbr words tables seg d → IsDescriptor now dbr words tables seg d
+  pub descriptor_alike : (seg : ℕ) (d : SdwFields) → IsKeptDescriptor core dbr words tables seg d → IsKeptDescriptor now dbr words tables seg d
   descriptor_alike seg d h = record { found = same_sdw seg h.watches ∙ h.found; watches = still_watched seg h.watches }
 
-  pub table_word_alike : (a : ℕ) (p : PtwFields) → IsTableWord core dbr words tables a p → IsTableWord now dbr words tables a p
+  pub table_word_alike : (a : ℕ) (p : PtwFields) → IsKeptTableWord core dbr words tables a p → IsKeptTableWord now dbr words tables a p
   table_word_alike a p h = record { inside = rw alike.size h.inside; finds = λ o. alike.frame a h.watches o ∙ h.finds o; watches = h.watches }
 
   word_place_alike : (d : SdwFields) (w a : ℕ) (u : Bool) → d.unpaged ≡ u → (d.unpaged ≡ false → is_watched tables a ≡ true) → word_place_by u d w (ptw_at now a) ≡ word_place_by u d w (ptw_at core a)
@@ -56,7 +56,7 @@ module _ (core now words tables : List ℕ) (dbr : DbrFields) (alike : AreAlike 
   mark_alike same b m w h = subst (λ (x : ℕ). marked_word m x ≡ x) (sym (same b w)) h
 
   module _ (same : (b : ℕ) → is_watched tables b ≡ true → slice_index now b ≡ slice_index core b) where
-    pub page_alike : (p : Page) (seg page : ℕ) → IsPage core dbr words tables p seg page → IsPage now dbr words tables p seg page
+    pub page_alike : (p : Page) (seg page : ℕ) → DescribesPage core dbr words tables p seg page → DescribesPage now dbr words tables p seg page
     page_alike p seg page k =
         record {
           sdw = k.sdw;

@@ -5,26 +5,26 @@ use Rattle.std.proofs.lemmas.Bool.{cases_eq, cases_lt, lt-ltb, le-ltb, le-leb, l
 use Rattle.std.proofs.lemmas.List.{get_or-set_same, get_or-set_other, length-set}
 use Rattle.m36_word.specs.Bits.{of_bit}
 use Rattle.m36_audit.specs.declared.run.Run.{Run}
-use Rattle.m36_audit.specs.Runs.{count_below, begins_at, ends_at, covers, counted, AreCounted, begins_before, ends_before, IsOpenCount, EndAfterBegin}
+use Rattle.m36_audit.specs.Runs.{count_below, begins_at, ends_at, covers, with_one_more_at, AreCounted, begins_before, ends_before, IsOpenCount, EndAfterBegin}
 use Rattle.m36_audit.proofs.Counting.{count_most, count_more, count_sum, count_none, count_past}
 
-counted_at : (counts : List ℕ) (x a : ℕ) → a < length counts → slice_index (counted counts x) a ≡ slice_index counts a + of_bit (x == a)
+counted_at : (counts : List ℕ) (x a : ℕ) → a < length counts → slice_index (with_one_more_at counts x) a ≡ slice_index counts a + of_bit (x == a)
 counted_at counts x a lies = at (cases_eq a x)
   where
-    at : (a ≡ x) ⊎ (a ≡ x → ⊥) → slice_index (counted counts x) a ≡ slice_index counts a + of_bit (x == a)
+    at : (a ≡ x) ⊎ (a ≡ x → ⊥) → slice_index (with_one_more_at counts x) a ≡ slice_index counts a + of_bit (x == a)
     at (inl e) =
         let bit : of_bit (x == a) ≡ 1 = ap of_bit (eq-eqb x a (sym e)) in
         let lies_too : x < length counts = subst (λ (n : ℕ). n < length counts) e lies in
-        let put : slice_index (counted counts x) a ≡ slice_index counts x + 1 = ap (λ (n : ℕ). slice_index (counted counts x) n) e ∙ get_or-set_same counts x (slice_index counts x + 1) 0 lies_too in
+        let put : slice_index (with_one_more_at counts x) a ≡ slice_index counts x + 1 = ap (λ (n : ℕ). slice_index (with_one_more_at counts x) n) e ∙ get_or-set_same counts x (slice_index counts x + 1) 0 lies_too in
         let same : slice_index counts x ≡ slice_index counts a = ap (λ (n : ℕ). slice_index counts n) (sym e) in
         omega arith
     at (inr far) =
         let bit : of_bit (x == a) ≡ 0 = ap of_bit (ne_eqb x a (λ e. far (sym e))) in
-        let kept : slice_index (counted counts x) a ≡ slice_index counts a = get_or-set_other counts x a (slice_index counts x + 1) 0 far in
+        let kept : slice_index (with_one_more_at counts x) a ≡ slice_index counts a = get_or-set_other counts x a (slice_index counts x + 1) 0 far in
         omega arith
 
 -- counting one more run
-pub counted_more : (runs : ℕ → Option Run) (n size : ℕ) (starts stops : List ℕ) (r : Run) → runs n ≡ Some r → AreCounted runs n size starts stops → AreCounted runs (n + 1) size (counted starts r.first) (counted stops r.end)
+pub counted_more : (runs : ℕ → Option Run) (n size : ℕ) (starts stops : List ℕ) (r : Run) → runs n ≡ Some r → AreCounted runs n size starts stops → AreCounted runs (n + 1) size (with_one_more_at starts r.first) (with_one_more_at stops r.end)
 counted_more runs n size starts stops r e c =
     record {
       starts_len = length-set starts r.first (slice_index starts r.first + 1) ∙ c.starts_len;

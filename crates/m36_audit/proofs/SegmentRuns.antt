@@ -8,7 +8,7 @@ use Rattle.m36_desc.specs.Access.{has_ordered_brackets}
 use Rattle.m36_model.specs.Place.{has_descriptor_in_bounds, core_sdw}
 use Rattle.m36_model.specs.declared.outcome.Refusal.{Refusal}
 use Rattle.m36_audit.specs.declared.run.Run.{Run}
-use Rattle.m36_audit.specs.Runs.{unpaged_run, page_run_by, page_run, run_by, run_if_ordered, run_of, run, counted, begins_at, ends_at, AreCounted}
+use Rattle.m36_audit.specs.Runs.{unpaged_run, page_run_by, page_run, run_by, run_if_ordered, run_of, run, with_one_more_at, begins_at, ends_at, AreCounted}
 use Rattle.m36_audit.proofs.Bounds.{live_fits, live_in_bounds}
 use Rattle.m36_audit.proofs.Counting.{count_zero}
 use Rattle.m36_audit.proofs.Covering.{counted_more, counted_on, starts_most, stops_most}
@@ -32,9 +32,9 @@ pub stops_room : (runs : ℕ → Option Run) (n size : ℕ) (starts stops : List
 stops_room runs n size starts stops a few c = room stops size n a c.stops_len (stops_most runs n size starts stops c) few
 
 -- the counts after a call are those with one more run
-pub counted_by : (runs : ℕ → Option Run) (n size : ℕ) (starts stops : List ℕ) (r : Run) (begun ended : List ℕ) → runs n ≡ Some r → begun ≡ counted starts r.first → ended ≡ counted stops r.end → AreCounted runs n size starts stops → AreCounted runs (n + 1) size begun ended
+pub counted_by : (runs : ℕ → Option Run) (n size : ℕ) (starts stops : List ℕ) (r : Run) (begun ended : List ℕ) → runs n ≡ Some r → begun ≡ with_one_more_at starts r.first → ended ≡ with_one_more_at stops r.end → AreCounted runs n size starts stops → AreCounted runs (n + 1) size begun ended
 counted_by runs n size starts stops r begun ended e f g c =
-    subst (λ (l : List ℕ). AreCounted runs (n + 1) size l ended) (sym f) (subst (λ (l : List ℕ). AreCounted runs (n + 1) size (counted starts r.first) l) (sym g) (counted_more runs n size starts stops r e c))
+    subst (λ (l : List ℕ). AreCounted runs (n + 1) size l ended) (sym f) (subst (λ (l : List ℕ). AreCounted runs (n + 1) size (with_one_more_at starts r.first) l) (sym g) (counted_more runs n size starts stops r e c))
 
 module _ (core : List ℕ) (dbr : DbrFields) (seg : ℕ) where
   none_by : (v : Result SdwFields Refusal) → core_sdw core dbr seg ≡ v → ((d : SdwFields) → v ≡ Ok d → has_ordered_brackets d ≡ false) → (piece : ℕ) → run_of core v piece ≡ None

@@ -17,7 +17,7 @@ use Rattle.m36_audit.proofs.Bounds.{live_in_bounds}
 same_live : {E : Type 0} (r : Result SdwFields E) (d e : SdwFields) → r ≡ Ok d → r ≡ Ok e → e ≡ d
 same_live r d e h k = cc
 
-pub out_of_order : (core : List ℕ) (dbr : DbrFields) (seg : ℕ) (findings_from_marks : Option SdwFields) → IsSameLookup findings_from_marks (core_sdw core dbr seg) → Decides (has_disordered_brackets findings_from_marks) (IsOutOfOrder (core_sdw core dbr) seg)
+pub out_of_order : (core : List ℕ) (dbr : DbrFields) (seg : ℕ) (found : Option SdwFields) → IsSameLookup found (core_sdw core dbr seg) → Decides (has_disordered_brackets found) (IsOutOfOrder (core_sdw core dbr) seg)
 out_of_order core dbr seg None t = (λ h. cc, λ k. absurd (t k.sdw k.live_descriptor))
 out_of_order core dbr seg (Some d) t = (
   λ h. record { sdw = d; live_descriptor = t; out = not-true (has_ordered_brackets d) h },
@@ -34,14 +34,14 @@ is_callable core dbr seg d e t k =
     let same = same_live _ e d k.live_descriptor t in
     (sym same, ap may_be_called_from_above same ∙ and_from e.executable (nat_lt e.r2 e.r3) k.executable (lt-ltb e.r2 e.r3 k.outer))
 
-pub no_gate : (core : List ℕ) (dbr : DbrFields) (seg : ℕ) (findings_from_marks : Option SdwFields) → IsSameLookup findings_from_marks (core_sdw core dbr seg) → Decides (is_enterable_anywhere findings_from_marks) (IsNoGate (core_sdw core dbr) seg)
+pub no_gate : (core : List ℕ) (dbr : DbrFields) (seg : ℕ) (found : Option SdwFields) → IsSameLookup found (core_sdw core dbr seg) → Decides (is_enterable_anywhere found) (IsNoGate (core_sdw core dbr) seg)
 no_gate core dbr seg None t = (λ h. cc, λ k. absurd (t k.sdw k.may_be_called_from_above.live_descriptor))
 no_gate core dbr seg (Some d) t = (
   λ h. let p = and_parts (may_be_called_from_above d) d.no_gate h in record { sdw = d; may_be_called_from_above = callable_is core dbr seg d t p.0; open_everywhere = p.1 },
   λ k. let p = is_callable core dbr seg d k.sdw t k.may_be_called_from_above in and_from (may_be_called_from_above d) d.no_gate p.1 (ap (λ (e : SdwFields). e.no_gate) (sym p.0) ∙ k.open_everywhere),
 )
 
-serves_is : (ring : ℕ) (findings_from_marks : Option SdwFields) (r : Result SdwFields Refusal) → IsSameLookup findings_from_marks r → is_ring_stack ring findings_from_marks ≡ is_stack_of ring r
+serves_is : (ring : ℕ) (found : Option SdwFields) (r : Result SdwFields Refusal) → IsSameLookup found r → is_ring_stack ring found ≡ is_stack_of ring r
 serves_is ring None (Ok d) t = absurd (t d refl)
 serves_is ring None (Err e) t = refl
 serves_is ring (Some d) r t = ap (is_stack_of ring) (sym t)

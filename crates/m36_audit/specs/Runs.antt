@@ -95,8 +95,8 @@ covers a None = false
 covers a (Some r) = nat_le r.first a && nat_lt a r.end
 
 -- counts with one more at a word; a word past the end of core is ignored
-abbrev pub counted : List ℕ → ℕ → List ℕ
-counted counts a = slice_set counts a (slice_index counts a + 1)
+abbrev pub with_one_more_at : List ℕ → ℕ → List ℕ
+with_one_more_at counts a = slice_set counts a (slice_index counts a + 1)
 
 -- for each core word the number of the first n runs that begin there, and of those that end there
 pub record AreCounted (runs : ℕ → Option Run) (n size : ℕ) (starts stops : List ℕ) : Type 0 where

@@ -9,7 +9,7 @@ use Rattle.m36_model.specs.Audit.{Table, Sdws, Directory, Pages, IsWordOfTable, 
 use Rattle.m36_model.specs.declared.outcome.Refusal.{Refusal}
 use Rattle.m36_audit.specs.declared.run.Run.{Run}
 use Rattle.m36_audit.specs.Classes.{descriptors_of_process}
-use Rattle.m36_audit.specs.Runs.{runs_of_segment, runs_of_process, run, counted, count_below, covers}
+use Rattle.m36_audit.specs.Runs.{runs_of_segment, runs_of_process, run, with_one_more_at, count_below, covers}
 use Rattle.m36_audit.specs.RecordedNumbers.{several, with_number, with_number_at}
 
 -- The number of a table among those of all processes. Tables of two processes have the same number
@@ -127,12 +127,12 @@ piece_count d = if d.unpaged then 2 else page_count d
 -- counts of the runs that begin at each word, with one more run, if there is one
 abbrev pub with_start : Option Run → List ℕ → List ℕ
 with_start None starts = starts
-with_start (Some r) starts = counted starts r.first
+with_start (Some r) starts = with_one_more_at starts r.first
 
 -- counts of the runs that end at each word, with one more run, if there is one
 abbrev pub with_stop : Option Run → List ℕ → List ℕ
 with_stop None stops = stops
-with_stop (Some r) stops = counted stops r.end
+with_stop (Some r) stops = with_one_more_at stops r.end
 
 -- each count can be increased by one
 abbrev pub HasRoom : List ℕ → Type 0

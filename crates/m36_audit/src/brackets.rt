@@ -12,10 +12,10 @@ use m36_desc::{Dbr, Sdw};
 use m36_tables::has_ordered_brackets;
 
 /// Whether the brackets of the segment, if there is one, are out of order.
-fn has_disordered_brackets(findings_from_marks: Option<Sdw>) -> bool
-    ensures { result ≡ has_disordered_brackets findings_from_marks }
+fn has_disordered_brackets(found: Option<Sdw>) -> bool
+    ensures { result ≡ has_disordered_brackets found }
 {
-    match findings_from_marks {
+    match found {
         Some(sdw) => !has_ordered_brackets(&sdw),
         None => false,
     }

@@ -66,12 +66,12 @@ fn record_page_table(recorded: &mut RecordedNumbers, sdw: &Sdw, table_number: u3
 /// Records the words of a segment's page table, if the segment is live and paged.
 fn record_table_if_live(
     recorded: &mut RecordedNumbers,
-    findings_from_marks: Result<Sdw, Refusal>,
+    found: Result<Sdw, Refusal>,
     table_number: u32,
 )
-    ensures { recorded.new.values.items ≡ table_recorded_if_live table_number findings_from_marks recorded.old.values.items }
+    ensures { recorded.new.values.items ≡ table_recorded_if_live table_number found recorded.old.values.items }
 {
-    match findings_from_marks {
+    match found {
         Ok(sdw) => record_page_table(recorded, &sdw, table_number),
         Err(_) => {}
     }

@@ -60,12 +60,12 @@ impl WordOwners {
     }
 }
 
-/// The findings of process k by itself. Records in `shares` which core words it has. What `marks`
+/// The findings of process k by itself. Records in `owners` which core words it has. What `marks`
 /// and `counts` had before is cleared.
 fn findings_of(
     marks: &mut TableMarks,
     counts: &mut RunCounts,
-    shares: &mut WordOwners,
+    owners: &mut WordOwners,
     core: &Core,
     dbrs: &[Dbr],
     firsts: &Vec<u32>,
@@ -78,16 +78,16 @@ fn findings_of(
     requires stops_len { length counts.old.stops ≡ length core.now }
     requires equal_descriptors { AreFirstEquals core.now dbrs.now (descriptors_of_process * length dbrs.now) firsts.now.items }
     requires before { AreWordOwners core.now dbrs.now firsts.now.items k
-        shares.old.tables.values.items shares.old.segments.values.items
-        shares.old.identities.values.items }
+        owners.old.tables.values.items owners.old.segments.values.items
+        owners.old.identities.values.items }
     ensures marks_len { length marks.new.tables ≡ length core.now }
     ensures starts_len { length counts.new.starts ≡ length core.now }
     ensures stops_len { length counts.new.stops ≡ length core.now }
     ensures findings { (dbr : DbrFields) → slice_get dbrs.now k ≡ Some dbr
         → AreFindings core.now dbr (finding_pairs result.findings.items) }
     ensures after { AreWordOwners core.now dbrs.now firsts.now.items (k + 1)
-        shares.new.tables.values.items shares.new.segments.values.items
-        shares.new.identities.values.items }
+        owners.new.tables.values.items owners.new.segments.values.items
+        owners.new.identities.values.items }
 {
     let dbr = dbrs[k];
     marks.clear();
@@ -96,24 +96,24 @@ fn findings_of(
     count_segments(counts, core, dbr);
     let table_number = k as u32;
     record_owners(
-        &mut shares.tables,
-        &mut shares.segments,
+        &mut owners.tables,
+        &mut owners.segments,
         marks,
         counts,
         core,
         dbr,
         table_number,
     );
-    record_tables(&mut shares.identities, core, dbr, firsts, table_number);
+    record_tables(&mut owners.identities, core, dbr, firsts, table_number);
     findings_from_marks(marks, counts, core, dbr)
 }
 
-/// The findings of each process by itself, in the order of the processes. Records in `shares` which
+/// The findings of each process by itself, in the order of the processes. Records in `owners` which
 /// core words each of them has.
 fn findings_of_all(
     marks: &mut TableMarks,
     counts: &mut RunCounts,
-    shares: &mut WordOwners,
+    owners: &mut WordOwners,
     core: &Core,
     dbrs: &[Dbr],
     firsts: &Vec<u32>,
@@ -124,30 +124,30 @@ fn findings_of_all(
     requires stops_len { length counts.old.stops ≡ length core.now }
     requires equal_descriptors { AreFirstEquals core.now dbrs.now (descriptors_of_process * length dbrs.now) firsts.now.items }
     requires before { AreWordOwners core.now dbrs.now firsts.now.items 0
-        shares.old.tables.values.items shares.old.segments.values.items
-        shares.old.identities.values.items }
+        owners.old.tables.values.items owners.old.segments.values.items
+        owners.old.identities.values.items }
     ensures starts_len { length counts.new.starts ≡ length core.now }
     ensures stops_len { length counts.new.stops ≡ length core.now }
     ensures findings { AreFindingsFrom 0 core.now dbrs.now (all_found result.items) }
     ensures room { array_vec_len result ≤ 48 }
     ensures after { AreWordOwners core.now dbrs.now firsts.now.items (length dbrs.now)
-        shares.new.tables.values.items shares.new.segments.values.items
-        shares.new.identities.values.items }
+        owners.new.tables.values.items owners.new.segments.values.items
+        owners.new.identities.values.items }
 {
     let mut findings = ArrayVec::new();
     for k in 0..dbrs.len() {
-        let own = findings_of(marks, counts, shares, core, dbrs, firsts, k);
+        let own = findings_of(marks, counts, owners, core, dbrs, firsts, k);
         note_process(&mut findings, k as u8, &own);
     }
     findings
 }
 
 /// The findings of the joint audit: those of each process, and then those between processes.
-/// Nothing is recorded in `shares` before.
+/// Nothing is recorded in `owners` before.
 fn joint_findings(
     marks: &mut TableMarks,
     counts: &mut RunCounts,
-    shares: &mut WordOwners,
+    owners: &mut WordOwners,
     core: &Core,
     dbrs: &[Dbr],
     firsts: &Vec<u32>,
@@ -158,22 +158,22 @@ fn joint_findings(
     requires stops_len { length counts.old.stops ≡ length core.now }
     requires equal_descriptors { AreFirstEquals core.now dbrs.now (descriptors_of_process * length dbrs.now) firsts.now.items }
     requires before { AreWordOwners core.now dbrs.now firsts.now.items 0
-        shares.old.tables.values.items shares.old.segments.values.items
-        shares.old.identities.values.items }
+        owners.old.tables.values.items owners.old.segments.values.items
+        owners.old.identities.values.items }
     ensures { AreJointFindings core.now dbrs.now (all_found result.findings.items) }
 {
-    let mut findings = findings_of_all(marks, counts, shares, core, dbrs, firsts);
+    let mut findings = findings_of_all(marks, counts, owners, core, dbrs, firsts);
     let second = first_joint_table_word(
-        &shares.tables,
-        &shares.segments,
-        &shares.identities,
+        &owners.tables,
+        &owners.segments,
+        &owners.identities,
         core,
         dbrs,
         firsts,
     );
     counts.clear();
     count_processes(counts, core, dbrs, firsts);
-    let third = first_joint_segment_word(&shares.segments, counts, core, dbrs, firsts);
+    let third = first_joint_segment_word(&owners.segments, counts, core, dbrs, firsts);
     note_between(&mut findings, 2, second);
     note_between(&mut findings, 3, third);
     JointVerdict { findings }
@@ -204,9 +204,9 @@ pub fn joint_audit(alloc: Global, core: &Core, dbrs: &[Dbr]) -> Result<JointVerd
     let size = core.len();
     let mut marks = TableMarks::new(alloc, size)?;
     let mut counts = RunCounts::new(alloc, size)?;
-    let mut shares = WordOwners::new(alloc, size)?;
+    let mut owners = WordOwners::new(alloc, size)?;
     let firsts = equal_descriptors(alloc, core, dbrs)?;
     law_joint_findings();
     law_schedule();
-    Ok(joint_findings(&mut marks, &mut counts, &mut shares, core, dbrs, &firsts))
+    Ok(joint_findings(&mut marks, &mut counts, &mut owners, core, dbrs, &firsts))
 }

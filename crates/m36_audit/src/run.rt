@@ -1,7 +1,7 @@
 //! Runs of core words, and for each core word how many runs begin and end there.
 
 ghost use Rattle.std.specs.Prelude.{ℕ, ◌≡◌, ◌+◌, ◌-◌, ◌<◌, ◌≤◌, ◌^◌, ◌++◌, IfOk, replicate, length, slice_index, vec_capacity};
-ghost use Rattle.m36_audit.specs.Runs.{counted};
+ghost use Rattle.m36_audit.specs.Runs.{with_one_more_at};
 
 use m36_word::NoMemory;
 use std::alloc::Global;
@@ -103,7 +103,7 @@ impl Counts {
     /// Adds one to the count of a core word. A word past the end of core is ignored.
     fn count(&mut self, a: u32)
         requires room { slice_index self.old a < 2 ^ 32 - 1 }
-        ensures { self.new ≡ counted self.old a }
+        ensures { self.new ≡ with_one_more_at self.old a }
     {
         let index = a as usize;
         if a < self.size {
@@ -138,8 +138,8 @@ impl RunCounts {
     pub(crate) fn add(&mut self, run: Run)
         requires room { slice_index self.old.starts run.first < 2 ^ 32 - 1 }
         requires room_at_end { slice_index self.old.stops run.end < 2 ^ 32 - 1 }
-        ensures starts { self.new.starts ≡ counted self.old.starts run.first }
-        ensures stops { self.new.stops ≡ counted self.old.stops run.end }
+        ensures starts { self.new.starts ≡ with_one_more_at self.old.starts run.first }
+        ensures stops { self.new.stops ≡ with_one_more_at self.old.stops run.end }
     {
         self.starts.count(run.first);
         self.stops.count(run.end);

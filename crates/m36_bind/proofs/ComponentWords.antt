@@ -6,7 +6,7 @@ use Rattle.std.proofs.lemmas.List.{length-append, get_or_append_left, get_or-app
 use Rattle.std.proofs.lemmas.Bool.{ltb-true, ltb-false}
 use Rattle.obj36_parts.specs.PartsFields.{PartsFields}
 use Rattle.m36_relocate.specs.Fields.{ShapeFields, BasesFields}
-use Rattle.obj36_parts.specs.ObjectSegment.{evened, padded_to_even}
+use Rattle.obj36_parts.specs.ObjectSegment.{rounded_up_to_even, padded_to_even}
 use Rattle.m36_relocate.specs.Layout.{shape_of, next_bases}
 use Rattle.m36_relocate.specs.Words.{words_in}
 use Rattle.m36_bind.specs.Components.{PlacedComponentFields, relocation_of}
@@ -14,7 +14,7 @@ use Rattle.m36_bind.specs.Bound.{component_words, with_component_words, statics_
 use Rattle.m36_bind.specs.Meaning.{AreInOrder, IsOutside, start_in, words_end}
 use Rattle.m36_bind.proofs.MovedWords.{words_long}
 
-even_long : (words : List ℕ) → length (padded_to_even words) ≡ evened (length words)
+even_long : (words : List ℕ) → length (padded_to_even words) ≡ rounded_up_to_even (length words)
 even_long words = by (length words % 2) refl
   where
     by : (r : ℕ) → length words % 2 ≡ r → length (cond (eqb r 0) words (words ++ 0 ∷ [])) ≡ length words + r
@@ -22,7 +22,7 @@ even_long words = by (length words % 2) refl
     by (suc zero) is = length-append words (0 ∷ [])
     by (suc (suc r)) is = absurd (omega (arith, is))
 
-start_behind : (statics : Bool) (b : BasesFields) (c : PartsFields) → start_in statics (next_bases b c) ≡ evened (start_in statics b + length (words_in statics c))
+start_behind : (statics : Bool) (b : BasesFields) (c : PartsFields) → start_in statics (next_bases b c) ≡ rounded_up_to_even (start_in statics b + length (words_in statics c))
 start_behind true b c = refl
 start_behind false b c = refl
 
@@ -34,7 +34,7 @@ module _ (frame : ShapeFields) (statics : Bool) where
   unfolding with_component_words
   laid_prefix words [] j lt = refl
   laid_prefix words (p ∷ all) j lt =
-      let even : length (padded_to_even words) ≡ evened (length words) = even_long words in
+      let even : length (padded_to_even words) ≡ rounded_up_to_even (length words) = even_long words in
       let long : length (padded_to_even words ++ component_words frame statics p) ≡ length (padded_to_even words) + length (component_words frame statics p) =
       length-append (padded_to_even words) (component_words frame statics p)
       in
@@ -50,22 +50,22 @@ module _ (frame : ShapeFields) (statics : Bool) where
   unfolding with_component_words
   laid_longer words [] = omega arith
   laid_longer words (p ∷ all) =
-      let even : length (padded_to_even words) ≡ evened (length words) = even_long words in
+      let even : length (padded_to_even words) ≡ rounded_up_to_even (length words) = even_long words in
       let long : length (padded_to_even words ++ component_words frame statics p) ≡ length (padded_to_even words) + length (component_words frame statics p) =
       length-append (padded_to_even words) (component_words frame statics p)
       in
       omega (arith, even, long, laid_longer (padded_to_even words ++ component_words frame statics p) all)
 
   -- the words after those of a component begin where the next component does
-  next_start : (words : List ℕ) (b : BasesFields) (p : PlacedComponentFields) → evened (length words) ≡ start_in statics b
-      → evened (length (padded_to_even words ++ component_words frame statics p)) ≡ start_in statics (next_bases b p.parts)
+  next_start : (words : List ℕ) (b : BasesFields) (p : PlacedComponentFields) → rounded_up_to_even (length words) ≡ start_in statics b
+      → rounded_up_to_even (length (padded_to_even words ++ component_words frame statics p)) ≡ start_in statics (next_bases b p.parts)
   next_start words b p starts =
-      ap evened
+      ap rounded_up_to_even
       (length-append (padded_to_even words) (component_words frame statics p)
       ∙ (λ i. (even_long words ∙ starts) i + words_of_length p i))
       ∙ sym (start_behind statics b p.parts)
 
-  pub laid_at : (words : List ℕ) (b : BasesFields) (all : List PlacedComponentFields) (p : PlacedComponentFields) (i : ℕ) → AreInOrder b all → evened (length words) ≡ start_in statics b → Contains all p
+  pub laid_at : (words : List ℕ) (b : BasesFields) (all : List PlacedComponentFields) (p : PlacedComponentFields) (i : ℕ) → AreInOrder b all → rounded_up_to_even (length words) ≡ start_in statics b → Contains all p
       → i < length (words_in statics p.parts)
       → slice_index (with_component_words frame statics words all) (start_in statics p.bases + i) ≡ slice_index (component_words frame statics p) i
   unfolding with_component_words AreInOrder
@@ -84,7 +84,7 @@ module _ (frame : ShapeFields) (statics : Bool) where
   laid_at words b (q ∷ all) p i order starts (suc k, le, same) lt =
       laid_at (padded_to_even words ++ component_words frame statics q) (next_bases b q.parts) all p i order.2 (next_start words b q starts) (k, omega (arith, le), same) lt
 
-  pub laid_within : (words : List ℕ) (b : BasesFields) (all : List PlacedComponentFields) (p : PlacedComponentFields) → AreInOrder b all → evened (length words) ≡ start_in statics b → Contains all p
+  pub laid_within : (words : List ℕ) (b : BasesFields) (all : List PlacedComponentFields) (p : PlacedComponentFields) → AreInOrder b all → rounded_up_to_even (length words) ≡ start_in statics b → Contains all p
       → start_in statics p.bases + length (words_in statics p.parts) ≤ length (with_component_words frame statics words all)
   unfolding with_component_words AreInOrder
   laid_within words b [] p order starts among = absurd (omega (arith, among.1))
@@ -115,7 +115,7 @@ even_zero words j le lt = by (eqb (length words % 2) 0) lt
     by false small = get_or-append_right words (0 ∷ []) (length words) j 0 refl le ∙ zero_any (j - length words)
 
 pub laid_gap : (frame : ShapeFields) (statics : Bool) (words : List ℕ) (b : BasesFields) (all : List PlacedComponentFields) (j : ℕ) → AreInOrder b all
-    → evened (length words) ≡ start_in statics b → length words ≤ j → ((p : PlacedComponentFields) → Contains all p → IsOutside statics p j)
+    → rounded_up_to_even (length words) ≡ start_in statics b → length words ≤ j → ((p : PlacedComponentFields) → Contains all p → IsOutside statics p j)
     → slice_index (with_component_words frame statics words all) j ≡ 0
 unfolding with_component_words AreInOrder
 laid_gap frame statics words b [] j order starts le outside = get_or_past words j 0 le
@@ -147,7 +147,7 @@ laid_gap frame statics words b (p ∷ all) j order starts le outside =
 
 -- ---- the numbers of static words and of links
 
-pub statics_long : (frame : ShapeFields) (words : List ℕ) (b : BasesFields) (all : List PlacedComponentFields) → AreInOrder b all → evened (length words) ≡ b.statics
+pub statics_long : (frame : ShapeFields) (words : List ℕ) (b : BasesFields) (all : List PlacedComponentFields) → AreInOrder b all → rounded_up_to_even (length words) ≡ b.statics
     → length (with_component_words frame true words all) ≡ statics_end (length words) all
 unfolding with_component_words statics_end AreInOrder
 statics_long frame words b [] order starts = refl
@@ -180,7 +180,7 @@ links_within b (q ∷ all) p order (suc k, le, same) =
     subst (λ n. p.bases.links + p.shape.links ≤ links_end n all) (sym next)
     (links_within (next_bases b q.parts) all p order.2 (k, omega (arith, le), same))
 
-pub words_count : (frame : ShapeFields) (statics : Bool) (words : List ℕ) (b : BasesFields) (all : List PlacedComponentFields) → AreInOrder b all → evened (length words) ≡ start_in statics b
+pub words_count : (frame : ShapeFields) (statics : Bool) (words : List ℕ) (b : BasesFields) (all : List PlacedComponentFields) → AreInOrder b all → rounded_up_to_even (length words) ≡ start_in statics b
     → length (with_component_words frame statics words all) ≡ words_end statics (length words) all
 unfolding with_component_words words_end AreInOrder
 words_count frame statics words b [] order starts = refl

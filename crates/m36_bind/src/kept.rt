@@ -93,7 +93,11 @@ fn retain_line(exports: &Exports, kept: &mut Defs, n: u64, line: &BindLine) -> R
 }
 
 // The definitions of the retained names, or the first of B3 and B5.
-pub(crate) fn kept(alloc: Global, exports: &Exports, lines: &[BindLine]) -> Result<Defs, BindFault>
+pub(crate) fn definitions_of_retain_lines(
+    alloc: Global,
+    exports: &Exports,
+    lines: &[BindLine],
+) -> Result<Defs, BindFault>
     requires { length lines.now < 2 ^ 32 }
     ensures { BindResult result (with_retain_lines exports.now [] 1 lines.now) }
 {

@@ -9,11 +9,11 @@ ghost use Rattle.m36_bindfile.specs.BindFile.{BindResult};
 ghost use Rattle.m36_relocate.specs.Layout.{shape_of, first_bases, next_bases};
 ghost use Rattle.m36_bind.specs.Components.{component, relocation_of, names_of, component_named, with_found_object, with_component_of_line, components_of_lines, AddsComponent, BasesAreBounded, HasShortParts};
 
-use crate::given::Given;
+use crate::given::NamedObjects;
 use indexmap::IndexSet;
 use m36_bindfile::{BindFault, BindLine};
 use m36_relocate::exports::{Exports, own_entries};
-use m36_relocate::layout::{Bases, Relocation, Shape, evened};
+use m36_relocate::layout::{Bases, Relocation, Shape, rounded_up_to_even};
 use m36_text::{HashSeed, Name};
 use m36_word::NoMemory;
 use obj36::Object;
@@ -119,8 +119,8 @@ fn next_bases(b: &Bases, parts: &Parts, n: u64) -> Bases
     ensures near { BasesAreBounded result (n + 1) }
 {
     Bases {
-        text: evened(b.text + text_length(parts)),
-        statics: evened(b.statics + statics_length(parts)),
+        text: rounded_up_to_even(b.text + text_length(parts)),
+        statics: rounded_up_to_even(b.statics + statics_length(parts)),
         links: b.links + links_length(parts),
     }
 }
@@ -144,7 +144,7 @@ fn parts_of(object: &Object) -> &Parts
     ensures value { result.now ≡ object.now }
     ensures few { HasShortParts result.now }
 {
-    object.formed();
+    object.parts_are_well_formed();
     object.parts()
 }
 
@@ -254,7 +254,7 @@ fn add_found_object<'a>(
 #[tactic(auto, using(crate::proofs::PickLaws::pick_found))]
 fn add_component_of_line<'a>(
     alloc: Global,
-    given: &Given<'a>,
+    given: &NamedObjects<'a>,
     all: &mut Components<'a>,
     next: Bases,
     n: u64,
@@ -290,7 +290,7 @@ fn first_bases() -> Bases
 // The components that lines name, or the first of B2 and B3.
 pub(crate) fn components_of<'a>(
     alloc: Global,
-    given: &Given<'a>,
+    given: &NamedObjects<'a>,
     lines: &'a [BindLine],
 ) -> Result<Components<'a>, BindFault>
     requires { length lines.now < 2 ^ 32 }

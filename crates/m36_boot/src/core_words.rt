@@ -32,7 +32,7 @@ fn descriptor_pair(sdw: Option<Sdw>) -> Pair
 
 // Writes the two words of a segment's descriptor into the descriptor segment, which begins at core
 // address 0.
-fn put_pair(core: &mut Core, seg: u16, pair: Pair)
+fn put_descriptor(core: &mut Core, seg: u16, pair: Pair)
     requires seg { seg < 1024 }
     requires core { descriptor_words ≤ length core.old }
     ensures { core.new ≡ slice_set (slice_set core.old (2 * seg) pair.even) (2 * seg + 1) pair.odd }
@@ -52,7 +52,7 @@ pub(crate) fn put_descriptors(core: &mut Core, catalog: &Catalog, files: &[File]
 {
     let count = catalog.count();
     for seg in 0..FIRST_SEGMENT + count as u16 {
-        put_pair(
+        put_descriptor(
             core,
             seg,
             descriptor_pair(descriptor(catalog, files, limits, seg)),

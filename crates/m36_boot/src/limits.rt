@@ -40,7 +40,7 @@ fn gate_limit(seg: u16, file: &File) -> Result<u16, BootFault>
 
 // The call limiter of a segment: 0 if it is not a gate. The error is the fault of a gate.
 #[tactic(auto, unfolding(crate::specs::Refusals::gate_fault, crate::specs::Segments::limit_of))]
-fn limit(seg: u16, segment: &Segment, file: &File) -> Result<u16, BootFault>
+fn call_limit(seg: u16, segment: &Segment, file: &File) -> Result<u16, BootFault>
     ensures { LimitResult seg segment.now file.now result }
 {
     match segment.kind {
@@ -77,7 +77,7 @@ pub(crate) fn limits_of(
     let mut limits = Vec::new(alloc);
     for i in 0..count {
         let seg = FIRST_SEGMENT + i as u16;
-        match limit(seg, catalog.segment(i), file(files, i)) {
+        match call_limit(seg, catalog.segment(i), file(files, i)) {
             Ok(limit) => add_limit(&mut limits, limit)?,
             Err(fault) => return Err(fault),
         }

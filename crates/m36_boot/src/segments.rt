@@ -13,7 +13,7 @@ use m36_desc::{ITS_TAG, Sdw};
 use m36_dir::{Catalog, SegKind, Segment};
 use m36_link::{FIRST_LINKAGE, FIRST_SEGMENT, File, LOT_WORDS, NewSection};
 use m36_word::{NoMemory, Word, Words};
-use obj36_parts::sections::{copied, push_all, push_zeros};
+use obj36_parts::sections::{copy_of_words, push_all, push_zeros};
 use std::alloc::Global;
 
 /// The number of the stack of ring 0.
@@ -203,6 +203,6 @@ pub(crate) fn words_of(
     } else if seg < AFTER_RING_SEGMENTS {
         linkage_words(alloc, lay, (seg - FIRST_LINKAGE) as u8)
     } else {
-        copied(alloc, file(files, (seg - FIRST_SEGMENT) as usize).words())
+        copy_of_words(alloc, file(files, (seg - FIRST_SEGMENT) as usize).words())
     }
 }

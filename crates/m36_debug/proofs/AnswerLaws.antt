@@ -13,7 +13,7 @@ use Rattle.m36_debug.specs.declared.session_line.SessionLine.TheVariants as sess
 use Rattle.m36_debug.specs.declared.machine_relations.LineResult.{LineResult}
 use Rattle.m36_debug.specs.declared.machine_relations.LineResult.TheVariants as ends
 use Rattle.m36_debug.specs.Parts.{SessionPart, FailedPart, LineContract, PutsAnswer, IsTold, CommandContract, BackContract, result_of_put}
-use Rattle.m36_debug.specs.Session.{MachineRelations, Activity, Waiting, Running, Backing, Over, Starved, SessionPoint, standing, Took, Went, state_after, said, activity_after_line, state_after_line, line_answer, activity_if_running, went, back_answer}
+use Rattle.m36_debug.specs.Session.{MachineRelations, Activity, Waiting, Running, Backing, Over, Starved, SessionPoint, standing, Took, Went, state_after, event_lines, activity_after_line, state_after_line, line_answer, activity_if_running, point_after_back, back_answer}
 use Rattle.m36_debug.specs.SessionLines.{session_line}
 use Rattle.m36_debug.specs.SessionTexts.{unknown_line, end_line, end_lines}
 use Rattle.m36_debug.specs.SessionState.{SessionStateFields}
@@ -39,7 +39,7 @@ took_part :
     {M : Type 0} (o : MachineRelations M) (s : SessionStateFields) (m : M) (text : List ℕ) (kind : SessionLine) (old new : Pending)
     → session_line text ≡ kind → PutsPieces Done (line_answer (o.regs m) (o.content m) s text kind) old new
     → SessionPart o (standing s Waiting) m (text ∷ []) (standing (state_after_line s kind) (activity_after_line s text kind)) m Done old new
-unfolding state_after said
+unfolding state_after event_lines
 took_part o s m text kind old new is puts =
     let P : SessionLine → Type 0 = λ k. SessionPart o (standing s Waiting) m (text ∷ []) (standing (state_after_line s k) (activity_after_line s text k)) m Done old new in
     subst P is
@@ -50,7 +50,7 @@ took_cut :
     {M : Type 0} (o : MachineRelations M) (s : SessionStateFields) (m : M) (text : List ℕ) (kind : SessionLine) (old new : Pending)
     → session_line text ≡ kind → PutsPieces Failed (line_answer (o.regs m) (o.content m) s text kind) old new
     → FailedPart o (standing s Waiting) m (text ∷ []) m old new
-unfolding said
+unfolding event_lines
 took_cut o s m text kind old new is puts =
     event_cut o (standing s Waiting) m m (Took text) old new refl
     (subst (λ k. PutsPieces Failed (line_answer (o.regs m) (o.content m) s text k) old new) (sym is) puts)
@@ -166,8 +166,8 @@ took_back o end n s m text sitting m' old new is back =
 pub went_part :
     {M : Type 0} (o : MachineRelations M) (answer : BackAnswer) (n : ℕ) (text : List ℕ) (s : SessionStateFields) (m m' : M) (old new : Pending)
     → o.went m n answer m' → PutsPieces Done (back_answer (o.regs m') text answer) old new
-    → SessionPart o (standing s (Backing n text)) m [] (went s n answer) m' Done old new
-unfolding state_after said
+    → SessionPart o (standing s (Backing n text)) m [] (point_after_back s n answer) m' Done old new
+unfolding state_after event_lines
 went_part o answer n text s m m' old new may puts =
     event_part o (standing s (Backing n text)) m m' (Went answer) old new may puts
 
@@ -175,7 +175,7 @@ pub went_cut :
     {M : Type 0} (o : MachineRelations M) (answer : BackAnswer) (n : ℕ) (text : List ℕ) (s : SessionStateFields) (m m' : M) (old new : Pending)
     → o.went m n answer m' → PutsPieces Failed (back_answer (o.regs m') text answer) old new
     → FailedPart o (standing s (Backing n text)) m [] m' old new
-unfolding said
+unfolding event_lines
 went_cut o answer n text s m m' old new may puts =
     event_cut o (standing s (Backing n text)) m m' (Went answer) old new may puts
 
@@ -212,7 +212,7 @@ command_ran o answer run s m sitting m' old new is says =
 -- the machine was asked to go back, and the answer was written at once
 pub went_told :
     {M : Type 0} (o : MachineRelations M) (put : Put) (end : LineResult) (answer : BackAnswer) (n : ℕ) (text : List ℕ) (s sitting : SessionStateFields) (m m' : M) (old new : Pending)
-    → o.went m n answer m' → went s n answer ≡ standing sitting Waiting
+    → o.went m n answer m' → point_after_back s n answer ≡ standing sitting Waiting
     → PutsPieces put (back_answer (o.regs m') text answer) old new → end ≡ result_of_put put
     → LineContract o end (standing s (Backing n text)) m [] sitting m' old new
 went_told o Done end answer n text s sitting m m' old new may stands puts ends =

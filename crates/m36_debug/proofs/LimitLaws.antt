@@ -24,7 +24,7 @@ use Rattle.m36_debug.specs.declared.session_line.SessionLine.TheVariants as sess
 use Rattle.m36_debug.specs.Commands.{run_of, go_limit, after_turn, is_at_break}
 use Rattle.m36_debug.specs.Parts.{PrecludesStepIfNoneLeft, TurnChangesCounts, CountsSteps, put_turn_result}
 use Rattle.m36_debug.specs.Session.{MachineRelations, Waiting, Running, Backing, Over, Starved, SessionPoint, standing, SessionEvent, EventKind, Took}
-use Rattle.m36_debug.specs.Session.{Turned, Went, MayHappen, Follow, lines_in, line_in, state_after, next_of, activity_by_after_turn, activity_if_running, activity_after_line, state_after_line, went}
+use Rattle.m36_debug.specs.Session.{Turned, Went, MayHappen, Follow, lines_in, line_in, state_after, next_of, activity_by_after_turn, activity_if_running, activity_after_line, state_after_line, point_after_back}
 use Rattle.m36_debug.specs.SessionLines.{session_line, line_of_words, most_steps, longest_line, line_with_place}
 use Rattle.m36_debug.specs.SessionState.{SessionStateFields, initial_session_state, session_state_after, session_state_before, has_taken}
 use Rattle.m36_debug.specs.StepLimit.{step_count, steps_taken, most_steps_of, StepsWithin}
@@ -233,7 +233,7 @@ line_some line = some_if (nat_le (length line) longest_line) (line_of_words (wor
 
 none_gone :
     {M : Type 0} (o : MachineRelations M) (s : SessionStateFields) (n : ℕ) (answer : BackAnswer) (m : M) (events : List (SessionEvent M)) (s' : SessionPoint) (m' : M)
-    → Follow o (went s n answer) m events s' m' → lines_in events ≡ [] → steps_taken events ≡ 0
+    → Follow o (point_after_back s n answer) m events s' m' → lines_in events ≡ [] → steps_taken events ≡ 0
 none_gone o s n back.Done m events s' m' follow none = none_waiting o (session_state_before s n) m events s' m' follow none
 none_gone o s n (back.Before taken) m events s' m' follow none = none_waiting o s m events s' m' follow none
 none_gone o s n back.Unable m events s' m' follow none = none_waiting o s m events s' m' follow none

@@ -4,7 +4,7 @@ use Rattle.std.proofs.lemmas.List.{append-nil, append_assoc}
 use Rattle.m36_outside.specs.declared.sink.Put.TheVariants.{Done, Failed}
 use Rattle.m36_debug.specs.Putting.{Pending, PutsPieces}
 use Rattle.m36_debug.specs.Parts.{SessionPart, FailedPart}
-use Rattle.m36_debug.specs.Session.{MachineRelations, SessionPoint, EventKind, SessionEvent, MayHappen, state_after, said, Follow, texts_of, lines_in, line_in}
+use Rattle.m36_debug.specs.Session.{MachineRelations, SessionPoint, EventKind, SessionEvent, MayHappen, state_after, event_lines, Follow, texts_of, lines_in, line_in}
 use Rattle.m36_debug.proofs.PutLaws.{puts_nothing, puts_on, puts_more}
 
 -- ---- events
@@ -24,8 +24,8 @@ pub said_on :
 unfolding Follow texts_of
 said_on o s m [] others s1 m1 one = ap (λ (u : SessionPoint). texts_of o u others) (sym one.0)
 said_on o s m (e ∷ events) others s1 m1 one =
-    ap (λ t. said (o.regs e.after) (o.content e.after) s e.happened ++ t) (said_on o (state_after (o.regs e.after) s e.happened) e.after events others s1 m1 one.1)
-    ∙ sym (append_assoc (said (o.regs e.after) (o.content e.after) s e.happened) (texts_of o (state_after (o.regs e.after) s e.happened) events) (texts_of o s1 others))
+    ap (λ t. event_lines (o.regs e.after) (o.content e.after) s e.happened ++ t) (said_on o (state_after (o.regs e.after) s e.happened) e.after events others s1 m1 one.1)
+    ∙ sym (append_assoc (event_lines (o.regs e.after) (o.content e.after) s e.happened) (texts_of o (state_after (o.regs e.after) s e.happened) events) (texts_of o s1 others))
 
 pub in_on : {M : Type 0} (events others : List (SessionEvent M)) → lines_in (events ++ others) ≡ lines_in events ++ lines_in others
 unfolding lines_in
@@ -67,19 +67,19 @@ part_cut o s m lines others s1 m1 m2 old now new one two = record {
 -- one event
 pub event_part :
     {M : Type 0} (o : MachineRelations M) (s : SessionPoint) (m m' : M) (h : EventKind) (old new : Pending)
-    → MayHappen o s.doing m h m' → PutsPieces Done (said (o.regs m') (o.content m') s h) old new
+    → MayHappen o s.doing m h m' → PutsPieces Done (event_lines (o.regs m') (o.content m') s h) old new
     → SessionPart o s m (line_in h) (state_after (o.regs m') s h) m' Done old new
 unfolding Follow texts_of lines_in
 event_part o s m m' h old new may puts = record {
   events = record { happened = h; after = m' } ∷ [];
   follow = (may, (refl, refl));
   took = append-nil (line_in h);
-  wrote = subst (λ l. PutsPieces Done l old new) (sym (append-nil (said (o.regs m') (o.content m') s h))) puts;
+  wrote = subst (λ l. PutsPieces Done l old new) (sym (append-nil (event_lines (o.regs m') (o.content m') s h))) puts;
 }
 
 pub event_cut :
     {M : Type 0} (o : MachineRelations M) (s : SessionPoint) (m m' : M) (h : EventKind) (old new : Pending)
-    → MayHappen o s.doing m h m' → PutsPieces Failed (said (o.regs m') (o.content m') s h) old new
+    → MayHappen o s.doing m h m' → PutsPieces Failed (event_lines (o.regs m') (o.content m') s h) old new
     → FailedPart o s m (line_in h) m' old new
 unfolding Follow texts_of lines_in
 event_cut o s m m' h old new may puts = record {
@@ -88,6 +88,6 @@ event_cut o s m m' h old new may puts = record {
     events = record { happened = h; after = m' } ∷ [];
     follow = (may, (refl, refl));
     took = append-nil (line_in h);
-    wrote = subst (λ l. PutsPieces Failed l old new) (sym (append-nil (said (o.regs m') (o.content m') s h))) puts;
+    wrote = subst (λ l. PutsPieces Failed l old new) (sym (append-nil (event_lines (o.regs m') (o.content m') s h))) puts;
   };
 }

@@ -13,7 +13,7 @@ use Rattle.m36_debug.specs.declared.commands.AfterTurn.TheVariants.{Runs, Waits,
 use Rattle.m36_debug.specs.declared.session_line.SessionLine.{SessionLine}
 use Rattle.m36_debug.specs.declared.session_line.SessionLine.TheVariants.{Quit}
 use Rattle.m36_debug.specs.declared.session_line.SessionLine.TheVariants as session
-use Rattle.m36_debug.specs.Session.{MachineRelations, Activity, Waiting, Running, Backing, Over, Starved, SessionPoint, standing, EventKind, Took, Turned, Went, SessionEvent, MayHappen, activity_after_line, activity_if_running, activity_by_after_turn, went, next_of, state_after, Follow, lines_in, line_in}
+use Rattle.m36_debug.specs.Session.{MachineRelations, Activity, Waiting, Running, Backing, Over, Starved, SessionPoint, standing, EventKind, Took, Turned, Went, SessionEvent, MayHappen, activity_after_line, activity_if_running, activity_by_after_turn, point_after_back, next_of, state_after, Follow, lines_in, line_in}
 use Rattle.m36_debug.specs.SessionLines.{session_line, IsNotQuit}
 use Rattle.m36_debug.specs.SessionContract.{EndInQuit}
 use Rattle.m36_debug.specs.SessionState.{SessionStateFields}
@@ -94,7 +94,7 @@ further_not_over (Runs run) is = cc
 further_not_over Waits is = cc
 further_not_over Starves is = cc
 
-went_not_over : (s : SessionStateFields) (n : ℕ) (answer : BackAnswer) → (went s n answer).doing ≡ Over → ⊥
+went_not_over : (s : SessionStateFields) (n : ℕ) (answer : BackAnswer) → (point_after_back s n answer).doing ≡ Over → ⊥
 went_not_over s n back.Done is = cc
 went_not_over s n (back.Before taken) is = cc
 went_not_over s n back.Unable is = cc

@@ -16,7 +16,7 @@ use Rattle.m36_debug.specs.Commands.{after_turn}
 use Rattle.m36_debug.specs.LinesTaken.{IsFirstPart}
 use Rattle.m36_debug.specs.Session.{MachineRelations, Activity, Waiting, Running, Backing, Over, Starved, SessionPoint, standing}
 use Rattle.m36_debug.specs.Session.{EventKind, Took, Turned, Went, SessionEvent}
-use Rattle.m36_debug.specs.Session.{MayHappen, command_lines, state_after, said, Follow, texts_of, lines_in, line_in}
+use Rattle.m36_debug.specs.Session.{MayHappen, command_lines, state_after, event_lines, Follow, texts_of, lines_in, line_in}
 use Rattle.m36_debug.specs.SessionState.{SessionStateFields, session_state_after}
 use Rattle.m36_debug.specs.SessionTexts.{turn_lines}
 use Rattle.m36_debug.specs.SessionText.{IsDeterministic, TurnIs, EachTurn}
@@ -109,8 +109,8 @@ command_silent Go g taken after = refl
 
 turn_silent :
     (g : RegsFields) (content : ℕ → ℕ → Option ℕ) (s : SessionStateFields) (run : RunningCommand)
-    → said g content (standing s (Running run)) (Turned turns.NoMemory) ≡ []
-unfolding said after_turn
+    → event_lines g content (standing s (Running run)) (Turned turns.NoMemory) ≡ []
+unfolding event_lines after_turn
 turn_silent g content s run = command_silent run.command g s.taken (session_state_after s turns.NoMemory)
 
 -- going back ran out of memory
@@ -122,21 +122,21 @@ back_starves g s n line = refl
 
 back_silent :
     (g : RegsFields) (content : ℕ → ℕ → Option ℕ) (s : SessionStateFields) (n : ℕ) (line : List ℕ)
-    → said g content (standing s (Backing n line)) (Went back.NoMemory) ≡ []
-unfolding said
+    → event_lines g content (standing s (Backing n line)) (Went back.NoMemory) ≡ []
+unfolding event_lines
 back_silent g content s n line = refl
 
 -- ---- an event of each
 
 -- what is written for an event and the events after it
 abbrev after_event : {M : Type 0} → MachineRelations M → SessionPoint → EventKind → M → List (SessionEvent M) → List (List ℕ)
-after_event o s h a events = said (o.regs a) (o.content a) s h ++ texts_of o (state_after (o.regs a) s h) events
+after_event o s h a events = event_lines (o.regs a) (o.content a) s h ++ texts_of o (state_after (o.regs a) s h) events
 
 -- memory ran out in the first session
 first_starved :
     {M : Type 0} (o : MachineRelations M) (s : SessionPoint) (h : EventKind) (a : M) (events : List (SessionEvent M))
     (s1 : SessionPoint) (m1 : M) (all : List (List ℕ))
-    → said (o.regs a) (o.content a) s h ≡ [] → (state_after (o.regs a) s h).doing ≡ Starved
+    → event_lines (o.regs a) (o.content a) s h ≡ [] → (state_after (o.regs a) s h).doing ≡ Starved
     → Follow o (state_after (o.regs a) s h) a events s1 m1 → IsFirstPart (after_event o s h a events) all
 first_starved o s h a events s1 m1 all silent starved follow =
     let after : SessionPoint = state_after (o.regs a) s h in
@@ -176,11 +176,11 @@ same_event o Plain Alike stay s h h' a a' events others s1 m1 s2 m2 same_kind al
     let regs : o.regs a ≡ o.regs a' = stay.regs a a' alike in
     let content : o.content a ≡ o.content a' = stay.content a a' alike in
     let point : state_after (o.regs a) s h ≡ state_after (o.regs a') s h' = λ i. state_after (regs i) s (same_kind i) in
-    let texts : said (o.regs a) (o.content a) s h ++ texts_of o (state_after (o.regs a) s h) others ≡ after_event o s h'
+    let texts : event_lines (o.regs a) (o.content a) s h ++ texts_of o (state_after (o.regs a) s h) others ≡ after_event o s h'
     a' others =
-    λ i. said (regs i) (content i) s (same_kind i) ++ texts_of o (point i) others in
+    λ i. event_lines (regs i) (content i) s (same_kind i) ++ texts_of o (point i) others in
     subst (λ l. IsFirstPart (after_event o s h a events) l) texts
-    (first_on (said (o.regs a) (o.content a) s h) (texts_of o (state_after (o.regs a) s h) events)
+    (first_on (event_lines (o.regs a) (o.content a) s h) (texts_of o (state_after (o.regs a) s h) events)
     (texts_of o (state_after (o.regs a) s h) others)
     (later (state_after (o.regs a) s h) a a' alike follow
     (subst (λ (p : SessionPoint). Follow o p a' others s2 m2) (sym point) follow') same decide_after_turn))
@@ -209,7 +209,7 @@ both_turned o Plain Alike stay s run turn turn' a a' events others s1 m1 s2 m2 (
     later =
     let p : SessionPoint = standing s (Running run) in
     first_starved o p (Turned turn) a events s1 m1 (after_event o p (Turned turn') a' others)
-    (ap (λ t. said (o.regs a) (o.content a) p (Turned t)) memory ∙ turn_silent (o.regs a) (o.content a) s run)
+    (ap (λ t. event_lines (o.regs a) (o.content a) p (Turned t)) memory ∙ turn_silent (o.regs a) (o.content a) s run)
     (ap (λ t. (state_after (o.regs a) p (Turned t)).doing) memory ∙ turn_starves (o.regs a) s run) follow
 both_turned o Plain Alike stay s run turn turn' a a' events others s1 m1 s2 m2 (inr (inl memory)) follow follow' same
     decide_after_turn later =
@@ -238,7 +238,7 @@ both_went o Plain Alike stay s n line answer answer' a a' events others s1 m1 s2
     decide_after_turn later =
     let p : SessionPoint = standing s (Backing n line) in
     first_starved o p (Went answer) a events s1 m1 (after_event o p (Went answer') a' others)
-    (ap (λ t. said (o.regs a) (o.content a) p (Went t)) memory ∙ back_silent (o.regs a) (o.content a) s n line)
+    (ap (λ t. event_lines (o.regs a) (o.content a) p (Went t)) memory ∙ back_silent (o.regs a) (o.content a) s n line)
     (ap (λ t. (state_after (o.regs a) p (Went t)).doing) memory ∙ back_starves (o.regs a) s n line) follow
 both_went o Plain Alike stay s n line answer answer' a a' events others s1 m1 s2 m2 (inr (inl memory)) follow follow'
     same decide_after_turn later =

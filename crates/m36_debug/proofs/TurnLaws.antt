@@ -23,9 +23,9 @@ use Rattle.m36_debug.specs.declared.commands.RunningCommand.{RunningCommand}
 use Rattle.m36_debug.specs.declared.commands.AfterTurn.{AfterTurn}
 use Rattle.m36_debug.specs.declared.commands.AfterTurn.TheVariants.{Runs, Waits, Starves}
 use Rattle.m36_debug.specs.declared.machine_relations.Came.{Came}
-use Rattle.m36_debug.specs.Commands.{run_of, wants, after_step, after_link, after_turn, is_at_break}
+use Rattle.m36_debug.specs.Commands.{run_of, takes_another, after_step, after_link, after_turn, is_at_break}
 use Rattle.m36_debug.specs.Parts.{SessionPart, FailedPart, TurnContract, ServiceIsFlagged, TurnChangesCounts, PrecludesStepIfNoneLeft, CountsSteps, ChangesCounts, MakesTurn, put_turn_result, turn_result}
-use Rattle.m36_debug.specs.Session.{MachineRelations, SessionPoint, standing, Running, Turned, activity_by_after_turn, next_of, running_turn_lines, command_lines, state_after, said}
+use Rattle.m36_debug.specs.Session.{MachineRelations, SessionPoint, standing, Running, Turned, activity_by_after_turn, next_of, running_turn_lines, command_lines, state_after, event_lines}
 use Rattle.m36_debug.specs.SessionState.{SessionStateFields, session_state_after}
 use Rattle.m36_debug.proofs.PartLaws.{event_part, event_cut}
 
@@ -42,14 +42,14 @@ turn_part :
     {M : Type 0} (o : MachineRelations M) (turn : Turn) (run : RunningCommand) (s : SessionStateFields) (m m' : M) (old new : Pending)
     → o.next m turn m' → PutsPieces Done (running_turn_lines (o.regs m') s run turn) old new
     → SessionPart o (standing s (Running run)) m [] (standing (session_state_after s turn) (activity_by_after_turn (next_of (o.regs m') s run turn))) m' Done old new
-unfolding state_after said
+unfolding state_after event_lines
 turn_part o turn run s m m' old new next puts = event_part o (standing s (Running run)) m m' (Turned turn) old new next puts
 
 turn_cut :
     {M : Type 0} (o : MachineRelations M) (turn : Turn) (run : RunningCommand) (s : SessionStateFields) (m m' : M) (old new : Pending)
     → o.next m turn m' → PutsPieces Failed (running_turn_lines (o.regs m') s run turn) old new
     → FailedPart o (standing s (Running run)) m [] m' old new
-unfolding said
+unfolding event_lines
 turn_cut o turn run s m m' old new next puts = event_cut o (standing s (Running run)) m m' (Turned turn) old new next puts
 
 -- a turn was taken, and what it says was put
@@ -85,15 +85,15 @@ turn_served o Failed turn next m m' may = tt
 
 -- ---- a turn with no steps left
 
-wants_none : (command : TurnCommand) (b : Bool) → wants command 0 b ≡ false
-wants_none commands.Step b = refl
-wants_none commands.Go b = refl
+takes_another_none : (command : TurnCommand) (b : Bool) → takes_another command 0 b ≡ false
+takes_another_none commands.Step b = refl
+takes_another_none commands.Go b = refl
 
 settled_interrupted :
     {M : Type 0} (o : MachineRelations M) (more : Bool) (command : TurnCommand) (left : ℕ) (b : Bool) (turn : Turn) (m m' : M)
-    → wants command left b ≡ more → PrecludesStepIfNoneLeft o (put_turn_result turn (if more then Runs (run_of command left) else Waits)) m m'
+    → takes_another command left b ≡ more → PrecludesStepIfNoneLeft o (put_turn_result turn (if more then Runs (run_of command left) else Waits)) m m'
 settled_interrupted o true command left b turn m m' is =
-    λ none. absurd (true≢false (sym is ∙ ap (λ (n : ℕ). wants command n b) none ∙ wants_none command b))
+    λ none. absurd (true≢false (sym is ∙ ap (λ (n : ℕ). takes_another command n b) none ∙ takes_another_none command b))
 settled_interrupted o false command left b turn m m' is = tt
 
 step_interrupted :
@@ -101,7 +101,7 @@ step_interrupted :
     → o.next m (turns.Stepped result_of_put) m' → result_of_put.outcome ≡ outcome
     → PrecludesStepIfNoneLeft o (put_turn_result (turns.Stepped result_of_put) (after_step command left b outcome)) m m'
 step_interrupted o Next command left b result_of_put m m' may is =
-    settled_interrupted o (wants command left b) command left b (turns.Stepped result_of_put) m m' refl
+    settled_interrupted o (takes_another command left b) command left b (turns.Stepped result_of_put) m m' refl
 step_interrupted o (Faulted fault) command left b result_of_put m m' may is =
     λ none. record { turn = turns.Stepped result_of_put; next = may; kind = subst IsHalted (sym is) tt }
 step_interrupted o (Stopped stop) command left b result_of_put m m' may is =
@@ -120,7 +120,7 @@ link_interrupted :
     → o.next m (turns.Linked note) m' → note.answer ≡ answer
     → PrecludesStepIfNoneLeft o (put_turn_result (turns.Linked note) (after_link run.command run.left b answer)) m m'
 link_interrupted o (Ok pair) run b note m m' may is =
-    settled_interrupted o (wants run.command run.left b) run.command run.left b (turns.Linked note) m m' refl
+    settled_interrupted o (takes_another run.command run.left b) run.command run.left b (turns.Linked note) m m' refl
 link_interrupted o (Err code) run b note m m' may is =
     λ none. record { turn = turns.Linked note; next = may; kind = subst IsRefused (sym is) tt }
 
@@ -131,7 +131,7 @@ unfolding after_turn
 came_interrupted o (turns.Stepped result_of_put) run b m m' may = stepped_interrupted o (nat_eq run.left 0) run b result_of_put m m' may
 came_interrupted o (turns.Linked note) run b m m' may = link_interrupted o note.answer run b note m m' may refl
 came_interrupted o (turns.Console text) run b m m' may =
-    settled_interrupted o (wants run.command run.left b) run.command run.left b (turns.Console text) m m' refl
+    settled_interrupted o (takes_another run.command run.left b) run.command run.left b (turns.Console text) m m' refl
 came_interrupted o (turns.Ended end) run b m m' may = tt
 came_interrupted o turns.Full run b m m' may = tt
 came_interrupted o turns.NoMemory run b m m' may = tt
@@ -164,7 +164,7 @@ settled_step false command result_of_put n left before below = omega arith
 step_counts :
     (outcome : Outcome) (command : TurnCommand) (b : Bool) (result_of_put : StepRecord) (n left before : ℕ)
     → n < left → TurnChangesCounts (put_turn_result (turns.Stepped result_of_put) (after_step command n b outcome)) left before (before + 1)
-step_counts Next command b result_of_put n left before below = settled_step (wants command n b) command result_of_put n left before below
+step_counts Next command b result_of_put n left before below = settled_step (takes_another command n b) command result_of_put n left before below
 step_counts (Faulted fault) command b result_of_put n left before below = (below, omega arith)
 step_counts (Stopped stop) command b result_of_put n left before below = (below, omega arith)
 
@@ -186,7 +186,7 @@ settled_link false command note left before = omega arith
 link_counts :
     (answer : Result Pair LinkCode) (run : RunningCommand) (b : Bool) (note : LinkNoteFields) (before : ℕ)
     → TurnChangesCounts (put_turn_result (turns.Linked note) (after_link run.command run.left b answer)) run.left before before
-link_counts (Ok pair) run b note before = settled_link (wants run.command run.left b) run.command note run.left before
+link_counts (Ok pair) run b note before = settled_link (takes_another run.command run.left b) run.command note run.left before
 link_counts (Err code) run b note before = (refl, refl)
 
 settled_console :
@@ -201,7 +201,7 @@ pub came_counts :
 unfolding after_turn session_state_after
 came_counts (turns.Stepped result_of_put) run b s = stepped_counts (nat_eq run.left 0) run b result_of_put s.taken refl
 came_counts (turns.Linked note) run b s = link_counts note.answer run b note s.taken
-came_counts (turns.Console text) run b s = settled_console (wants run.command run.left b) run.command text run.left s.taken
+came_counts (turns.Console text) run b s = settled_console (takes_another run.command run.left b) run.command text run.left s.taken
 came_counts (turns.Ended end) run b s = omega arith
 came_counts turns.Full run b s = omega arith
 came_counts turns.NoMemory run b s = omega arith

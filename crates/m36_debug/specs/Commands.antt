@@ -34,14 +34,14 @@ is_at_break p breaks = list_any (is_at p) breaks
 
 -- Whether a command that may take `left` more steps takes another one. `go` stops at a break, but
 -- takes at least one step.
-abbrev pub wants : TurnCommand → ℕ → Bool → Bool
-wants Step left at_break = nat_lt 0 left
-wants Go left at_break = nat_lt 0 left && (nat_eq left go_limit || not at_break)
+abbrev pub takes_another : TurnCommand → ℕ → Bool → Bool
+takes_another Step left at_break = nat_lt 0 left
+takes_another Go left at_break = nat_lt 0 left && (nat_eq left go_limit || not at_break)
 
 -- what a command does after a turn that need not be followed by a service or the end of the run
 abbrev pub continue_or_wait : TurnCommand → ℕ → Bool → AfterTurn
 continue_or_wait command left at_break =
-    if wants command left at_break then Runs (run_of command left) else Waits
+    if takes_another command left at_break then Runs (run_of command left) else Waits
 
 -- What a command does after a step. One whose outcome is not Next is followed at once by its
 -- service or by the end of the run: by one more turn, even if no steps are left.

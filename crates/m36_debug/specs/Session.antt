@@ -168,11 +168,11 @@ point_after_turn g s run turn = standing (session_state_after s turn) (activity_
 -- ---- the machine was asked to go back
 
 -- the state of the session after the machine was asked to go back n steps
-abbrev pub went : SessionStateFields → ℕ → BackAnswer → SessionPoint
-went s n back.Done = standing (session_state_before s n) Waiting
-went s n (back.Before taken) = standing s Waiting
-went s n back.Unable = standing s Waiting
-went s n back.NoMemory = standing s Starved
+abbrev pub point_after_back : SessionStateFields → ℕ → BackAnswer → SessionPoint
+point_after_back s n back.Done = standing (session_state_before s n) Waiting
+point_after_back s n (back.Before taken) = standing s Waiting
+point_after_back s n back.Unable = standing s Waiting
+point_after_back s n back.NoMemory = standing s Starved
 
 -- The lines that are written after the machine was asked to go back. If it did not, the line is
 -- answered as an unknown one; if memory ran out, nothing is written.
@@ -189,7 +189,7 @@ abbrev pub state_after_by : RegsFields → SessionStateFields → Activity → E
 state_after_by g s Waiting (Took line) =
     standing (state_after_line s (session_line line)) (activity_after_line s line (session_line line))
 state_after_by g s (Running run) (Turned turn) = point_after_turn g s run turn
-state_after_by g s (Backing n line) (Went answer) = went s n answer
+state_after_by g s (Backing n line) (Went answer) = point_after_back s n answer
 state_after_by g s doing happened = standing s doing
 
 -- the state of the session after an event
@@ -198,18 +198,18 @@ state_after g s happened = state_after_by g s.sitting s.doing happened
 
 -- the lines that are written for an event, given what the session remembers and what it is doing
 -- before it, and the registers and words of the machine after it
-abbrev pub said_by :
+abbrev pub event_lines_by :
     RegsFields → (ℕ → ℕ → Option ℕ) → SessionStateFields → Activity → EventKind → List (List ℕ)
-said_by g content s Waiting (Took line) = line_answer g content s line (session_line line)
-said_by g content s (Running run) (Turned turn) = running_turn_lines g s run turn
-said_by g content s (Backing n line) (Went answer) = back_answer g line answer
-said_by g content s doing happened = []
+event_lines_by g content s Waiting (Took line) = line_answer g content s line (session_line line)
+event_lines_by g content s (Running run) (Turned turn) = running_turn_lines g s run turn
+event_lines_by g content s (Backing n line) (Went answer) = back_answer g line answer
+event_lines_by g content s doing happened = []
 
 -- the lines that are written for an event, given the state of the session before it, and the
 -- registers and words of the machine after it
-unfoldable pub said :
+unfoldable pub event_lines :
     RegsFields → (ℕ → ℕ → Option ℕ) → SessionPoint → EventKind → List (List ℕ)
-said g content s happened = said_by g content s.sitting s.doing happened
+event_lines g content s happened = event_lines_by g content s.sitting s.doing happened
 
 -- Events follow one another, from a state of the session and a machine to others.
 unfoldable pub Follow :
@@ -223,7 +223,7 @@ Follow o s m (e ∷ events) s' m' =
 unfoldable pub texts_of : {M : Type 0} → MachineRelations M → SessionPoint → List (SessionEvent M) → List (List ℕ)
 texts_of o s [] = []
 texts_of o s (e ∷ events) =
-    said (o.regs e.after) (o.content e.after) s e.happened
+    event_lines (o.regs e.after) (o.content e.after) s e.happened
     ++ texts_of o (state_after (o.regs e.after) s e.happened) events
 
 -- the line that is taken in an event, if there is one

@@ -56,14 +56,14 @@ line_with_place line (Some seg) None = Unknown
 line_with_place line None word = Unknown
 
 -- as `line_with_place`, from the words that are the two numbers
-abbrev pub placed_in : (ℕ → ℕ → SessionLine) → List ℕ → List ℕ → SessionLine
-placed_in line s w = line_with_place line (segment_number_in s) (word_number_in w)
+abbrev pub line_with_place_words : (ℕ → ℕ → SessionLine) → List ℕ → List ℕ → SessionLine
+line_with_place_words line s w = line_with_place line (segment_number_in s) (word_number_in w)
 
 -- the content of a line of three words: `break S W` or `seg S W`
 abbrev pub three_words : List ℕ → List ℕ → List ℕ → SessionLine
 three_words word s w =
-    if is_text (codes "break") word then placed_in Break s w
-    else if is_text (codes "seg") word then placed_in Seg s w
+    if is_text (codes "break") word then line_with_place_words Break s w
+    else if is_text (codes "seg") word then line_with_place_words Seg s w
     else Unknown
 
 -- the content of a line, from its words

@@ -29,7 +29,7 @@ fn result_of_put(put: Put) -> LineResult
 }
 
 // Takes the turns of a command. If the run has ended, it writes the end line again instead.
-fn command<M: Stepper, W: World>(
+fn run_command_unless_ended<M: Stepper, W: World>(
     m: &mut M,
     run: RunningCommand,
     sitting: &mut SessionState,
@@ -103,7 +103,7 @@ fn go_back<M: Stepper, W: World>(
 }
 
 // Goes back n steps. If fewer steps were taken, the line is answered as an unknown one.
-fn back<M: Stepper, W: World>(
+fn go_back_if_taken<M: Stepper, W: World>(
     line: &[u8],
     n: u32,
     m: &mut M,
@@ -147,14 +147,14 @@ pub(crate) fn answer<M: Stepper, W: World>(
                 left,
                 command: TurnCommand::Step,
             };
-            command(m, command_run, sitting, block, world)
+            run_command_unless_ended(m, command_run, sitting, block, world)
         }
         SessionLine::Go => {
             let command_run = RunningCommand {
                 left: GO_LIMIT,
                 command: TurnCommand::Go,
             };
-            command(m, command_run, sitting, block, world)
+            run_command_unless_ended(m, command_run, sitting, block, world)
         }
         SessionLine::Break(seg, word) => result_of_put(add_break(
             line, seg, word, sitting, block, world,
@@ -168,7 +168,7 @@ pub(crate) fn answer<M: Stepper, W: World>(
             m.content(seg, word),
         )),
         SessionLine::Where => result_of_put(put_where(block, world, m.regs())),
-        SessionLine::Back(n) => back(line, n, m, sitting, block, world),
+        SessionLine::Back(n) => go_back_if_taken(line, n, m, sitting, block, world),
         SessionLine::Quit => LineResult::Quit,
         SessionLine::Empty => LineResult::Line,
         SessionLine::Unknown => result_of_put(put_unknown(block, world, line)),

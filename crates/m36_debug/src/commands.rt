@@ -2,7 +2,7 @@
 
 ghost use Rattle.std.specs.Prelude.{ℕ, ◌≡◌, ◌<◌};
 ghost use Rattle.std.specs.List.{list_any};
-ghost use Rattle.m36_debug.specs.Commands.{is_at, is_at_break, wants, continue_or_wait, after_step, after_link, after_turn};
+ghost use Rattle.m36_debug.specs.Commands.{is_at, is_at_break, takes_another, continue_or_wait, after_step, after_link, after_turn};
 
 use m36_model::{LinkCode, Outcome, Ppr};
 use m36_step::Turn;
@@ -58,8 +58,8 @@ pub(crate) fn is_at_break(place: Ppr, breaks: &[Break]) -> bool
 
 // Whether a command that may take `left` more steps takes another one. `go` stops at a break, but
 // takes at least one step.
-fn wants(command: TurnCommand, left: u32, at_break: bool) -> bool
-    ensures { result ≡ wants command left at_break }
+fn takes_another(command: TurnCommand, left: u32, at_break: bool) -> bool
+    ensures { result ≡ takes_another command left at_break }
 {
     match command {
         TurnCommand::Step => left > 0,
@@ -72,7 +72,7 @@ fn wants(command: TurnCommand, left: u32, at_break: bool) -> bool
 fn continue_or_wait(command: TurnCommand, left: u32, at_break: bool) -> AfterTurn
     ensures { result ≡ continue_or_wait command left at_break }
 {
-    if wants(command, left, at_break) {
+    if takes_another(command, left, at_break) {
         AfterTurn::Runs(RunningCommand { left, command })
     } else {
         AfterTurn::Waits

@@ -14,7 +14,7 @@ use m36_outside::{Block, Put};
 use m36_step::Turn;
 use m36_text::octal;
 use m36_trace::{TraceText, line, push_shown, put_place};
-use m36_turns::put::put;
+use m36_turns::append::append;
 use m36_turns::{console_line, link_line, run_end_line};
 use m36_word::Word;
 use m36_world::World;
@@ -108,8 +108,8 @@ pub(crate) fn put_unknown<W: World>(block: &mut Block, world: &mut W, line: &[u8
         (pending block.new (W.seen world.new)) }
 {
     let mut text: ArrayVec<u8, 80> = ArrayVec::new();
-    put(&mut text, b"? ");
-    put(&mut text, shown(line));
+    append(&mut text, b"? ");
+    append(&mut text, shown(line));
     put_characters(block, world, text)
 }
 

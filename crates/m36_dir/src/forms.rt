@@ -54,7 +54,7 @@ fn name_line(given: &[u8]) -> Option<BootLine>
 
 // The text after the byte at this index.
 #[tactic(auto, using(m36_text::proofs::Splitting::rest_whole))]
-fn behind(text: &[u8], place: usize) -> &[u8]
+fn text_after(text: &[u8], place: usize) -> &[u8]
     requires { place < length text.now }
     ensures { result.now ≡ drop (place + 1) text.now }
 {
@@ -70,7 +70,7 @@ fn start_line(given: &[u8]) -> Option<BootLine>
     let dollar = place_of(word, b'$')?;
     let ring = ring_of(ring)?;
     let name = name_of(&word[..dollar])?;
-    let entry = name_of(behind(word, dollar))?;
+    let entry = name_of(text_after(word, dollar))?;
     Some(BootLine::Start(Start { name, entry, ring }))
 }
 

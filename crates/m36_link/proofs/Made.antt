@@ -11,7 +11,7 @@ use Rattle.m36_dir.specs.Fields.{SegmentFields}
 use Rattle.m36_dir.specs.Catalog.{CatalogFields}
 use Rattle.obj36_parts.specs.Fields.{LinkFields}
 use Rattle.obj36_parts.specs.PartsFields.{PartsFields}
-use Rattle.obj36_parts.specs.ObjectSegment.{evened, has_name, has_entry}
+use Rattle.obj36_parts.specs.ObjectSegment.{rounded_up_to_even, has_name, has_entry}
 use Rattle.obj36.specs.ObjectOf.{object_of}
 use Rattle.obj36.specs.declared.fault.ObjectFault.{ObjectFault}
 use Rattle.m36_link.specs.Fields.{RingNameFields, PlacedSectionFields, TargetFields, NewSectionFields, KnownFields, SnapFields}
@@ -251,7 +251,7 @@ accepted_by known catalog files s g =
     subst P (sym g.laid) (may_be known catalog files g.lay g.fresh)
 
 -- a section begins at an even word, as the first one of a ring does
-even_evened : (n : ℕ) → evened n % 2 ≡ 0
+even_evened : (n : ℕ) → rounded_up_to_even n % 2 ≡ 0
 even_evened n = omega arith
 
 even_behind : (l : PlacedSectionFields) → even_end l % 2 ≡ 0

@@ -15,7 +15,7 @@ use Rattle.m36_desc.specs.Descriptors.{packed_word}
 use Rattle.m36_dir.specs.Fields.{SegmentFields}
 use Rattle.m36_dir.specs.Catalog.{CatalogFields}
 use Rattle.obj36_parts.specs.PartsFields.{PartsFields}
-use Rattle.obj36_parts.specs.ObjectSegment.{evened, linkage_section, outer_statics}
+use Rattle.obj36_parts.specs.ObjectSegment.{rounded_up_to_even, linkage_section, outer_statics}
 use Rattle.obj36.specs.ObjectOf.{object_of}
 use Rattle.m36_link.specs.Fields.{RingNameFields, PlacedSectionFields, NewSectionFields, KnownFields}
 
@@ -92,7 +92,7 @@ laid_in laid ring seg = find (is_laid_of ring seg) laid
 
 -- the first even word number after a section
 unfoldable pub even_end : PlacedSectionFields → ℕ
-even_end l = evened (l.base + l.size)
+even_end l = rounded_up_to_even (l.base + l.size)
 
 -- the word number of the next section of a ring after section `l`, if it was `at` before
 abbrev pub next_base_after : ℕ → ℕ → PlacedSectionFields → ℕ

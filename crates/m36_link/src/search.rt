@@ -3,7 +3,7 @@
 ghost use Rattle.std.specs.Prelude.{◌≡◌, ◌<◌, ◌^◌, filter_map, slice_get, IfSome};
 ghost use Rattle.m36_link.specs.Names.{AreNames};
 ghost use Rattle.m36_link.specs.Known.{initiated_segment};
-ghost use Rattle.m36_link.specs.Search.{found_in, directories_searched};
+ghost use Rattle.m36_link.specs.Search.{find_in_directory, directories_searched};
 
 use crate::file::FIRST_SEGMENT;
 use crate::names::RingName;
@@ -29,9 +29,9 @@ pub(crate) fn initiated_segment(
 }
 
 // The number of the segment with this name in a directory, if it has one.
-#[tactic(auto, unfolding(crate::specs::Search::found_in))]
-fn found_in(catalog: &Catalog, name: &[u8], dir: u16) -> Option<u16>
-    ensures value { result ≡ found_in catalog.now name.now dir }
+#[tactic(auto, unfolding(crate::specs::Search::find_in_directory))]
+fn find_in_directory(catalog: &Catalog, name: &[u8], dir: u16) -> Option<u16>
+    ensures value { result ≡ find_in_directory catalog.now name.now dir }
     ensures bound { IfSome result (λ seg. seg < 2 ^ 15) }
 {
     let _count = catalog.count();
@@ -42,14 +42,14 @@ fn found_in(catalog: &Catalog, name: &[u8], dir: u16) -> Option<u16>
 }
 
 // The number of the segment in the first of these directories that has the name.
-fn first_in(catalog: &Catalog, name: &[u8], directories: &[u16]) -> Option<u16>
+fn find_in_first_directory(catalog: &Catalog, name: &[u8], directories: &[u16]) -> Option<u16>
     ensures value { result
-        ≡ slice_get (filter_map (found_in catalog.now name.now) directories.now) 0 }
+        ≡ slice_get (filter_map (find_in_directory catalog.now name.now) directories.now) 0 }
     ensures bound { IfSome result (λ seg. seg < 2 ^ 15) }
 {
     let mut rest = directories;
     while let [dir, others @ ..] = rest {
-        if let Some(seg) = found_in(catalog, name, *dir) {
+        if let Some(seg) = find_in_directory(catalog, name, *dir) {
             return Some(seg);
         }
         rest = others;
@@ -60,15 +60,15 @@ fn first_in(catalog: &Catalog, name: &[u8], directories: &[u16]) -> Option<u16>
 /// The number of the segment with a name: in the directory that refers to it, otherwise in the
 /// working directory, otherwise in the first library that has the name.
 pub(crate) fn search_directories(catalog: &Catalog, name: &[u8], from: u16) -> Option<u16>
-    ensures value { result ≡ slice_get (filter_map (found_in catalog.now name.now)
+    ensures value { result ≡ slice_get (filter_map (find_in_directory catalog.now name.now)
         (directories_searched catalog.now from)) 0 }
     ensures bound { IfSome result (λ seg. seg < 2 ^ 15) }
 {
-    if let Some(seg) = found_in(catalog, name, from) {
+    if let Some(seg) = find_in_directory(catalog, name, from) {
         return Some(seg);
     }
-    if let Some(seg) = found_in(catalog, name, catalog.work()) {
+    if let Some(seg) = find_in_directory(catalog, name, catalog.work()) {
         return Some(seg);
     }
-    first_in(catalog, name, catalog.libraries())
+    find_in_first_directory(catalog, name, catalog.libraries())
 }

@@ -41,15 +41,15 @@ section_words name section text at words spot (row ∷ lines) =
     ++ section_words name section text (at + length here) left (next_line_spot text spot row) lines
 
 -- the lines of the words of a section, the first of which is at the offset of its first line
-abbrev pub listed : List ℕ → Section → Source → List ℕ → List ℕ
-listed name section source words =
+abbrev pub section_listing : List ℕ → Section → Source → List ℕ → List ℕ
+section_listing name section source words =
     section_words name section source.text (offset_in_section section start) words start source.lines
 
 -- The listing of a source and of the object of these parts, under this name: the lines of the text,
 -- of the static words of the linkage section, and of those of a static section; then the print.
 unfoldable pub listing_of : List ℕ → Source → PartsFields → List ℕ
 listing_of name source p =
-    listed (section_name Text) Text source p.text
-    ++ listed (section_name Linkage) Linkage source (inner_statics p)
-    ++ listed (section_name Static) Static source (outer_statics p)
+    section_listing (section_name Text) Text source p.text
+    ++ section_listing (section_name Linkage) Linkage source (inner_statics p)
+    ++ section_listing (section_name Static) Static source (outer_statics p)
     ++ print_of name p

@@ -10,7 +10,7 @@ use m36_word::NoMemory;
 use obj36::{Named, Section};
 
 // The name of a section, as the class of a definition is shown.
-fn class(section: Section) -> &'static str
+fn class_name(section: Section) -> &'static str
     ensures { result.now ≡ section_text section }
 {
     match section {
@@ -29,7 +29,7 @@ fn put_definition(text: &mut Text, definition: &Named) -> Result<(), NoMemory>
     let def = definition.def;
     put_field(text, b"def")?;
     put_field(text, definition.name.bytes())?;
-    put_field(text, class(def.section).as_bytes())?;
+    put_field(text, class_name(def.section).as_bytes())?;
     if def.is_entry {
         put_number(text, def.value as u64)?;
         put_last(text, b"entry")

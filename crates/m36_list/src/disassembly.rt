@@ -5,7 +5,7 @@ ghost use Rattle.m36_text.specs.Digits.{decimal_text, octal_text};
 ghost use Rattle.m36_list.specs.Disassembly.{disassembly, octal_constant, address_text};
 ghost use Rattle.m36_list.specs.Disassembly.{signed_text};
 
-use crate::modifiers::modifier;
+use crate::modifiers::modifier_text;
 use arrayvec::ArrayString;
 use m36_inst::{Inst, name_of};
 use m36_text::{decimal, octal};
@@ -23,7 +23,7 @@ pub fn disassemble(w: Word) -> ArrayString<32>
     if inst.inhibit {
         return constant(w);
     }
-    match (name_of(inst.code, inst.bit27), modifier(inst.tag)) {
+    match (name_of(inst.code, inst.bit27), modifier_text(inst.tag)) {
         (Some(name), Some(modifier)) => instruction(name.as_str(), &inst, modifier),
         _ => constant(w),
     }

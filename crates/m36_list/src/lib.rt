@@ -26,7 +26,7 @@ pub mod disassembly;
 mod fields;
 pub mod laws;
 mod links;
-mod listed;
+mod listing_text;
 mod modifiers;
 mod placed;
 mod printing;
@@ -35,5 +35,5 @@ mod words;
 
 pub use disassembly::disassemble;
 pub use laws::{disassembly_laws, tag_laws};
-pub use listed::listing;
+pub use listing_text::listing;
 pub use printing::print;

@@ -6,7 +6,7 @@ ghost use Rattle.m36_list.specs.Modifiers.{modifier_text};
 /// The text of a tag after the address: a comma and the modifier, or nothing for tag 0. None
 /// exactly if the tag is an IT tag that has no text.
 #[tactic(auto, unfolding(crate::specs::Modifiers::modifier_text))]
-pub fn modifier(tag: u8) -> Option<&'static str>
+pub fn modifier_text(tag: u8) -> Option<&'static str>
     requires { tag < 2 ^ 6 }
     ensures text { option_map (λ s. s.now) result ≡ modifier_text tag }
     ensures len { IfSome result (λ s. length s.now ≤ 4) }

@@ -61,7 +61,7 @@ pub(crate) fn unpinned_between(
 
 /// The first frame from `from` on, and then from 0 on, that holds no page of the references; None
 /// exactly if each frame holds one.
-pub(crate) fn free_from(
+pub(crate) fn unpinned_from(
     holders: &[Option<(u16, u16)>],
     references: &[Reference],
     from: usize,
@@ -194,7 +194,7 @@ pub(crate) fn choose(
     ensures same { IfNone result (core.new ≡ core.old) }
     ensures marks { ClearsMarksAt core.old core.new (IsHeldSpot references.now holders.now spots.now) }
 {
-    let Some(free) = free_from(holders, references, hand) else {
+    let Some(free) = unpinned_from(holders, references, hand) else {
         return None;
     };
     match unused_from(core, references, holders, spots, hand) {

@@ -272,7 +272,7 @@ impl Pager {
     }
 
     // The kept word for a word of a segment.
-    fn kept(&self, seg: u16, word: u32) -> Word
+    fn kept_word_of(&self, seg: u16, word: u32) -> Word
         requires { has_page self.now seg (word / 1024) ≡ true }
         ensures { result ≡ kept_word self.now seg word }
     {
@@ -292,7 +292,7 @@ impl Pager {
         }
         match frame_at(core, self.spot(seg, word / PAGE)) {
             Some(frame) => Some(core.peek(PAGE * frame + word % PAGE)),
-            None => Some(self.kept(seg, word)),
+            None => Some(self.kept_word_of(seg, word)),
         }
     }
 
@@ -316,7 +316,7 @@ impl Pager {
     }
 
     // Replaces the kept word for a word of a segment.
-    fn keep(&mut self, seg: u16, word: u32, value: Word)
+    fn set_kept_word(&mut self, seg: u16, word: u32, value: Word)
         requires { has_page self.old seg (word / 1024) ≡ true }
         ensures { IsKeptWordSet self.old self.new seg word value }
     {
@@ -337,7 +337,7 @@ impl Pager {
         ensures pager { IsPager self.new }
     {
         let _ = core.len();
-        self.keep(seg, word, w);
+        self.set_kept_word(seg, word, w);
     }
 
     /// Sets a word of a segment: in its frame if its page is in one, and otherwise in the kept

@@ -13,22 +13,22 @@ use Rattle.m36_procs.specs.ProcsFile.{codes_from, core_code, initial_parse_state
 use Rattle.m36_procs.specs.ProcsResult.{ProcsResult}
 use Rattle.m36_procs.specs.ReaderSays.{parse_state_of}
 use Rattle.m36_procs.specs.ReadingSays.{IsFirstFault, FirstLineWasRead, TookLines}
-use Rattle.m36_procs.specs.declared.fault.Code.{Code}
-use Rattle.m36_procs.specs.declared.fault.Code.TheVariants as code
+use Rattle.m36_procs.specs.declared.fault.ProcsCode.{ProcsCode}
+use Rattle.m36_procs.specs.declared.fault.ProcsCode.TheVariants as code
 use Rattle.m36_procs.specs.declared.fault.ProcsFault.{ProcsFault}
 use Rattle.m36_procs.specs.declared.fault.ProcsFault.TheVariants.{P1, P2, NoMemory}
 use Rattle.m36_procs.specs.declared.reader.Reader.{Reader}
 
 given_told :
-    (text : List ℕ) (told : ℕ × Code)
+    (text : List ℕ) (told : ℕ × ProcsCode)
     → first_present 1 (line_codes (lines_of text)) ≡ Some told → procs_of_text text ≡ Err told
 unfolding procs_of_text
 given_told text told e =
     ap (λ f. value_unless f (procs_in (1024 * frames_of (lines_of text)) (drop 1 (lines_of text)))) e
 
 says_told :
-    (text : List ℕ) (fault : ProcsFault) (n : ℕ) (codes : List (Option Code))
-    → ((told : ℕ × Code) → first_present n codes ≡ Some told → first_present 1 (line_codes (lines_of text)) ≡ Some told)
+    (text : List ℕ) (fault : ProcsFault) (n : ℕ) (codes : List (Option ProcsCode))
+    → ((told : ℕ × ProcsCode) → first_present n codes ≡ Some told → first_present 1 (line_codes (lines_of text)) ≡ Some told)
     → IsFirstFault fault n codes → ProcsResult (Err fault) (procs_of_text text)
 says_told text (P1 line) n codes on told = given_told text (line, code.P1) (on (line, code.P1) told)
 says_told text (P2 line) n codes on told = given_told text (line, code.P2) (on (line, code.P2) told)
@@ -42,7 +42,7 @@ first_refused text fault told =
     says_told text fault 1 (core_code (core_line (line_at (lines_of text) 1)) ∷ []) (λ here e. told_earlier 1 (core_code (core_line (line_at (lines_of text) 1)) ∷ []) (codes_from (initial_parse_state (1024 * frames_of (lines_of text))) (drop 1 (lines_of text))) here e) told
 
 fine_first :
-    (read : Result ℕ ImageCode) (n : ℕ) (codes : List (Option Code))
+    (read : Result ℕ ImageCode) (n : ℕ) (codes : List (Option ProcsCode))
     → read ≡ Ok n → first_present 1 (core_code read ∷ codes) ≡ first_present 2 codes
 unfolding first_present
 fine_first read n codes e = rw e

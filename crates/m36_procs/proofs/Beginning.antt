@@ -5,7 +5,7 @@ use Rattle.m36_image.proofs.Headers.{cut_none}
 use Rattle.m36_image.specs.BareImage.{core_line, frames_of_core_line}
 use Rattle.m36_image.specs.declared.refusal.ImageCode.{ImageCode}
 use Rattle.m36_procs.specs.ProcsFile.{core_code}
-use Rattle.m36_procs.specs.declared.fault.Code.TheVariants.{P1}
+use Rattle.m36_procs.specs.declared.fault.ProcsCode.TheVariants.{P1}
 
 -- the first line is missing
 pub missing_first : (lines : List (Option (List ℕ))) (text : List ℕ) → lines ≡ unended_line text → first_present 1 (core_code (core_line (line_at lines 1)) ∷ []) ≡ Some (1, P1)

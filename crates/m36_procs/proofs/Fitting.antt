@@ -13,8 +13,8 @@ use Rattle.m36_procs.specs.ProcsFile.{Line, ParseState, may_have_process_line, m
 use Rattle.std.specs.List.{repeat}
 use Rattle.m36_procs.specs.ProcsFile.Line.{ProcessLine, TurnsLine, AtLine, OtherLine}
 use Rattle.m36_procs.specs.ReaderSays.{parse_state_of, IsReaderInvariant, TookLine}
-use Rattle.m36_procs.specs.declared.fault.Code.{Code}
-use Rattle.m36_procs.specs.declared.fault.Code.TheVariants.{P1, P2}
+use Rattle.m36_procs.specs.declared.fault.ProcsCode.{ProcsCode}
+use Rattle.m36_procs.specs.declared.fault.ProcsCode.TheVariants.{P1, P2}
 use Rattle.m36_procs.specs.declared.reader.Reader.{Reader}
 use Rattle.m36_procs.specs.declared.reader.Stage.TheVariants.{Placing, Turning}
 
@@ -27,10 +27,10 @@ was_chosen : {A E : Type 0} (b : Bool) (r : Result A E) (e : E) (y : A) → cond
 was_chosen true r e y h = h
 was_chosen false r e y h = cc
 
-abbrev fine : ParseState → Result ParseState Code
+abbrev fine : ParseState → Result ParseState ProcsCode
 fine s = Ok s
 
-abbrev refused : Code → Result ParseState Code
+abbrev refused : ProcsCode → Result ParseState ProcsCode
 refused code = Err code
 
 ok_same : (x y : ParseState) → fine x ≡ fine y → x ≡ y

@@ -8,8 +8,8 @@ use Rattle.m36_image.specs.ImageState.{written_at, written_all}
 use Rattle.m36_procs.specs.ProcsFile.{line_in, line_of, ParseState, state_after_line, state_or_previous, codes_from, may_end, process_of, placed_of, turns_of, processes_in, placed_in, turns_in}
 use Rattle.m36_procs.specs.ReaderSays.{parse_state_of, TakeResult, TookLine, IsReaderInvariant}
 use Rattle.m36_procs.specs.ReadingSays.{IsFirstFault, TookLines}
-use Rattle.m36_procs.specs.declared.fault.Code.{Code}
-use Rattle.m36_procs.specs.declared.fault.Code.TheVariants.{P1, P2}
+use Rattle.m36_procs.specs.declared.fault.ProcsCode.{ProcsCode}
+use Rattle.m36_procs.specs.declared.fault.ProcsCode.TheVariants.{P1, P2}
 use Rattle.m36_procs.specs.declared.fault.LineFault.{LineFault}
 use Rattle.m36_procs.specs.declared.fault.LineFault.TheVariants.{Refused, NoMemory}
 use Rattle.m36_procs.specs.declared.reader.Reader.{Reader}
@@ -39,15 +39,15 @@ judged_first :
     → first_present n (codes_from s (line ∷ lines)) ≡ first_present (n + 1) (codes_from later lines)
 unfolding first_present codes_from
 judged_first s later n line lines e =
-    ap (λ (r : Result ParseState Code). first_present n (result_err r ∷ codes_from (state_or_previous s r) lines)) e
+    ap (λ (r : Result ParseState ProcsCode). first_present n (result_err r ∷ codes_from (state_or_previous s r) lines)) e
 
 judged_code :
-    (s : ParseState) (n : ℕ) (line : Option (List ℕ)) (lines : List (Option (List ℕ))) (code : Code)
+    (s : ParseState) (n : ℕ) (line : Option (List ℕ)) (lines : List (Option (List ℕ))) (code : ProcsCode)
     → state_after_line s (line_of line) ≡ Err code
     → first_present n (codes_from s (line ∷ lines)) ≡ Some (n, code)
 unfolding first_present codes_from
 judged_code s n line lines code e =
-    ap (λ (r : Result ParseState Code). first_present n (result_err r ∷ codes_from (state_or_previous s r) lines)) e
+    ap (λ (r : Result ParseState ProcsCode). first_present n (result_err r ∷ codes_from (state_or_previous s r) lines)) e
 
 -- one more line was taken
 pub lines_more :
@@ -63,13 +63,13 @@ lines_more start r new all left lines n line so_far begins took = record {
   schedule = ap (λ x. x ++ turns_in lines) took.schedule ∙ append_assoc r.schedule.items (turns_of (line_in (words_of line))) (turns_in lines) ∙ ap (λ l. r.schedule.items ++ turns_in l) (sym begins) ∙ so_far.schedule;
 }
 
-told_fault : (n line : ℕ) (code : Code) (codes : List (Option Code)) → first_present n codes ≡ Some (line, code) → IsFirstFault (fault_at (line, code)) n codes
+told_fault : (n line : ℕ) (code : ProcsCode) (codes : List (Option ProcsCode)) → first_present n codes ≡ Some (line, code) → IsFirstFault (fault_at (line, code)) n codes
 told_fault n line P1 codes e = e
 told_fault n line P2 codes e = e
 
 -- the next line has a code
 lines_code :
-    (start r : Reader) (all left lines : List (Option (List ℕ))) (n : ℕ) (line : List ℕ) (code : Code)
+    (start r : Reader) (all left lines : List (Option (List ℕ))) (n : ℕ) (line : List ℕ) (code : ProcsCode)
     → ReadLines start all r n left
     → left ≡ Some line ∷ lines
     → state_after_line (parse_state_of r) (line_in (words_of line)) ≡ Err code

@@ -8,11 +8,11 @@ use Rattle.m36_procs.specs.ProcsFields.{TurnsFields}
 use Rattle.m36_procs.specs.ProcsFile.{ParseState, state_after_line, state_after_at_line, events_with, are_process_numbers}
 use Rattle.std.specs.List.{repeat}
 use Rattle.m36_procs.specs.ProcsFile.Line.{TurnsLine}
-use Rattle.m36_procs.specs.declared.fault.Code.{Code}
-use Rattle.m36_procs.specs.declared.fault.Code.TheVariants.{P1, P2}
+use Rattle.m36_procs.specs.declared.fault.ProcsCode.{ProcsCode}
+use Rattle.m36_procs.specs.declared.fault.ProcsCode.TheVariants.{P1, P2}
 use Rattle.m36_procs.specs.declared.reader.Stage.TheVariants.{Turning}
 
-abbrev pub in_order : ParseState → ℕ → Result ParseState Code
+abbrev pub in_order : ParseState → ℕ → Result ParseState ProcsCode
 in_order s n = Ok (record s { stage = Turning; events = n })
 
 -- `times` turns of these processes make `times` times their number of events

@@ -38,8 +38,8 @@ use Rattle.m36_image.specs.BareImage.{dbr_in, start_in, at_words, core_line, fra
 use Rattle.m36_image.specs.ImageState.{regs_of, core_with}
 use Rattle.m36_image.specs.LineByLine.{end_of_at_line}
 use Rattle.m36_procs.specs.ProcsFields.{ProcsFields, TurnsFields}
-use Rattle.m36_procs.specs.declared.fault.Code.{Code}
-use Rattle.m36_procs.specs.declared.fault.Code.TheVariants.{P1, P2}
+use Rattle.m36_procs.specs.declared.fault.ProcsCode.{ProcsCode}
+use Rattle.m36_procs.specs.declared.fault.ProcsCode.TheVariants.{P1, P2}
 use Rattle.m36_procs.specs.declared.reader.Stage.{Stage}
 use Rattle.m36_procs.specs.declared.reader.Stage.TheVariants.{Naming, Placing, Turning}
 
@@ -125,7 +125,7 @@ may_end Placing = false
 may_end Turning = true
 
 -- the state after an `at` line, given the address after its last word; P1 if it has a code
-abbrev pub state_after_at_line : ParseState → Result ℕ ImageCode → Result ParseState Code
+abbrev pub state_after_at_line : ParseState → Result ℕ ImageCode → Result ParseState ProcsCode
 state_after_at_line s (Ok end) = Ok (record s { stage = Placing; next = end })
 state_after_at_line s (Err code) = Err P1
 
@@ -142,7 +142,7 @@ abbrev pub are_process_numbers : ℕ → List ℕ → Bool
 are_process_numbers count numbers = list_all (λ number. nat_lt number count) numbers
 
 -- the state after a line, or the least code of the line
-unfoldable pub state_after_line : ParseState → Line → Result ParseState Code
+unfoldable pub state_after_line : ParseState → Line → Result ParseState ProcsCode
 state_after_line s (ProcessLine regs) =
     if may_have_process_line s.stage && nat_lt s.processes most_processes
     then Ok (record s { processes = s.processes + 1 }) else Err P1
@@ -157,22 +157,22 @@ state_after_line s (TurnsLine t) =
 state_after_line s OtherLine = Err P1
 
 -- the state after a line with this result; a line with a code does not change it
-abbrev pub state_or_previous : ParseState → Result ParseState Code → ParseState
+abbrev pub state_or_previous : ParseState → Result ParseState ProcsCode → ParseState
 state_or_previous s (Ok later) = later
 state_or_previous s (Err code) = s
 
 -- P1 if the text may not end here
-abbrev pub end_code : Stage → Option Code
+abbrev pub end_code : Stage → Option ProcsCode
 end_code stage = if may_end stage then None else Some P1
 
 -- The code of each line from this state on, if it has one, and at last that of a missing line.
-unfoldable pub codes_from : ParseState → List (Option (List ℕ)) → List (Option Code)
+unfoldable pub codes_from : ParseState → List (Option (List ℕ)) → List (Option ProcsCode)
 codes_from s [] = end_code s.stage ∷ []
 codes_from s (line ∷ lines) =
     result_err (state_after_line s (line_of line)) ∷ codes_from (state_or_previous s (state_after_line s (line_of line))) lines
 
 -- the code of the first line, if it has one
-abbrev pub core_code : Result ℕ ImageCode → Option Code
+abbrev pub core_code : Result ℕ ImageCode → Option ProcsCode
 core_code (Ok frames) = None
 core_code (Err code) = Some P1
 
@@ -181,7 +181,7 @@ abbrev pub initial_parse_state : ℕ → ParseState
 initial_parse_state size = record { stage = Naming; size = size; processes = 0; next = 0; events = 0 }
 
 -- the code of each line, if it has one, and of a missing line at the end
-abbrev pub line_codes : List (Option (List ℕ)) → List (Option Code)
+abbrev pub line_codes : List (Option (List ℕ)) → List (Option ProcsCode)
 line_codes lines =
     core_code (core_line (line_at lines 1))
     ∷ codes_from (initial_parse_state (1024 * frames_of lines)) (drop 1 lines)
@@ -227,7 +227,7 @@ procs_in size lines =
 
 -- the processes and the schedule that a text describes, or its first line that has a code, with the
 -- least code of that line
-unfoldable pub procs_of_text : List ℕ → Result ProcsFields (ℕ × Code)
+unfoldable pub procs_of_text : List ℕ → Result ProcsFields (ℕ × ProcsCode)
 procs_of_text text =
     value_unless
     (first_present 1 (line_codes (lines_of text)))

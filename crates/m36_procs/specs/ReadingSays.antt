@@ -8,15 +8,15 @@ use Rattle.m36_image.specs.ImageState.{written_all}
 use Rattle.m36_procs.specs.ProcsFile.{codes_from, core_code, initial_parse_state, processes_in, placed_in}
 use Rattle.m36_procs.specs.ProcsFile.{turns_in}
 use Rattle.m36_procs.specs.ReaderSays.{IsReaderInvariant, parse_state_of}
-use Rattle.m36_procs.specs.declared.fault.Code.{Code}
-use Rattle.m36_procs.specs.declared.fault.Code.TheVariants as code
+use Rattle.m36_procs.specs.declared.fault.ProcsCode.{ProcsCode}
+use Rattle.m36_procs.specs.declared.fault.ProcsCode.TheVariants as code
 use Rattle.m36_procs.specs.declared.fault.ProcsFault.{ProcsFault}
 use Rattle.m36_procs.specs.declared.fault.ProcsFault.TheVariants.{P1, P2, NoMemory}
 use Rattle.m36_procs.specs.declared.reader.Reader.{Reader}
 
 -- The fault is that of the first line with a code. The first entry of the list is the code of line
 -- n. `NoMemory` is always allowed.
-abbrev pub IsFirstFault : ProcsFault → ℕ → List (Option Code) → Type 0
+abbrev pub IsFirstFault : ProcsFault → ℕ → List (Option ProcsCode) → Type 0
 IsFirstFault (P1 line) n codes = first_present n codes ≡ Some (line, code.P1)
 IsFirstFault (P2 line) n codes = first_present n codes ≡ Some (line, code.P2)
 IsFirstFault NoMemory n codes = ⊤

@@ -9,7 +9,7 @@ use m36_word::NoMemory;
 
 /// The code of a refused line.
 #[derive(Clone, Copy, PartialEq, Eq)]
-pub enum Code {
+pub enum ProcsCode {
     /// The line does not have its form, is out of order or missing, lacks its line feed, has a
     /// number or an address out of range, or makes too many events.
     P1,
@@ -20,7 +20,7 @@ pub enum Code {
 /// Why a line was not accepted: it has a code, or memory ran out.
 #[derive(Clone, Copy, PartialEq, Eq)]
 pub(crate) enum LineFault {
-    Refused(Code),
+    Refused(ProcsCode),
     NoMemory,
 }
 
@@ -36,10 +36,10 @@ impl LineFault {
     }
 }
 
-impl From<Code> for LineFault {
+impl From<ProcsCode> for LineFault {
     ghost from_gives = { λ code made. made ≡ line.Refused code };
 
-    fn from(code: Code) -> LineFault {
+    fn from(code: ProcsCode) -> LineFault {
         LineFault::Refused(code)
     }
 }
@@ -67,12 +67,12 @@ pub enum ProcsFault {
 
 impl ProcsFault {
     /// The fault with this code at a line.
-    pub(crate) fn at(line: u32, code: Code) -> ProcsFault
+    pub(crate) fn at(line: u32, code: ProcsCode) -> ProcsFault
         ensures { result ≡ fault_at (line, code) }
     {
         match code {
-            Code::P1 => ProcsFault::P1(line),
-            Code::P2 => ProcsFault::P2(line),
+            ProcsCode::P1 => ProcsFault::P1(line),
+            ProcsCode::P2 => ProcsFault::P2(line),
         }
     }
 }

@@ -28,6 +28,6 @@ mod reader;
 mod reading;
 pub mod running;
 
-pub use fault::{Code, ProcsFault, WriteFault};
+pub use fault::{ProcsCode, ProcsFault, WriteFault};
 pub use procs::Procs;
 pub use running::{end_line, event_line};

@@ -97,8 +97,8 @@ impl ProcessSet {
     }
 
     /// An empty record for `step_into` to overwrite.
-    pub(crate) fn untold(&self) -> StepRecord {
-        self.machine.untold()
+    pub(crate) fn empty_record(&self) -> StepRecord {
+        self.machine.empty_record()
     }
 
     /// Takes one step of process i, and overwrites the record.

@@ -7,7 +7,7 @@ ghost use Rattle.m36_procs.specs.ProcsFile.{are_process_numbers, most_events, ev
 ghost use Rattle.m36_procs.specs.ProcsFile.Line.{ProcessLine, TurnsLine};
 ghost use Rattle.m36_procs.specs.ReaderSays.{IsReaderInvariant, TakeResult, at_or_other_line};
 
-use crate::fault::{Code, LineFault};
+use crate::fault::{LineFault, ProcsCode};
 use crate::line_forms::{Turns, process_line, turns_line};
 use m36_core::Core;
 use m36_image::put_line_into_core;
@@ -132,7 +132,7 @@ fn take_process(reader: &mut Reader, regs: Regs) -> Result<(), LineFault>
     ensures { TakeResult result reader.old reader.new (ProcessLine regs) }
 {
     if !may_have_process_line(reader.stage) || reader.regs.len() >= MOST_PROCESSES {
-        return Err(LineFault::Refused(Code::P1));
+        return Err(LineFault::Refused(ProcsCode::P1));
     }
     push_process(&mut reader.regs, regs)?;
     Ok(())
@@ -146,14 +146,14 @@ fn take_turns(reader: &mut Reader, turns: &Turns) -> Result<(), LineFault>
     ensures { TakeResult result reader.old reader.new (TurnsLine turns.now) }
 {
     if reader.regs.is_empty() || events_with(reader.schedule.len(), turns) > MOST_EVENTS {
-        return Err(LineFault::Refused(Code::P1));
+        return Err(LineFault::Refused(ProcsCode::P1));
     }
     if are_turns_of_processes(reader.regs.len(), turns) {
         push_turns(&mut reader.schedule, turns)?;
         reader.stage = Stage::Turning;
         Ok(())
     } else {
-        Err(LineFault::Refused(Code::P2))
+        Err(LineFault::Refused(ProcsCode::P2))
     }
 }
 
@@ -164,7 +164,7 @@ fn take_other_line(reader: &mut Reader, line: &[u8]) -> Result<(), LineFault>
     ensures { TakeResult result reader.old reader.new (at_or_other_line (words_of line.now)) }
 {
     if !may_have_at_line(reader.stage) || reader.regs.is_empty() {
-        return Err(LineFault::Refused(Code::P1));
+        return Err(LineFault::Refused(ProcsCode::P1));
     }
     match put_line_into_core(&mut reader.core, reader.next, line) {
         Ok(end) => {
@@ -172,7 +172,7 @@ fn take_other_line(reader: &mut Reader, line: &[u8]) -> Result<(), LineFault>
             reader.stage = Stage::Placing;
             Ok(())
         }
-        Err(_) => Err(LineFault::Refused(Code::P1)),
+        Err(_) => Err(LineFault::Refused(ProcsCode::P1)),
     }
 }
 

@@ -5,7 +5,7 @@ ghost use Rattle.m36_text.specs.Lines.{lines_of};
 ghost use Rattle.m36_procs.specs.ReaderSays.{IsReaderInvariant};
 ghost use Rattle.m36_procs.specs.ReadingSays.{FirstLineResult, LinesResult};
 
-use crate::fault::{Code, ProcsFault};
+use crate::fault::{ProcsCode, ProcsFault};
 use crate::reader::{Reader, Stage, may_end};
 use m36_core::Core;
 use m36_image::core_line;
@@ -58,6 +58,6 @@ pub(crate) fn read_lines(reader: &mut Reader, text: &[u8]) -> Result<(), ProcsFa
     if may_end(reader.stage) {
         Ok(())
     } else {
-        Err(ProcsFault::at(number, Code::P1))
+        Err(ProcsFault::at(number, ProcsCode::P1))
     }
 }

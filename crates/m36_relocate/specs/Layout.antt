@@ -6,7 +6,7 @@
 -- layout maps each of these to a place of the bound object.
 use Rattle.std.specs.Prelude.{ℕ, ◌≡◌, ◌+◌, ◌-◌, ◌%◌, ◌^◌, ◌<◌, nat_lt, if◌then◌else◌, length}
 use Rattle.obj36_parts.specs.PartsFields.{PartsFields}
-use Rattle.obj36_parts.specs.ObjectSegment.{is_newer, evened, head_words, first_link_at}
+use Rattle.obj36_parts.specs.ObjectSegment.{is_newer, rounded_up_to_even, head_words, first_link_at}
 use Rattle.obj36_parts.specs.ObjectSegment.{first_link_in_version, linkage_length, link_offset}
 use Rattle.obj36_parts.specs.ObjectSegment.{first_link as first_link_of}
 use Rattle.obj36_parts.specs.declared.section.Section.{Section}
@@ -75,8 +75,8 @@ first_bases = record { text = 0; statics = 0; links = 0 }
 abbrev pub next_bases : BasesFields → PartsFields → BasesFields
 next_bases b c =
     record {
-      text = evened (b.text + length c.text);
-      statics = evened (b.statics + length c.statics);
+      text = rounded_up_to_even (b.text + length c.text);
+      statics = rounded_up_to_even (b.statics + length c.statics);
       links = b.links + length c.links;
     }
 

@@ -2,7 +2,7 @@
 
 ghost use Rattle.std.specs.Prelude.{ℕ, ◌≡◌, ◌+◌, ◌*◌, ◌^◌, ◌<◌, ◌≤◌, length};
 ghost use Rattle.m36_relocate.specs.Layout.{denoted, denoted_in_version_1, denoted_in_version_2, denoted_past_head, denoted_in_linkage, IsBelow, next_bases, first_link, first_static, section_place, static_word_place, bound_place_of, relocated_place, static_number, bound_number_of, relocated_number};
-ghost use Rattle.obj36_parts.specs.ObjectSegment.{evened, head_words};
+ghost use Rattle.obj36_parts.specs.ObjectSegment.{rounded_up_to_even, head_words};
 
 use obj36_parts::Section;
 use obj36_parts::sections::HEAD_WORDS;
@@ -166,9 +166,9 @@ fn denoted_word(s: &Shape, section: Section, v: u64) -> Denoted
 }
 
 /// The least even number that is not below n.
-pub fn evened(n: u64) -> u64
+pub fn rounded_up_to_even(n: u64) -> u64
     requires { n < 2 ^ 62 }
-    ensures value { result ≡ evened n }
+    ensures value { result ≡ rounded_up_to_even n }
     ensures bound { result ≤ n + 1 }
 {
     n + n % 2

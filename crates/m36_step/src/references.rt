@@ -136,7 +136,7 @@ pub(crate) fn claim_words(
     ensures count { length refs.new.items ≤ length refs.old.items + 1 }
 {
     let at = end_address(formed);
-    match walk.hold(at, count) {
+    match walk.claim_place(at, count) {
         Ok(place) => {
             add_aligned_reference(refs, Kind::Write, at, count);
             Ok(place)

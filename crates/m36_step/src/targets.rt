@@ -86,7 +86,7 @@ pub(crate) fn reach_target(
         return Ok(nothing_to_write());
     }
     let ppr = regs.ppr;
-    match walk.transfer(end_address(formed), ppr.prr) {
+    match walk.check_transfer_target(end_address(formed), ppr.prr) {
         Ok(()) => {
             fill_operand(Held::Empty, 0, operand);
             Ok(nothing_to_write())
@@ -113,7 +113,7 @@ pub(crate) fn reach_call(
     ensures part { IfOk result (λ u. u.part ≡ part.Whole) }
     ensures same { walk.new ≡ walk.old }
 {
-    match walk.call(end_address(formed), regs.ppr) {
+    match walk.check_call_target(end_address(formed), regs.ppr) {
         Ok(ring) => {
             fill_operand(Held::Empty, ring, operand);
             Ok(nothing_to_write())

@@ -60,7 +60,7 @@ console_low true text before turn after h = ap (λ (r : Booted). take descriptor
 console_low false (Err f) before turn after h = ap (λ (r : Booted). take descriptor_words r.state.memory.core) h.1
 console_low false (Ok text) before turn after h = ap (λ (r : Booted). take descriptor_words r.state.memory.core) h.1
 
-turn_low_by : (coming : NextEvent) (lib : Library) (before : Booted) (turn : Turn) (after : Booted) (b : Bool) → before.loaded ≡ b → b ≡ false → IsLaidOut lib.catalog.frames before.state → IsTurnBy coming lib before turn after → IsLow before after
+turn_low_by : (next_event : NextEvent) (lib : Library) (before : Booted) (turn : Turn) (after : Booted) (b : Bool) → before.loaded ≡ b → b ≡ false → IsLaidOut lib.catalog.frames before.state → IsTurnBy next_event lib before turn after → IsLow before after
 turn_low_by Step lib before turn after true e loaded stands h = cc
 turn_low_by Step lib before turn after false e loaded stands h =
     step_low lib.catalog.frames before turn after stands (subst (λ (b : Bool). IsStepTurn b lib.catalog.frames before turn after) e h)
@@ -74,7 +74,7 @@ turn_low_by (Over end) lib before turn after b e loaded stands h =
 turn_low : (lib : Library) (before : Booted) (turn : Turn) (after : Booted) → before.loaded ≡ false → IsLaidOut lib.catalog.frames before.state → IsTurn lib before turn after → IsLow before after
 unfolding IsTurn
 turn_low lib before turn after loaded stands h =
-    turn_low_by before.coming lib before turn after before.loaded refl loaded stands h
+    turn_low_by before.next_event lib before turn after before.loaded refl loaded stands h
 
 pub turn_audit : TurnAuditLaw
 turn_audit lib before turn after loaded stands audited h none =
@@ -98,7 +98,7 @@ step_loaded : (r : FlatRun) → r.loaded ≡ false → IsPlainTurn (flat_step_tu
 unfolding flat_step_turn
 step_loaded r loaded plain = ap (λ (b : Bool). loaded_after b (record_of flat_store r.state)) loaded ∙ plain.1
 
-loaded_by : (coming : NextEvent) (lib : Library) (r : FlatRun) → r.loaded ≡ false → IsPlainTurn (flat_turn_by coming lib r).turn → (flat_turn_by coming lib r).after.loaded ≡ false
+loaded_by : (next_event : NextEvent) (lib : Library) (r : FlatRun) → r.loaded ≡ false → IsPlainTurn (flat_turn_by next_event lib r).turn → (flat_turn_by next_event lib r).after.loaded ≡ false
 loaded_by Step lib r loaded plain = step_loaded r loaded plain
 loaded_by (Link at) lib r loaded plain = link_loaded (snap_of r.known lib.catalog lib.files at) r at ∙ loaded
 loaded_by Print lib r loaded plain =
@@ -107,7 +107,7 @@ loaded_by (Over e) lib r loaded plain = loaded
 
 pub flat_loaded : (lib : Library) (r : FlatRun) → r.loaded ≡ false → IsPlainTurn (flat_turn lib r).turn → (flat_turn lib r).after.loaded ≡ false
 unfolding flat_turn
-flat_loaded lib r loaded plain = loaded_by r.coming lib r loaded plain
+flat_loaded lib r loaded plain = loaded_by r.next_event lib r loaded plain
 
 -- a turn that executes ABSA is not plain
 pub not_located : (turn : Turn) → TurnExecutesAbsa turn → IsPlainTurn turn → ⊥

@@ -53,8 +53,8 @@ booted lib image s e answer is r =
 pub start_lib : (lib : Library) (s : SuperFields) → IsBooted lib s → s.lib ≡ lib
 start_lib lib s is = ap (λ (x : SuperFields). x.lib) is.system
 
-pub start_next : (lib : Library) (s : SuperFields) → IsBooted lib s → s.coming ≡ Step
-start_next lib s is = ap (λ (x : SuperFields). x.coming) is.system
+pub start_next : (lib : Library) (s : SuperFields) → IsBooted lib s → s.next_event ≡ Step
+start_next lib s is = ap (λ (x : SuperFields). x.next_event) is.system
 
 pub start_unloaded : (lib : Library) (s : SuperFields) → IsBooted lib s → s.loaded ≡ false
 start_unloaded lib s is = ap (λ (x : SuperFields). x.loaded) is.system

@@ -7,7 +7,7 @@ use Rattle.m36_model.specs.Act.{Answer}
 use Rattle.m36_model.specs.Store.{examined_reply}
 use Rattle.m36_model.specs.Flat.{Flat, flat_store}
 use Rattle.m36_model.specs.declared.outcome.Fault.{Fault}
-use Rattle.m36_super.specs.Services.{console_word_count, characters_of, console_at, with_word_before, console_words, cut_to, console_text}
+use Rattle.m36_super.specs.Services.{console_word_count, characters_of, console_at, with_word_before, console_words, first_characters, console_text}
 use Rattle.m36_super.specs.ConsoleLaw.{ConsoleCounts}
 use Rattle.m36_super.proofs.ConsoleReads.{four_characters}
 
@@ -34,7 +34,7 @@ words_length g f k (suc n) =
     subst (λ (m : ℕ). HasLength m (with_word_before (examined_reply flat_store g f (console_at g k)) rest)) same
     (joined_length (4 * n) (examined_reply flat_store g f (console_at g k)) rest (words_length g f (k + 1) n))
 
-cut_length : (n m : ℕ) (read : Result (List ℕ) Fault) → n ≤ m → HasLength m read → HasLength n (cut_to n read)
+cut_length : (n m : ℕ) (read : Result (List ℕ) Fault) → n ≤ m → HasLength m read → HasLength n (first_characters n read)
 cut_length n m (Err why) enough has = tt
 cut_length n m (Ok text) enough has =
     let size : length text ≡ m = has in

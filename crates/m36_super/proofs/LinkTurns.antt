@@ -116,15 +116,15 @@ put_changes core mid now p r q at s seg first second =
 
 -- ---- the turn
 
-pub linked : (old new : State (List ℕ)) (p q : PagerFields) (known later : KnownFields) (coming next : NextEvent) (loaded : Bool) (at : AtFields) (s : SnapFields) (turn : Turn) → ArePut old.store p new.store q (link_changes at s) → new.regs ≡ old.regs → later ≡ known_after known s → next ≡ Step → turn ≡ Linked (note_snapped at s) → IsLinkTurn (Ok s) (length p.holders) at (run_of old p known coming loaded) turn (run_of new q later next loaded)
+pub linked : (old new : State (List ℕ)) (p q : PagerFields) (known later : KnownFields) (next_event next : NextEvent) (loaded : Bool) (at : AtFields) (s : SnapFields) (turn : Turn) → ArePut old.store p new.store q (link_changes at s) → new.regs ≡ old.regs → later ≡ known_after known s → next ≡ Step → turn ≡ Linked (note_snapped at s) → IsLinkTurn (Ok s) (length p.holders) at (run_of old p known next_event loaded) turn (run_of new q later next loaded)
 unfolding memory_by
-linked old new p q known later coming next loaded at s turn put regs accepts step told =
-    subst (λ (t : Turn). IsLinkTurn (Ok s) (length p.holders) at (run_of old p known coming loaded) t (run_of new q later next loaded)) (sym told) (record {
+linked old new p q known later next_event next loaded at s turn put regs accepts step told =
+    subst (λ (t : Turn). IsLinkTurn (Ok s) (length p.holders) at (run_of old p known next_event loaded) t (run_of new q later next loaded)) (sym told) (record {
       told = refl;
       regs = regs;
       console_byte = record { put = put.put; laid = subst (IsLaid new.store) put.frames put.managed.pages.laid; flat = put.flat };
       known = accepts;
-      coming = step;
+      next_event = step;
       loaded = refl;
     })
 
@@ -137,7 +137,7 @@ pub linked_without_memory : (answer : Result SnapFields RefusedFields) (frames :
 linked_without_memory answer frames at before after turn told same =
     subst (λ (t : Turn). IsLinkTurn answer frames at before t after) (sym told) (subst (IsLinkTurn answer frames at before NoMemory) (sym same) (no_memory_by answer frames at before))
 
-pub link_refused : (answer : Result SnapFields RefusedFields) (frames : ℕ) (at : AtFields) (before after : Booted) (turn : Turn) (why : RefusedFields) → answer ≡ Err why → turn ≡ Linked (note_refused at why) → after ≡ record before { coming = Over (end.Link why.code) } → IsLinkTurn answer frames at before turn after
+pub link_refused : (answer : Result SnapFields RefusedFields) (frames : ℕ) (at : AtFields) (before after : Booted) (turn : Turn) (why : RefusedFields) → answer ≡ Err why → turn ≡ Linked (note_refused at why) → after ≡ record before { next_event = Over (end.Link why.code) } → IsLinkTurn answer frames at before turn after
 link_refused answer frames at before after turn why e told same =
     subst (λ (t : Turn). IsLinkTurn answer frames at before t after) (sym told) (subst (λ (a : Result SnapFields RefusedFields). IsLinkTurn a frames at before (Linked (note_refused at why)) after) (sym e) (refl, same))
 

@@ -96,8 +96,8 @@ pub frames_kept : (loaded : Bool) (old new : State (List ℕ)) (p q : PagerField
 frames_kept false old new p q told h = h.frames
 frames_kept true old new p q told h = ap (λ (x : PagerFields). length x.holders) h.pager
 
-pub step_turn : (loaded after : Bool) (old new : State (List ℕ)) (p q : PagerFields) (told : StepRecord) (known : KnownFields) (coming next : NextEvent) → StepContract loaded old p new q told → after ≡ loaded_after loaded told → next ≡ event_after_outcome after told.ppr.prr told.outcome → IsStepTurn loaded (length p.holders) (run_of old p known coming loaded) (Stepped told) (run_of new q known next after)
-step_turn false after old new p q told known coming next h after_is next_is =
+pub step_turn : (loaded after : Bool) (old new : State (List ℕ)) (p q : PagerFields) (told : StepRecord) (known : KnownFields) (next_event next : NextEvent) → StepContract loaded old p new q told → after ≡ loaded_after loaded told → next ≡ event_after_outcome after told.ppr.prr told.outcome → IsStepTurn loaded (length p.holders) (run_of old p known next_event loaded) (Stepped told) (run_of new q known next after)
+step_turn false after old new p q told known next_event next h after_is next_is =
     let e = h.taken.step.told_is in
     let s = h.taken.step.state in
     let loaded : after ≡ loaded_after false (record_of core_store h.last) = after_is ∙ ap (loaded_after false) e in
@@ -113,12 +113,12 @@ step_turn false after old new p q told known coming next h after_is next_is =
         after_is = λ i. record {
           state = record { regs = (s i).regs; memory = record { core = (s i).store; kept = kept_word q } };
           known = known;
-          coming = comes i;
+          next_event = comes i;
           loaded = loaded i;
         };
       };
     }
-step_turn true after old new p q told known coming next h after_is next_is =
+step_turn true after old new p q told known next_event next h after_is next_is =
     let e = h.told_is in
     let s = h.state in
     let same = h.pager in
@@ -129,7 +129,7 @@ step_turn true after old new p q told known coming next h after_is next_is =
       after_is = λ i. record {
         state = record { regs = (s i).regs; memory = record { core = (s i).store; kept = kept_word (same i) } };
         known = known;
-        coming = comes i;
+        next_event = comes i;
         loaded = loaded i;
       };
     }

@@ -41,50 +41,50 @@ pub due_after : (loaded : Bool) (ring : ℕ) (outcome : Outcome) (next : NextEve
 due_after loaded ring outcome next e =
     subst (λ (c : NextEvent). NoServiceAfterLdbr c loaded) (sym e) (due_by loaded ring outcome)
 
-pub due_at : (loaded : Bool) (coming : NextEvent) (at : AtFields) → coming ≡ Link at → NoServiceAfterLdbr coming loaded → loaded ≡ false
-due_at loaded coming at e due = subst (λ (c : NextEvent). NoServiceAfterLdbr c loaded) e due
+pub due_at : (loaded : Bool) (next_event : NextEvent) (at : AtFields) → next_event ≡ Link at → NoServiceAfterLdbr next_event loaded → loaded ≡ false
+due_at loaded next_event at e due = subst (λ (c : NextEvent). NoServiceAfterLdbr c loaded) e due
 
-pub due_print : (loaded : Bool) (coming : NextEvent) → coming ≡ Print → NoServiceAfterLdbr coming loaded → loaded ≡ false
-due_print loaded coming e due = subst (λ (c : NextEvent). NoServiceAfterLdbr c loaded) e due
+pub due_print : (loaded : Bool) (next_event : NextEvent) → next_event ≡ Print → NoServiceAfterLdbr next_event loaded → loaded ≡ false
+due_print loaded next_event e due = subst (λ (c : NextEvent). NoServiceAfterLdbr c loaded) e due
 
 -- ---- turns, by what the next turn is
 
-turn_by : (lib : Library) (before : Booted) (turn : Turn) (after : Booted) (coming : NextEvent) → before.coming ≡ coming → IsTurnBy coming lib before turn after → IsTurn lib before turn after
+turn_by : (lib : Library) (before : Booted) (turn : Turn) (after : Booted) (next_event : NextEvent) → before.next_event ≡ next_event → IsTurnBy next_event lib before turn after → IsTurn lib before turn after
 unfolding IsTurn
-turn_by lib before turn after coming e h =
+turn_by lib before turn after next_event e h =
     subst (λ (c : NextEvent). IsTurnBy c lib before turn after) (sym e) h
 
-pub step_is_turn : (lib : Library) (before : Booted) (turn : Turn) (after : Booted) (frames : ℕ) → before.coming ≡ Step → frames ≡ lib.catalog.frames → IsStepTurn before.loaded frames before turn after → IsTurn lib before turn after
+pub step_is_turn : (lib : Library) (before : Booted) (turn : Turn) (after : Booted) (frames : ℕ) → before.next_event ≡ Step → frames ≡ lib.catalog.frames → IsStepTurn before.loaded frames before turn after → IsTurn lib before turn after
 step_is_turn lib before turn after frames e same h =
     turn_by lib before turn after Step e (subst (λ (n : ℕ). IsStepTurn before.loaded n before turn after) same h)
 
-pub link_is_turn : (lib : Library) (before : Booted) (turn : Turn) (after : Booted) (frames : ℕ) (at : AtFields) (files : List (List ℕ)) → before.coming ≡ Link at → frames ≡ lib.catalog.frames → files ≡ lib.files → IsLinkTurn (snap_of before.known lib.catalog files at) frames at before turn after → IsTurn lib before turn after
+pub link_is_turn : (lib : Library) (before : Booted) (turn : Turn) (after : Booted) (frames : ℕ) (at : AtFields) (files : List (List ℕ)) → before.next_event ≡ Link at → frames ≡ lib.catalog.frames → files ≡ lib.files → IsLinkTurn (snap_of before.known lib.catalog files at) frames at before turn after → IsTurn lib before turn after
 link_is_turn lib before turn after frames at files e same all h =
     turn_by lib before turn after (Link at) e (subst (λ (n : ℕ). IsLinkTurn (snap_of before.known lib.catalog lib.files at) n at before turn after) same (subst (λ (f : List (List ℕ)). IsLinkTurn (snap_of before.known lib.catalog f at) frames at before turn after) all h))
 
-pub link_turns : (now inside later : SuperFields) (turn : Turn) (at : AtFields) (frames : ℕ) (files : List (List ℕ)) → inside ≡ now → now.coming ≡ Link at → frames ≡ inside.lib.catalog.frames → files ≡ inside.lib.files → later.lib ≡ inside.lib → IsLinkTurn (snap_of inside.known inside.lib.catalog files at) frames at (booted_of inside) turn (booted_of later) → IsTurn now.lib (booted_of now) turn (booted_of later) × (later.lib ≡ now.lib)
+pub link_turns : (now inside later : SuperFields) (turn : Turn) (at : AtFields) (frames : ℕ) (files : List (List ℕ)) → inside ≡ now → now.next_event ≡ Link at → frames ≡ inside.lib.catalog.frames → files ≡ inside.lib.files → later.lib ≡ inside.lib → IsLinkTurn (snap_of inside.known inside.lib.catalog files at) frames at (booted_of inside) turn (booted_of later) → IsTurn now.lib (booted_of now) turn (booted_of later) × (later.lib ≡ now.lib)
 link_turns now inside later turn at frames files same e count all kept h =
-    let coming : inside.coming ≡ Link at = ap (λ (s : SuperFields). s.coming) same ∙ e in
+    let next_event : inside.next_event ≡ Link at = ap (λ (s : SuperFields). s.next_event) same ∙ e in
     let P : SuperFields → Type 0 = λ s. IsTurn s.lib (booted_of s) turn (booted_of later) × (later.lib ≡ s.lib) in
-    subst P same (link_is_turn inside.lib (booted_of inside) turn (booted_of later) frames at files coming count all h, kept)
+    subst P same (link_is_turn inside.lib (booted_of inside) turn (booted_of later) frames at files next_event count all h, kept)
 
-pub print_is_turn : (lib : Library) (before : Booted) (turn : Turn) (after : Booted) → before.coming ≡ Print → IsConsoleTurn (asks_too_much before.state.regs) (console_text before.state.regs (flat_of before.state.memory)) before turn after → IsTurn lib before turn after
+pub print_is_turn : (lib : Library) (before : Booted) (turn : Turn) (after : Booted) → before.next_event ≡ Print → IsConsoleTurn (asks_too_much before.state.regs) (console_text before.state.regs (flat_of before.state.memory)) before turn after → IsTurn lib before turn after
 print_is_turn lib before turn after e h = turn_by lib before turn after Print e h
 
-pub end_is_turn : (lib : Library) (before : Booted) (turn : Turn) (e : End) → before.coming ≡ Over e → turn ≡ Ended e → IsTurn lib before turn before
+pub end_is_turn : (lib : Library) (before : Booted) (turn : Turn) (e : End) → before.next_event ≡ Over e → turn ≡ Ended e → IsTurn lib before turn before
 end_is_turn lib before turn e over told = turn_by lib before turn before (Over e) over (told, refl)
 
 -- ---- the console
 
-pub console_refused : (limited : Bool) (text : Result (List ℕ) Fault) (before after : Booted) (turn : Turn) → limited ≡ true → turn ≡ Ended end.Console → after ≡ record before { coming = Over end.Console } → IsConsoleTurn limited text before turn after
+pub console_refused : (limited : Bool) (text : Result (List ℕ) Fault) (before after : Booted) (turn : Turn) → limited ≡ true → turn ≡ Ended end.Console → after ≡ record before { next_event = Over end.Console } → IsConsoleTurn limited text before turn after
 console_refused limited text before after turn e told same =
     subst (λ (b : Bool). IsConsoleTurn b text before turn after) (sym e) (told, same)
 
-pub console_faulted : (limited : Bool) (text : Result (List ℕ) Fault) (before after : Booted) (turn : Turn) (f : Fault) → limited ≡ false → text ≡ Err f → turn ≡ Ended (end.Fault f) → after ≡ record before { coming = Over (end.Fault f) } → IsConsoleTurn limited text before turn after
+pub console_faulted : (limited : Bool) (text : Result (List ℕ) Fault) (before after : Booted) (turn : Turn) (f : Fault) → limited ≡ false → text ≡ Err f → turn ≡ Ended (end.Fault f) → after ≡ record before { next_event = Over (end.Fault f) } → IsConsoleTurn limited text before turn after
 console_faulted limited text before after turn f e fault told same =
     subst (λ (b : Bool). IsConsoleTurn b text before turn after) (sym e) (subst (λ (t : Result (List ℕ) Fault). IsConsoleTurn false t before turn after) (sym fault) (told, same))
 
-pub console_printed : (limited : Bool) (text : Result (List ℕ) Fault) (before after : Booted) (turn : Turn) (characters : List ℕ) → limited ≡ false → text ≡ Ok characters → turn ≡ Console characters → after ≡ record before { state = record { regs = advanced before.state.regs; memory = before.state.memory }; coming = Step } → IsConsoleTurn limited text before turn after
+pub console_printed : (limited : Bool) (text : Result (List ℕ) Fault) (before after : Booted) (turn : Turn) (characters : List ℕ) → limited ≡ false → text ≡ Ok characters → turn ≡ Console characters → after ≡ record before { state = record { regs = advanced before.state.regs; memory = before.state.memory }; next_event = Step } → IsConsoleTurn limited text before turn after
 console_printed limited text before after turn characters e read told same =
     subst (λ (b : Bool). IsConsoleTurn b text before turn after) (sym e) (subst (λ (t : Result (List ℕ) Fault). IsConsoleTurn false t before turn after) (sym read) (told, same))
 

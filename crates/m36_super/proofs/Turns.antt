@@ -77,18 +77,18 @@ module _ (lib : Library) (state : PagedState) (known : KnownFields) where
   frames = lib.catalog.frames
 
   abbrev before : NextEvent → Booted
-  before coming = record { state = state; known = known; coming = coming; loaded = false }
+  before next_event = record { state = state; known = known; next_event = next_event; loaded = false }
 
   -- the turn of the flat run
   abbrev IsBy : NextEvent → FlatTurn → Turn → Booted → Type 0
-  IsBy coming t turn after = (turn ≡ t.turn) × (flat_run_of after ≡ t.after)
+  IsBy next_event t turn after = (turn ≡ t.turn) × (flat_run_of after ≡ t.after)
 
-  flat_by : (coming : NextEvent) (turn : Turn) (after : Booted) → IsBy coming (flat_turn_by coming lib (flat_run_of (before coming))) turn after → IsFlatTurn lib (before coming) turn after
+  flat_by : (next_event : NextEvent) (turn : Turn) (after : Booted) → IsBy next_event (flat_turn_by next_event lib (flat_run_of (before next_event))) turn after → IsFlatTurn lib (before next_event) turn after
   unfolding flat_turn
-  flat_by coming turn after h = record { turn_is = h.0; after_is = h.1 }
+  flat_by next_event turn after h = record { turn_is = h.0; after_is = h.1 }
 
-  flat_kept : (coming : NextEvent) (turn : Turn) (after : Booted) → IsFlatTurn lib (before coming) turn after → LaidOutUntilLdbr after.loaded frames after.state → ObeysTurnLaw lib (before coming) turn after
-  flat_kept coming turn after h stands =
+  flat_kept : (next_event : NextEvent) (turn : Turn) (after : Booted) → IsFlatTurn lib (before next_event) turn after → LaidOutUntilLdbr after.loaded frames after.state → ObeysTurnLaw lib (before next_event) turn after
+  flat_kept next_event turn after h stands =
       record { cases = inl h; locates = λ k. subst TurnExecutesAbsa h.turn_is k; stands = stands }
 
   -- the core after a step
@@ -110,7 +110,7 @@ module _ (lib : Library) (state : PagedState) (known : KnownFields) where
         λ i. record {
           state = s i;
           known = known;
-          coming = event_after_outcome (loaded_after false (e i)) (e i).ppr.prr (e i).outcome;
+          next_event = event_after_outcome (loaded_after false (e i)) (e i).ppr.prr (e i).outcome;
           loaded = loaded_after false (e i);
         },
       )
@@ -153,9 +153,9 @@ module _ (lib : Library) (state : PagedState) (known : KnownFields) where
       let regs = h.regs in
       let flat = h.console_byte.flat in
       let known = h.known in
-      let coming = h.coming in
+      let next_event = h.next_event in
       let loaded = h.loaded in
-      inr ((h.told, λ i. record { state = record { regs = regs i; store = flat i }; known = known i; coming = coming i; loaded = loaded i }), stands_as after loaded (record { dbr = ap (λ (r : RegsFields). r.dbr) regs ∙ stands.dbr; laid = h.console_byte.laid }))
+      inr ((h.told, λ i. record { state = record { regs = regs i; store = flat i }; known = known i; next_event = next_event i; loaded = loaded i }), stands_as after loaded (record { dbr = ap (λ (r : RegsFields). r.dbr) regs ∙ stands.dbr; laid = h.console_byte.laid }))
   link_cases at (Err why) turn after stands h =
       inr ((h.0, ap flat_run_of h.1), subst (λ (r : Booted). LaidOutUntilLdbr r.loaded frames r.state) (sym h.1) stands)
 
@@ -182,17 +182,17 @@ module _ (lib : Library) (state : PagedState) (known : KnownFields) where
       let k = console_cases (asks_too_much state.regs) (console_text state.regs (flat_of state.memory)) turn after stands h in
       flat_kept Print turn after (flat_by Print turn after k.0) k.1
 
-  turn_by : (coming : NextEvent) (turn : Turn) (after : Booted) → IsLaidOut frames state → IsTurnBy coming lib (before coming) turn after → ObeysTurnLaw lib (before coming) turn after
+  turn_by : (next_event : NextEvent) (turn : Turn) (after : Booted) → IsLaidOut frames state → IsTurnBy next_event lib (before next_event) turn after → ObeysTurnLaw lib (before next_event) turn after
   turn_by Step turn after stands h = step_kept turn after stands h
   turn_by (Link at) turn after stands h = link_kept at turn after stands h
   turn_by Print turn after stands h = print_kept turn after stands h
   turn_by (Over e) turn after stands h =
       flat_kept (Over e) turn after (flat_by (Over e) turn after (h.0, ap flat_run_of h.1)) (subst (λ (r : Booted). LaidOutUntilLdbr r.loaded frames r.state) (sym h.1) stands)
 
-loaded_by : (lib : Library) (before : Booted) (turn : Turn) (after : Booted) (b : Bool) → b ≡ false → IsLaidOut lib.catalog.frames before.state → IsTurnBy before.coming lib (record before { loaded = b }) turn after → ObeysTurnLaw lib (record before { loaded = b }) turn after
+loaded_by : (lib : Library) (before : Booted) (turn : Turn) (after : Booted) (b : Bool) → b ≡ false → IsLaidOut lib.catalog.frames before.state → IsTurnBy before.next_event lib (record before { loaded = b }) turn after → ObeysTurnLaw lib (record before { loaded = b }) turn after
 loaded_by lib before turn after true e stands h = cc
 loaded_by lib before turn after false e stands h =
-    turn_by lib before.state before.known before.coming turn after stands h
+    turn_by lib before.state before.known before.next_event turn after stands h
 
 pub turn_law : TurnLaw
 unfolding IsTurn

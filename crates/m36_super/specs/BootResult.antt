@@ -21,7 +21,7 @@ system_at_start lib image =
       core = image.core;
       pager = image.pager;
       known = known_after nothing_known image.snap;
-      coming = Step;
+      next_event = Step;
       loaded = false;
     }
 

@@ -37,7 +37,7 @@ use Rattle.m36_super.specs.FlatRun.{FlatRun}
 pub record Booted : Type 0 where
   pub state : PagedState
   pub known : KnownFields
-  pub coming : NextEvent
+  pub next_event : NextEvent
   pub loaded : Bool
 
 -- ---- steps
@@ -55,7 +55,7 @@ with_step r s =
             regs = (state_after core_store (core_state s)).regs;
             memory = stepped_memory s;
           };
-      coming = next_event_after r.loaded (record_of_state s);
+      next_event = next_event_after r.loaded (record_of_state s);
       loaded = loaded_after r.loaded (record_of_state s);
     }
 
@@ -98,7 +98,7 @@ pub record IsLinked
   pub regs : after.state.regs ≡ before.state.regs
   pub console_byte : IsWrittenBy frames before.state.memory after.state.memory (link_changes at s)
   pub known : after.known ≡ known_after before.known s
-  pub coming : after.coming ≡ Step
+  pub next_event : after.next_event ≡ Step
   pub loaded : after.loaded ≡ before.loaded
 
 -- a link service, by its answer; NoMemory is always allowed, and changes nothing
@@ -108,7 +108,7 @@ IsLinkTurn answer frames at before NoMemory after = after ≡ before
 IsLinkTurn (Ok s) frames at before turn after = IsLinked frames at s before turn after
 IsLinkTurn (Err why) frames at before turn after =
     (turn ≡ Linked (note_refused at why))
-    × (after ≡ record before { coming = Over (end.Link why.code) })
+    × (after ≡ record before { next_event = Over (end.Link why.code) })
 
 -- the turn that a link service is: its note, or that memory ran out
 abbrev pub link_turn : {E : Type 0} → Result LinkNoteFields E → Turn
@@ -119,15 +119,15 @@ link_turn (Err cause) = NoMemory
 -- reading it.
 abbrev pub IsConsoleTurn : Bool → Result (List ℕ) Fault → Booted → Turn → Booted → Type 0
 IsConsoleTurn true text before turn after =
-    (turn ≡ Ended end.Console) × (after ≡ record before { coming = Over end.Console })
+    (turn ≡ Ended end.Console) × (after ≡ record before { next_event = Over end.Console })
 IsConsoleTurn false (Err f) before turn after =
-    (turn ≡ Ended (end.Fault f)) × (after ≡ record before { coming = Over (end.Fault f) })
+    (turn ≡ Ended (end.Fault f)) × (after ≡ record before { next_event = Over (end.Fault f) })
 IsConsoleTurn false (Ok text) before turn after =
     (turn ≡ Console text)
     × (after
     ≡ record before {
       state = record { regs = advanced before.state.regs; memory = before.state.memory };
-      coming = Step;
+      next_event = Step;
     })
 
 -- ---- one turn
@@ -146,7 +146,7 @@ IsTurnBy (Over e) lib before turn after = (turn ≡ Ended e) × (after ≡ befor
 
 -- the run may make this turn, and then be in the state `after`
 unfoldable pub IsTurn : Library → Booted → Turn → Booted → Type 0
-IsTurn lib before turn after = IsTurnBy before.coming lib before turn after
+IsTurn lib before turn after = IsTurnBy before.next_event lib before turn after
 
 -- ---- the run
 
@@ -175,6 +175,6 @@ flat_run_of r =
     record {
       state = record { regs = r.state.regs; store = flat_of r.state.memory };
       known = r.known;
-      coming = r.coming;
+      next_event = r.next_event;
       loaded = r.loaded;
     }

@@ -23,7 +23,7 @@ use Rattle.m36_super.specs.NextEvent.{NextEvent, Step, Link, Print, Over, loaded
 pub record FlatRun : Type 0 where
   pub state : State Flat
   pub known : KnownFields
-  pub coming : NextEvent
+  pub next_event : NextEvent
   pub loaded : Bool
 
 -- a turn, and the state of the flat run after it
@@ -40,7 +40,7 @@ flat_step_turn r =
       after =
           record r {
             state = state_after flat_store r.state;
-            coming = next_event_after r.loaded told;
+            next_event = next_event_after r.loaded told;
             loaded = loaded_after r.loaded told;
           };
     }
@@ -59,29 +59,29 @@ flat_link_turn (Ok s) r at =
                   store = flat_put r.state.store (link_changes at s);
                 };
             known = known_after r.known s;
-            coming = Step;
+            next_event = Step;
           };
     }
 flat_link_turn (Err why) r at =
     record {
       turn = Linked (note_refused at why);
-      after = record r { coming = Over (end.Link why.code) };
+      after = record r { next_event = Over (end.Link why.code) };
     }
 
 -- a turn of the flat run that is a console service; if it is refused (true) or its text cannot be
 -- read, the run ends at once
 abbrev pub flat_console_turn : Bool → Result (List ℕ) Fault → FlatRun → FlatTurn
 flat_console_turn true text r =
-    record { turn = Ended end.Console; after = record r { coming = Over end.Console } }
+    record { turn = Ended end.Console; after = record r { next_event = Over end.Console } }
 flat_console_turn false (Err f) r =
-    record { turn = Ended (end.Fault f); after = record r { coming = Over (end.Fault f) } }
+    record { turn = Ended (end.Fault f); after = record r { next_event = Over (end.Fault f) } }
 flat_console_turn false (Ok text) r =
     record {
       turn = Console text;
       after =
           record r {
             state = record { regs = advanced r.state.regs; store = r.state.store };
-            coming = Step;
+            next_event = Step;
           };
     }
 
@@ -95,7 +95,7 @@ flat_turn_by (Over e) lib r = record { turn = Ended e; after = r }
 
 -- one turn of the flat run
 unfoldable pub flat_turn : Library → FlatRun → FlatTurn
-flat_turn lib r = flat_turn_by r.coming lib r
+flat_turn lib r = flat_turn_by r.next_event lib r
 
 -- the next n turns of the flat run
 unfoldable pub flat_turns : Library → FlatRun → ℕ → List Turn

@@ -9,8 +9,8 @@ use Rattle.m36_model.specs.declared.outcome.Fault.{Fault}
 use Rattle.m36_model.specs.declared.outcome.Outcome.{Outcome}
 use Rattle.m36_model.specs.declared.outcome.Outcome.TheVariants.{Next, Faulted, Stopped}
 use Rattle.m36_model.specs.declared.record.StepRecord.{StepRecord}
-pub use Rattle.m36_super.specs.declared.coming.NextEvent.{NextEvent}
-pub use Rattle.m36_super.specs.declared.coming.NextEvent.TheVariants.{Step, Link, Print, Over}
+pub use Rattle.m36_super.specs.declared.next_event.NextEvent.{NextEvent}
+pub use Rattle.m36_super.specs.declared.next_event.NextEvent.TheVariants.{Step, Link, Print, Over}
 
 -- The next turn after a fault, if no LDBR has been executed: a link service if it is that of fault
 -- tag 2 (first flag), which a link to be snapped has; a console service if it is MME in ring 0

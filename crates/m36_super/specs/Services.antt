@@ -90,10 +90,10 @@ console_words g f k (suc n) =
     with_word_before (examined_reply flat_store g f (console_at g k)) (console_words g f (k + 1) n)
 
 -- the first n characters of a text, or the fault of reading it
-abbrev pub cut_to : ℕ → Result (List ℕ) Fault → Result (List ℕ) Fault
-cut_to n (Err f) = Err f
-cut_to n (Ok characters) = Ok (take n characters)
+abbrev pub first_characters : ℕ → Result (List ℕ) Fault → Result (List ℕ) Fault
+first_characters n (Err f) = Err f
+first_characters n (Ok characters) = Ok (take n characters)
 
 -- the text that the console writes, or the first fault of reading it
 unfoldable pub console_text : RegsFields → Flat → Result (List ℕ) Fault
-console_text g f = cut_to g.a (console_words g f 0 (console_word_count g.a))
+console_text g f = first_characters g.a (console_words g f 0 (console_word_count g.a))

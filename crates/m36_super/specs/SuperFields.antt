@@ -30,7 +30,7 @@ pub record SuperFields : Type 0 where
   pub core : List ℕ
   pub pager : PagerFields
   pub known : KnownFields
-  pub coming : NextEvent
+  pub next_event : NextEvent
   pub loaded : Bool
 
 -- the paged state of a processor and its pager
@@ -39,13 +39,13 @@ paged_of s p = record { regs = s.regs; memory = paged_by s.store p }
 
 -- a state of the booted run, from the parts of a system
 abbrev pub run_of : State (List ℕ) → PagerFields → KnownFields → NextEvent → Bool → Booted
-run_of s p known coming loaded =
-    record { state = paged_of s p; known = known; coming = coming; loaded = loaded }
+run_of s p known next_event loaded =
+    record { state = paged_of s p; known = known; next_event = next_event; loaded = loaded }
 
 -- the state of the booted run of a system
 abbrev pub booted_of : SuperFields → Booted
 booted_of s =
-    run_of (record { regs = s.regs; store = s.core }) s.pager s.known s.coming s.loaded
+    run_of (record { regs = s.regs; store = s.core }) s.pager s.known s.next_event s.loaded
 
 -- Segment `seg` is live and has all the pages that a segment can have, as a linkage segment does.
 pub record IsLinkageSegment (core : List ℕ) (seg : ℕ) : Type 0 where
@@ -88,7 +88,7 @@ pub record IsSuper (s : SuperFields) : Type 0 where
   pub frames : length s.pager.holders ≡ s.lib.catalog.frames
   pub manages : RunningUntilLdbr s.loaded (length s.pager.holders) s.regs s.core s.pager
   pub made : IsConsistent s.lib.catalog s.lib.files s.known
-  pub due : NoServiceAfterLdbr s.coming s.loaded
+  pub due : NoServiceAfterLdbr s.next_event s.loaded
 
 -- the frame of a page, if the pager has the page (true)
 abbrev pub frame_by : Bool → Option ℕ → Option ℕ

@@ -71,17 +71,17 @@ step_no_service true frames before turn after h service = subst IsService h.told
 pub link_quiet :
     (answer : Result SnapFields RefusedFields) (frames : ℕ) (at : AtFields) (before : Booted)
     (turn : Turn) (after : Booted) → IsLinkTurn answer frames at before turn after → IsService turn
-    → IsNoService after.coming
-link_quiet (Ok s) frames at before (Linked note) after h service = subst IsNoService (sym h.coming) tt
-link_quiet (Ok s) frames at before (Console text) after h service = subst IsNoService (sym h.coming) tt
+    → IsNoService after.next_event
+link_quiet (Ok s) frames at before (Linked note) after h service = subst IsNoService (sym h.next_event) tt
+link_quiet (Ok s) frames at before (Console text) after h service = subst IsNoService (sym h.next_event) tt
 link_quiet (Ok s) frames at before (Stepped told) after h service = absurd service
 link_quiet (Ok s) frames at before (Ended e) after h service = absurd service
 link_quiet (Ok s) frames at before Full after h service = absurd service
 link_quiet (Ok s) frames at before NoMemory after h service = absurd service
 link_quiet (Err why) frames at before (Linked note) after h service =
-    subst (λ (r : Booted). IsNoService r.coming) (sym h.1) tt
+    subst (λ (r : Booted). IsNoService r.next_event) (sym h.1) tt
 link_quiet (Err why) frames at before (Console text) after h service =
-    subst (λ (r : Booted). IsNoService r.coming) (sym h.1) tt
+    subst (λ (r : Booted). IsNoService r.next_event) (sym h.1) tt
 link_quiet (Err why) frames at before (Stepped told) after h service = absurd service
 link_quiet (Err why) frames at before (Ended e) after h service = absurd service
 link_quiet (Err why) frames at before Full after h service = absurd service
@@ -89,15 +89,15 @@ link_quiet (Err why) frames at before NoMemory after h service = absurd service
 
 console_quiet :
     (b : Bool) (text : Result (List ℕ) Fault) (before : Booted) (turn : Turn) (after : Booted)
-    → IsConsoleTurn b text before turn after → IsService turn → IsNoService after.coming
+    → IsConsoleTurn b text before turn after → IsService turn → IsNoService after.next_event
 console_quiet true text before turn after h service = absurd (subst IsService h.0 service)
 console_quiet false (Err f) before turn after h service = absurd (subst IsService h.0 service)
 console_quiet false (Ok text) before turn after h service =
-    subst (λ (r : Booted). IsNoService r.coming) (sym h.1) tt
+    subst (λ (r : Booted). IsNoService r.next_event) (sym h.1) tt
 
 after_service :
-    (coming : NextEvent) (lib : Library) (before : Booted) (turn : Turn) (after : Booted)
-    → IsTurnBy coming lib before turn after → IsService turn → IsNoService after.coming
+    (next_event : NextEvent) (lib : Library) (before : Booted) (turn : Turn) (after : Booted)
+    → IsTurnBy next_event lib before turn after → IsService turn → IsNoService after.next_event
 after_service Step lib before turn after h service =
     absurd (step_no_service before.loaded lib.catalog.frames before turn after h service)
 after_service (Link at) lib before turn after h service =
@@ -106,8 +106,8 @@ after_service Print lib before turn after h service = console_quiet _ _ before t
 after_service (Over e) lib before turn after h service = absurd (subst IsService h.0 service)
 
 no_service :
-    (coming : NextEvent) (lib : Library) (before : Booted) (turn : Turn) (after : Booted)
-    → IsTurnBy coming lib before turn after → IsNoService coming → IsService turn → ⊥
+    (next_event : NextEvent) (lib : Library) (before : Booted) (turn : Turn) (after : Booted)
+    → IsTurnBy next_event lib before turn after → IsNoService next_event → IsService turn → ⊥
 no_service Step lib before turn after h quiet service =
     step_no_service before.loaded lib.catalog.frames before turn after h service
 no_service (Link at) lib before turn after h quiet service = quiet
@@ -120,8 +120,8 @@ pub super_apart :
     → SuperTurns first one second → SuperTurns second two third → IsService one → IsService two → ⊥
 unfolding IsTurn
 super_apart first second third one two h k service other =
-    no_service second.coming second.lib (booted_of second) two (booted_of third) k.0
-    (after_service first.coming first.lib (booted_of first) one (booted_of second) h.0 service)
+    no_service second.next_event second.lib (booted_of second) two (booted_of third) k.0
+    (after_service first.next_event first.lib (booted_of first) one (booted_of second) h.0 service)
     other
 
 -- ---- a turn that interrupts is not followed by a step
@@ -152,15 +152,15 @@ held_after loaded ring (Stopped s) not = tt
 
 takes_held :
     (s : PagedState) (before : Booted) (turn : Turn) (after : Booted)
-    → IsStepTo s before turn after → PrecludesStep turn → IsNoStep after.coming
+    → IsStepTo s before turn after → PrecludesStep turn → IsNoStep after.next_event
 takes_held s before turn after h interrupts =
-    subst (λ (r : Booted). IsNoStep r.coming) (sym h.after_is)
+    subst (λ (r : Booted). IsNoStep r.next_event) (sym h.after_is)
     (held_after (loaded_after before.loaded (record_of_state s)) (record_of_state s).ppr.prr (record_of_state s).outcome
     (subst PrecludesStep h.told interrupts))
 
 step_held :
     (loaded : Bool) (frames : ℕ) (before : Booted) (turn : Turn) (after : Booted)
-    → IsStepTurn loaded frames before turn after → PrecludesStep turn → IsNoStep after.coming
+    → IsStepTurn loaded frames before turn after → PrecludesStep turn → IsNoStep after.next_event
 step_held false frames before turn after h interrupts =
     takes_held h.last before turn after h.takes interrupts
 step_held true frames before turn after h interrupts =
@@ -169,7 +169,7 @@ step_held true frames before turn after h interrupts =
 link_held :
     (answer : Result SnapFields RefusedFields) (frames : ℕ) (at : AtFields) (before : Booted)
     (turn : Turn) (after : Booted)
-    → IsLinkTurn answer frames at before turn after → PrecludesStep turn → IsNoStep after.coming
+    → IsLinkTurn answer frames at before turn after → PrecludesStep turn → IsNoStep after.next_event
 link_held (Ok s) frames at before (Linked note) after h interrupts =
     absurd (subst PrecludesStep h.told interrupts)
 link_held (Ok s) frames at before (Stepped told) after h interrupts =
@@ -179,9 +179,9 @@ link_held (Ok s) frames at before (Ended e) after h interrupts = absurd interrup
 link_held (Ok s) frames at before Full after h interrupts = absurd interrupts
 link_held (Ok s) frames at before NoMemory after h interrupts = absurd interrupts
 link_held (Err why) frames at before (Linked note) after h interrupts =
-    subst (λ (r : Booted). IsNoStep r.coming) (sym h.1) tt
+    subst (λ (r : Booted). IsNoStep r.next_event) (sym h.1) tt
 link_held (Err why) frames at before (Stepped told) after h interrupts =
-    subst (λ (r : Booted). IsNoStep r.coming) (sym h.1) tt
+    subst (λ (r : Booted). IsNoStep r.next_event) (sym h.1) tt
 link_held (Err why) frames at before (Console text) after h interrupts = absurd interrupts
 link_held (Err why) frames at before (Ended e) after h interrupts = absurd interrupts
 link_held (Err why) frames at before Full after h interrupts = absurd interrupts
@@ -196,8 +196,8 @@ console_no_interrupt false (Ok text) before turn after h interrupts =
     subst PrecludesStep h.0 interrupts
 
 after_interrupt :
-    (coming : NextEvent) (lib : Library) (before : Booted) (turn : Turn) (after : Booted)
-    → IsTurnBy coming lib before turn after → PrecludesStep turn → IsNoStep after.coming
+    (next_event : NextEvent) (lib : Library) (before : Booted) (turn : Turn) (after : Booted)
+    → IsTurnBy next_event lib before turn after → PrecludesStep turn → IsNoStep after.next_event
 after_interrupt Step lib before turn after h interrupts =
     step_held before.loaded lib.catalog.frames before turn after h interrupts
 after_interrupt (Link at) lib before turn after h interrupts =
@@ -232,8 +232,8 @@ console_no_step false (Err f) before turn after h step = subst IsStep h.0 step
 console_no_step false (Ok text) before turn after h step = subst IsStep h.0 step
 
 no_step :
-    (coming : NextEvent) (lib : Library) (before : Booted) (turn : Turn) (after : Booted)
-    → IsTurnBy coming lib before turn after → IsNoStep coming → IsStep turn → ⊥
+    (next_event : NextEvent) (lib : Library) (before : Booted) (turn : Turn) (after : Booted)
+    → IsTurnBy next_event lib before turn after → IsNoStep next_event → IsStep turn → ⊥
 no_step Step lib before turn after h held step = held
 no_step (Link at) lib before turn after h held step =
     link_no_step _ lib.catalog.frames at before turn after h step
@@ -246,6 +246,6 @@ pub super_interrupted :
     → SuperTurns first one second → SuperTurns second two third → PrecludesStep one → IsStep two → ⊥
 unfolding IsTurn
 super_interrupted first second third one two h k interrupts step =
-    no_step second.coming second.lib (booted_of second) two (booted_of third) k.0
-    (after_interrupt first.coming first.lib (booted_of first) one (booted_of second) h.0 interrupts)
+    no_step second.next_event second.lib (booted_of second) two (booted_of third) k.0
+    (after_interrupt first.next_event first.lib (booted_of first) one (booted_of second) h.0 interrupts)
     step

@@ -7,10 +7,10 @@ ghost use Rattle.m36_super.specs.BootedRun.{link_turn};
 ghost use Rattle.m36_super.specs.SuperFields.{IsRunning, NoServiceAfterLdbr};
 ghost use Rattle.m36_super.specs.SuperTurn.{SuperTurns};
 
-use crate::coming::NextEvent;
 use crate::console::print;
 use crate::content::flat_content;
 use crate::linking::{link, link_turn};
+use crate::next_event::NextEvent;
 use crate::stepping::step_told;
 use m36_core::Core;
 use m36_dir::Catalog;
@@ -32,7 +32,7 @@ pub struct Super {
     known: Known,
     catalog: Catalog,
     files: Vec<File>,
-    coming: NextEvent,
+    next_event: NextEvent,
     // Whether an LDBR has been executed.
     loaded: bool,
     alloc: Global,
@@ -49,7 +49,7 @@ impl Model for Super {
       core = s.machine.state.store;
       pager = s.pager;
       known = s.known;
-      coming = s.coming;
+      next_event = s.next_event;
       loaded = s.loaded;
     } };
 
@@ -59,7 +59,7 @@ impl Model for Super {
       core = s.machine.state.store;
       pager = s.pager;
       known = s.known;
-      coming = s.coming;
+      next_event = s.next_event;
       loaded = s.loaded;
     }) };
 }
@@ -87,7 +87,7 @@ impl Super {
               core = machine.state.store;
               pager = pager;
               known = known;
-              coming = NextEvent.Step;
+              next_event = NextEvent.Step;
               loaded = false;
             } }
     {
@@ -97,7 +97,7 @@ impl Super {
             known,
             catalog,
             files,
-            coming: NextEvent::Step,
+            next_event: NextEvent::Step,
             loaded: false,
             alloc,
         }
@@ -118,42 +118,42 @@ impl Super {
     }
 
     /// What the next turn is.
-    pub fn coming(&self) -> NextEvent
-        ensures value { result ≡ self.now.coming }
-        ensures due { NoServiceAfterLdbr self.now.coming self.now.loaded }
+    pub fn next_event(&self) -> NextEvent
+        ensures value { result ≡ self.now.next_event }
+        ensures due { NoServiceAfterLdbr self.now.next_event self.now.loaded }
     {
-        self.coming
+        self.next_event
     }
 
     /// An empty record with the current registers, for `step_told` to overwrite.
-    pub fn untold(&self) -> StepRecord
+    pub fn empty_record(&self) -> StepRecord
         ensures { result ≡ empty_record_of self.now.regs }
     {
-        self.machine.untold()
+        self.machine.empty_record()
     }
 
     /// Takes the turn, which is a step, and overwrites `told` with its record.
     #[tactic(auto, using(crate::proofs::SystemTurns::step_is_turn))]
     pub fn step_told(&mut self, told: &mut StepRecord)
-        requires { self.old.coming ≡ NextEvent.Step }
+        requires { self.old.next_event ≡ NextEvent.Step }
         ensures { SuperTurns self.old (Turn.Stepped told.new) self.new }
     {
         let Super {
             machine,
             pager,
-            coming,
+            next_event,
             loaded,
             ..
         } = self;
-        step_told(machine, pager, coming, loaded, told);
+        step_told(machine, pager, next_event, loaded, told);
     }
 
     // Takes a step. Until an LDBR has been executed, the pages that it lacks are brought in.
     fn step(&mut self) -> Turn
-        requires { self.old.coming ≡ NextEvent.Step }
+        requires { self.old.next_event ≡ NextEvent.Step }
         ensures { SuperTurns self.old result self.new }
     {
-        let mut told = self.untold();
+        let mut told = self.empty_record();
         self.step_told(&mut told);
         Turn::Stepped(told)
     }
@@ -162,10 +162,10 @@ impl Super {
     /// `NoMemory`.
     #[tactic(auto, using(crate::proofs::SystemTurns::due_at))]
     pub fn serve_link(&mut self, at: At) -> Result<LinkNote, NoMemory>
-        requires { self.old.coming ≡ NextEvent.Link at }
+        requires { self.old.next_event ≡ NextEvent.Link at }
         ensures { SuperTurns self.old (link_turn result) self.new }
     {
-        let _coming = self.coming();
+        let _next_event = self.next_event();
         self.link(at)
     }
 
@@ -173,7 +173,7 @@ impl Super {
     // then changes nothing.
     #[tactic(auto, using(crate::proofs::SystemTurns::link_is_turn))]
     fn link(&mut self, at: At) -> Result<LinkNote, NoMemory>
-        requires coming { self.old.coming ≡ NextEvent.Link at }
+        requires next_event { self.old.next_event ≡ NextEvent.Link at }
         requires runs { self.old.loaded ≡ false }
         ensures { SuperTurns self.old (link_turn result) self.new }
     {
@@ -183,37 +183,39 @@ impl Super {
             known,
             catalog,
             files,
-            coming,
+            next_event,
             alloc,
             ..
         } = self;
-        link(*alloc, catalog, files, machine, pager, known, coming, at)
+        link(
+            *alloc, catalog, files, machine, pager, known, next_event, at,
+        )
     }
 
     // Takes a turn that is a console service; the run ends if the service is refused.
     #[tactic(auto, using(crate::proofs::SystemTurns::print_is_turn))]
     fn print(&mut self) -> Turn
-        requires coming { self.old.coming ≡ NextEvent.Print }
+        requires next_event { self.old.next_event ≡ NextEvent.Print }
         requires runs { self.old.loaded ≡ false }
         ensures { SuperTurns self.old result self.new }
     {
         let Super {
             machine,
             pager,
-            coming,
+            next_event,
             ..
         } = self;
-        print(machine, pager, coming)
+        print(machine, pager, next_event)
     }
 
     // Takes the next turn, which is of this kind.
     #[tactic(auto, using(crate::proofs::SystemTurns::system_turns))]
-    fn turn_of(&mut self, coming: NextEvent) -> Turn
-        requires coming { coming ≡ self.old.coming }
-        requires due { NoServiceAfterLdbr coming self.old.loaded }
+    fn turn_of(&mut self, next_event: NextEvent) -> Turn
+        requires next_event { next_event ≡ self.old.next_event }
+        requires due { NoServiceAfterLdbr next_event self.old.loaded }
         ensures { SuperTurns self.old result self.new }
     {
-        match coming {
+        match next_event {
             NextEvent::Step => self.step(),
             NextEvent::Link(at) => link_turn(self.link(at)),
             NextEvent::Print => self.print(),
@@ -224,11 +226,11 @@ impl Super {
     // Takes a turn that is not a step, or a step with no record to overwrite.
     #[cold]
     #[inline(never)]
-    fn turn_anew(&mut self, turn: &mut Turn)
+    fn turn_without_record(&mut self, turn: &mut Turn)
         ensures { SuperTurns self.old turn.new self.new }
     {
-        let coming = self.coming();
-        *turn = self.turn_of(coming);
+        let next_event = self.next_event();
+        *turn = self.turn_of(next_event);
     }
 }
 
@@ -248,12 +250,12 @@ impl Stepper for Super {
     /// before it calls for; or the end.
     #[inline]
     fn turn_into(&mut self, turn: &mut Turn) {
-        if let NextEvent::Step = self.coming
+        if let NextEvent::Step = self.next_event
             && let Turn::Stepped(told) = turn
         {
             self.step_told(told);
         } else {
-            self.turn_anew(turn);
+            self.turn_without_record(turn);
         }
     }
 

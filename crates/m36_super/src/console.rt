@@ -13,8 +13,8 @@ ghost use Rattle.m36_super.specs.SuperFields.{run_of, IsManaged, IsRunning};
 ghost use Rattle.m36_super.specs.Writing.{flat_by};
 ghost use Rattle.m36_super.specs.Examining.{ExaminedResult};
 
-use crate::coming::NextEvent;
 use crate::content::found_word;
+use crate::next_event::NextEvent;
 use arrayvec::ArrayVec;
 use m36_core::Core;
 use m36_desc::{Acv, Sdw, may_read};
@@ -34,7 +34,7 @@ const TEXT: u8 = 2;
 const OUT_OF_SEGMENT_BOUNDS: u8 = 15;
 
 // The fault for a refusal at a word.
-fn fault(why: Refusal, at: At) -> Fault
+fn fault_of(why: Refusal, at: At) -> Fault
     ensures { result ≡ fault_by why at }
 {
     Fault {
@@ -62,10 +62,10 @@ fn described_word(core: &Core, pager: &Pager, regs: &Regs, sdw: &Sdw, at: At) ->
 {
     let same = is_executing(regs, at);
     if let Err(Acv(acv)) = may_read(sdw, at.ring, same) {
-        return Err(fault(violation(acv), at));
+        return Err(fault_of(violation(acv), at));
     }
     if !is_within_bound(sdw, at.word) {
-        return Err(fault(violation(OUT_OF_SEGMENT_BOUNDS), at));
+        return Err(fault_of(violation(OUT_OF_SEGMENT_BOUNDS), at));
     }
     Ok(found_word(core, pager, sdw, at.seg, at.word))
 }
@@ -80,7 +80,7 @@ fn examined_reply(core: &Core, pager: &Pager, regs: &Regs, at: At) -> Result<Wor
 {
     match descriptor(core, regs.dbr, at.seg) {
         Ok(sdw) => described_word(core, pager, regs, &sdw, at),
-        Err(why) => Err(fault(why, at)),
+        Err(why) => Err(fault_of(why, at)),
     }
 }
 
@@ -160,7 +160,7 @@ fn text_words(
 
 // The first `count` characters of the text, or the first fault of reading them.
 #[tactic(auto, unfolding(crate::specs::Services::console_text))]
-fn text(core: &Core, pager: &Pager, regs: &Regs, count: u32) -> Result<ConsoleNote, Fault>
+fn read_text(core: &Core, pager: &Pager, regs: &Regs, count: u32) -> Result<ConsoleNote, Fault>
     requires managed { IsManaged (length pager.now.holders) core.now pager.now }
     requires dbr { regs.now.dbr ≡ booted_dbr }
     requires count { count ≡ regs.now.a }
@@ -175,39 +175,39 @@ fn text(core: &Core, pager: &Pager, regs: &Regs, count: u32) -> Result<ConsoleNo
 }
 
 // Ends the run in this way: returns the turn that reports the end, which is also the next turn.
-fn end_run(coming: &mut NextEvent, end: &End) -> Turn
+fn end_run(next_event: &mut NextEvent, end: &End) -> Turn
     ensures turn { result ≡ Turn.Ended end.now }
-    ensures coming { coming.new ≡ NextEvent.Over end.now }
+    ensures next_event { next_event.new ≡ NextEvent.Over end.now }
 {
-    *coming = NextEvent::Over(*end);
+    *next_event = NextEvent::Over(*end);
     Turn::Ended(*end)
 }
 
 /// Takes a turn that is a console service: the text of as many characters as A says, at PR2. The
 /// run ends if A is above 256 or the text cannot be read.
 #[tactic(auto, using(crate::proofs::SystemTurns::printed))]
-pub(crate) fn print(machine: &mut Machine, pager: &Pager, coming: &mut NextEvent) -> Turn
+pub(crate) fn print(machine: &mut Machine, pager: &Pager, next_event: &mut NextEvent) -> Turn
     requires { IsRunning (length pager.now.holders) machine.old.state.regs machine.old.state.store
         pager.now }
     ensures turn { (known : KnownFields) (loaded : Bool) → IsConsoleTurn
         (asks_too_much machine.old.state.regs)
         (console_text machine.old.state.regs (flat_by machine.old.state.store pager.now))
-        (run_of machine.old.state pager.now known coming.old loaded) result
-        (run_of machine.new.state pager.now known coming.new loaded) }
+        (run_of machine.old.state pager.now known next_event.old loaded) result
+        (run_of machine.new.state pager.now known next_event.new loaded) }
     ensures runs { IsRunning (length pager.now.holders) machine.new.state.regs
         machine.new.state.store pager.now }
 {
     let regs = machine.regs();
     let count = regs.a.value();
     if count > MOST_CHARACTERS {
-        return end_run(coming, &End::Console);
+        return end_run(next_event, &End::Console);
     }
-    match text(machine.walk().core(), pager, regs, count as u32) {
+    match read_text(machine.walk().core(), pager, regs, count as u32) {
         Ok(note) => {
             machine.skip();
-            *coming = NextEvent::Step;
+            *next_event = NextEvent::Step;
             Turn::Console(note)
         }
-        Err(fault) => end_run(coming, &End::Fault(fault)),
+        Err(fault) => end_run(next_event, &End::Fault(fault)),
     }
 }

@@ -34,11 +34,11 @@
 
 pub mod booted;
 pub mod booting;
-pub mod coming;
 mod console;
 mod content;
 mod linking;
 mod naming;
+pub mod next_event;
 mod stepping;
 
 ghost use Rattle.m36_super.specs.TurnLaws.{LoadsLaw, TurnLaw, TurnAuditLaw, PlainTurnsLaw};
@@ -48,7 +48,7 @@ ghost use Rattle.m36_super.specs.ConsoleLaw.{ConsoleCounts};
 
 pub use booted::Super;
 pub use booting::{are_short, files_of};
-pub use coming::NextEvent;
+pub use next_event::NextEvent;
 
 /// Until an LDBR is executed, a turn of a booted run is that of the flat run, or runs out of
 /// memory, or executes ABSA as the turn of the flat run does. The core stays laid out as that of

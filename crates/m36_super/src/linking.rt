@@ -12,8 +12,8 @@ ghost use Rattle.m36_super.specs.Services.{link_changes, note_snapped, note_of};
 ghost use Rattle.m36_super.specs.SuperFields.{run_of, IsManaged, IsRunning};
 ghost use Rattle.m36_super.specs.Writing.{ArePut};
 
-use crate::coming::NextEvent;
 use crate::naming::link_text;
+use crate::next_event::NextEvent;
 use m36_dir::Catalog;
 use m36_link::{FIRST_LINKAGE, File, Known, LinkFault, NewSection, Snap, link_laws};
 use m36_model::{At, End, LinkCode};
@@ -141,7 +141,7 @@ fn complete_snap(
     machine: &mut Machine,
     pager: &mut Pager,
     known: &mut Known,
-    coming: &mut NextEvent,
+    next_event: &mut NextEvent,
     at: At,
     snap: &Snap,
 ) -> Result<LinkNote, NoMemory>
@@ -151,8 +151,8 @@ fn complete_snap(
     requires seg { at.seg ≡ linkage_segment at.ring }
     requires even { at.word + 1 < 2 ^ 18 }
     ensures turn { (loaded : Bool) → IsLinkTurn (Ok snap.now) (length pager.old.holders) at
-        (run_of machine.old.state pager.old known.old coming.old loaded) (link_turn result)
-        (run_of machine.new.state pager.new known.new coming.new loaded) }
+        (run_of machine.old.state pager.old known.old next_event.old loaded) (link_turn result)
+        (run_of machine.new.state pager.new known.new next_event.new loaded) }
     ensures frames { length pager.new.holders ≡ length pager.old.holders }
     ensures runs { IsRunning (length pager.new.holders) machine.new.state.regs
         machine.new.state.store pager.new }
@@ -161,7 +161,7 @@ fn complete_snap(
     match known.accept(snap) {
         Ok(()) => {
             write_changes(machine, pager, at, snap);
-            *coming = NextEvent::Step;
+            *next_event = NextEvent::Step;
             Ok(note_snapped(at, snap))
         }
         Err(NoMemory) => Err(NoMemory),
@@ -179,7 +179,7 @@ pub(crate) fn link(
     machine: &mut Machine,
     pager: &mut Pager,
     known: &mut Known,
-    coming: &mut NextEvent,
+    next_event: &mut NextEvent,
     at: At,
 ) -> Result<LinkNote, NoMemory>
     requires runs { IsRunning (length pager.old.holders) machine.old.state.regs
@@ -187,8 +187,8 @@ pub(crate) fn link(
     requires made { IsConsistent catalog.now files.now known.old }
     ensures turn { (loaded : Bool) → IsLinkTurn (snap_of known.old catalog.now files.now at)
         (length pager.old.holders) at
-        (run_of machine.old.state pager.old known.old coming.old loaded) (link_turn result)
-        (run_of machine.new.state pager.new known.new coming.new loaded) }
+        (run_of machine.old.state pager.old known.old next_event.old loaded) (link_turn result)
+        (run_of machine.new.state pager.new known.new next_event.new loaded) }
     ensures frames { length pager.new.holders ≡ length pager.old.holders }
     ensures runs { IsRunning (length pager.new.holders) machine.new.state.regs
         machine.new.state.store pager.new }
@@ -196,9 +196,9 @@ pub(crate) fn link(
 {
     link_laws();
     match known.resolve(alloc, catalog, files, at) {
-        Ok(snap) => complete_snap(machine, pager, known, coming, at, &snap),
+        Ok(snap) => complete_snap(machine, pager, known, next_event, at, &snap),
         Err(LinkFault::Refused(code, link)) => {
-            *coming = NextEvent::Over(End::Link(code));
+            *next_event = NextEvent::Over(End::Link(code));
             Ok(note_refused(at, code, link.as_ref()))
         }
         Err(LinkFault::NoMemory) => Err(NoMemory),

@@ -9,7 +9,7 @@ ghost use Rattle.m36_super.specs.BootedRun.{IsStepTurn};
 ghost use Rattle.m36_super.specs.SuperFields.{run_of, IsManaged, IsRunning, RunningUntilLdbr, NoServiceAfterLdbr};
 ghost use Rattle.m36_super.specs.Stepping.{AbsentWordResult, AttemptResult, IsStepped, StepContract};
 
-use crate::coming::{NextEvent, event_after_outcome, loaded_after};
+use crate::next_event::{NextEvent, event_after_outcome, loaded_after};
 use m36_model::{At, Fault, Outcome, Refs, StepRecord};
 use m36_page::{Pager, Pinned};
 use m36_step::{Machine, Turn};
@@ -35,7 +35,7 @@ fn absent_word_of_fault(fault: Fault) -> Option<At>
 }
 
 // The address of the word whose page was absent, if a step with this outcome lacked a page.
-fn lacked(outcome: Outcome) -> Option<At>
+fn absent_word(outcome: Outcome) -> Option<At>
     ensures { AbsentWordResult outcome result }
 {
     match outcome {
@@ -72,7 +72,7 @@ fn try_step(machine: &mut Machine, pager: &mut Pager, told: &mut StepRecord) -> 
     ensures { AttemptResult result machine.old.state pager.old machine.new.state pager.new told.new }
 {
     machine.step_into(told);
-    match lacked(told.outcome) {
+    match absent_word(told.outcome) {
         Some(at) => {
             bring_page_in(machine, pager, at, &told.refs);
             true
@@ -118,22 +118,22 @@ fn step_into(machine: &mut Machine, pager: &mut Pager, loaded: bool, told: &mut 
 pub(crate) fn step_told(
     machine: &mut Machine,
     pager: &mut Pager,
-    coming: &mut NextEvent,
+    next_event: &mut NextEvent,
     loaded: &mut bool,
     told: &mut StepRecord,
 )
     requires { RunningUntilLdbr loaded.old (length pager.old.holders) machine.old.state.regs
         machine.old.state.store pager.old }
     ensures turn { (known : KnownFields) → IsStepTurn loaded.old (length pager.old.holders)
-        (run_of machine.old.state pager.old known coming.old loaded.old) (Turn.Stepped told.new)
-        (run_of machine.new.state pager.new known coming.new loaded.new) }
+        (run_of machine.old.state pager.old known next_event.old loaded.old) (Turn.Stepped told.new)
+        (run_of machine.new.state pager.new known next_event.new loaded.new) }
     ensures frames { length pager.new.holders ≡ length pager.old.holders }
     ensures manages { RunningUntilLdbr loaded.new (length pager.new.holders) machine.new.state.regs
         machine.new.state.store pager.new }
-    ensures due { NoServiceAfterLdbr coming.new loaded.new }
+    ensures due { NoServiceAfterLdbr next_event.new loaded.new }
 {
     step_into(machine, pager, *loaded, told);
     let now = loaded_after(*loaded, told);
-    *coming = event_after_outcome(now, told.ppr.prr, told.outcome);
+    *next_event = event_after_outcome(now, told.ppr.prr, told.outcome);
     *loaded = now;
 }

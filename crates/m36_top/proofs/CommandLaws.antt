@@ -40,8 +40,8 @@ not_value a status is = absurd (cc)
 err_end :
     (A : Type 0) (result : Result (Unit {0}) Status) (status : Status)
     → result ≡ Err status → IsEnd result → IsEnd {A = A} (Err status)
-err_end A result status is complete_given =
-    let end : IsEnd {A = Unit {0}} (Err status) = subst (IsEnd {A = Unit {0}}) is complete_given in end
+err_end A result status is ended =
+    let end : IsEnd {A = Unit {0}} (Err status) = subst (IsEnd {A = Unit {0}}) is ended in end
 
 -- The events and the result of a program that begins with a reader, if the files are refused.
 refused_by :
@@ -59,11 +59,11 @@ refused_by {A = A} p next files status result old new is told refused performs =
           (record { events = both.first; follow = passed.begins; goes = both.begins })) ∙ refused)
       | inr ends ↦ record {
         none_put = reader_pieces p performs.events (Err ends.status) is ends.goes;
-        refuses = λ complete_given.
+        refuses = λ ended.
             ends.result_is
             ∙ ap (λ s. Err s) (same_end A ends.status status
             (sym (reader_outcome p files (Err ends.status) old new is told
-            (err_end A result ends.status ends.result_is complete_given)
+            (err_end A result ends.status ends.result_is ended)
             (record { events = performs.events; follow = performs.follow; goes = ends.goes })) ∙ refused));
       }
     ]

@@ -3,7 +3,7 @@
 ghost use Rattle.std.specs.Prelude.{◌≡◌, ◌+◌, ◌≤◌, ◌++◌, length};
 ghost use Rattle.m36_turns.specs.TurnLines.{is_escaped, console_character, console_line_of};
 
-use crate::put::put;
+use crate::append::append;
 use arrayvec::ArrayVec;
 use m36_step::ConsoleNote;
 use m36_text::octal;
@@ -24,10 +24,10 @@ fn put_character(line: &mut ArrayVec<u8, 1040>, character: u8)
     ensures len { length line.new.items ≤ length line.old.items + 4 }
 {
     if is_escaped(character) {
-        put(line, b"\\");
-        put(line, octal(character as u64, 3).as_str().as_bytes());
+        append(line, b"\\");
+        append(line, octal(character as u64, 3).as_str().as_bytes());
     } else {
-        put(line, &[character]);
+        append(line, &[character]);
     }
 }
 
@@ -39,7 +39,7 @@ pub fn console_line(note: &ConsoleNote) -> ArrayVec<u8, 1040>
 {
     let characters = note.bytes.as_slice();
     let mut line = ArrayVec::new();
-    put(&mut line, b"console ");
+    append(&mut line, b"console ");
     let mut rest = characters;
     while let [character, others @ ..] = rest {
         put_character(&mut line, *character);

@@ -5,7 +5,7 @@ ghost use Rattle.m36_text.specs.Digits.{word_text};
 ghost use Rattle.m36_trace.specs.TraceLine.{segment_word_text};
 ghost use Rattle.m36_turns.specs.TurnLines.{link_code_text, pair_text, link_answer_text, link_line_of};
 
-use crate::put::put;
+use crate::append::append;
 use arrayvec::ArrayVec;
 use m36_model::{At, LinkCode};
 use m36_step::LinkNote;
@@ -35,7 +35,7 @@ fn put_place(line: &mut ArrayVec<u8, 160>, at: At)
     ensures len { length line.new.items ≡ length line.old.items + 12 }
 {
     let digits = place_digits(at.seg, at.word);
-    put(line, &digits);
+    append(line, &digits);
 }
 
 // Appends a word in octal.
@@ -44,7 +44,7 @@ fn put_word(line: &mut ArrayVec<u8, 160>, word: Word)
     ensures text { line.new.items ≡ line.old.items ++ word_text word }
     ensures len { length line.new.items ≡ length line.old.items + 12 }
 {
-    put(line, octal(word.value(), 12).as_str().as_bytes());
+    append(line, octal(word.value(), 12).as_str().as_bytes());
 }
 
 // Appends a pair, as two words in octal with a space between them.
@@ -54,7 +54,7 @@ fn put_pair(line: &mut ArrayVec<u8, 160>, pair: Pair)
     ensures len { length line.new.items ≡ length line.old.items + 25 }
 {
     put_word(line, pair.even);
-    put(line, b" ");
+    append(line, b" ");
     put_word(line, pair.odd);
 }
 
@@ -66,7 +66,7 @@ fn put_answer(line: &mut ArrayVec<u8, 160>, answer: &Result<Pair, LinkCode>)
 {
     match answer {
         Ok(pair) => put_pair(line, *pair),
-        Err(code) => put(line, link_code_name(*code).as_bytes()),
+        Err(code) => append(line, link_code_name(*code).as_bytes()),
     }
 }
 
@@ -77,13 +77,13 @@ pub fn link_line(note: &LinkNote) -> ArrayVec<u8, 160>
     ensures len { length result.items ≤ 111 }
 {
     let mut line = ArrayVec::new();
-    put(&mut line, b"link ");
-    put(&mut line, octal(note.ring as u64, 1).as_str().as_bytes());
-    put(&mut line, b" ");
+    append(&mut line, b"link ");
+    append(&mut line, octal(note.ring as u64, 1).as_str().as_bytes());
+    append(&mut line, b" ");
     put_place(&mut line, note.at);
-    put(&mut line, b" ");
-    put(&mut line, note.name.as_slice());
-    put(&mut line, b" ");
+    append(&mut line, b" ");
+    append(&mut line, note.name.as_slice());
+    append(&mut line, b" ");
     put_answer(&mut line, &note.answer);
     line
 }

@@ -8,7 +8,7 @@ use Rattle.obj36_read.specs.Reading.{older_map_words, version_in}
 use Rattle.obj36_read.specs.MapFaults.{map_fault, section_fault, shared_fault, extents_of}
 use Rattle.obj36_read.specs.MapFaults.{extent_words}
 use Rattle.obj36_read.specs.TableFaults.{table_fault, names_fault}
-use Rattle.obj36_read.specs.LinkFaults.{behind, links_fault}
+use Rattle.obj36_read.specs.LinkFaults.{index_in_list, links_fault}
 use Rattle.obj36.specs.declared.fault.ObjectFault.{ObjectFault}
 use Rattle.obj36.specs.declared.fault.ObjectFault.TheVariants.{O1, O2, O3, O4, O5, O6, O7, O8}
 use Rattle.obj36.specs.declared.fault.ObjectFault.TheVariants.{NoMemory}
@@ -24,13 +24,13 @@ mapped_linkage words = extent_words words (extents_of words).linkage
 -- the first word with which O5 refuses a list
 unfoldable pub definition_fault : List ℕ → Option ℕ
 definition_fault words =
-    behind (extents_of words).definition.from
+    index_in_list (extents_of words).definition.from
     (table_fault (version_in words) (mapped_definition words))
 
 -- the first word with which O6 refuses a list
 unfoldable pub spelling_fault : List ℕ → Option ℕ
 spelling_fault words =
-    behind (extents_of words).definition.from (names_fault (mapped_definition words))
+    index_in_list (extents_of words).definition.from (names_fault (mapped_definition words))
 
 -- the first word with which O7 refuses a list
 unfoldable pub linking_fault : List ℕ → Option ℕ

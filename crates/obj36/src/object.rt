@@ -352,7 +352,7 @@ impl Object {
     }
 
     /// A law: the parts of each object are well formed.
-    pub fn formed(&self)
+    pub fn parts_are_well_formed(&self)
         ensures { is_well_formed self.now ≡ true }
     {
         let _ = &self.parts;

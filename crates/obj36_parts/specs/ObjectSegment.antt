@@ -29,8 +29,8 @@ abbrev pub is_newer : PartsFields → Bool
 is_newer p = is_newer_version p.version
 
 -- the least even number that is not below n
-abbrev pub evened : ℕ → ℕ
-evened n = n + n % 2
+abbrev pub rounded_up_to_even : ℕ → ℕ
+rounded_up_to_even n = n + n % 2
 
 -- words with a zero word added if their number is odd
 abbrev pub padded_to_even : List ℕ → List ℕ

@@ -16,7 +16,7 @@ use crate::link::Link;
 use crate::names::{kind_has_entry, kind_has_name};
 use crate::relocation::Reloc;
 use crate::section::Section;
-use crate::sections::{HEAD_WORDS, class, number};
+use crate::sections::{HEAD_WORDS, class_number, section_number};
 use m36_text::Name;
 use m36_text::texts::is_name;
 
@@ -42,7 +42,7 @@ fn is_good_definition(version: u8, definition: &Named) -> bool
     let def = definition.def;
     is_name(definition.name.bytes())
         && def.value < 1 << 18
-        && class(def.section) <= greatest_class(version)
+        && class_number(def.section) <= greatest_class(version)
 }
 
 // Whether an object of this version can have each of these definitions.
@@ -82,9 +82,9 @@ fn is_good_section(used: bool, version: u8, section: Section) -> bool
     ensures { result ≡ is_valid_link_section used version section }
 {
     if used {
-        number(section) <= greatest_section_number(version)
+        section_number(section) <= greatest_section_number(version)
     } else {
-        number(section) == 0
+        section_number(section) == 0
     }
 }
 
@@ -152,7 +152,7 @@ fn is_good_relocation(room: RelocationBounds, relocation: &Reloc) -> bool
     is_relocatable_word(room, relocation.section, relocation.offset)
         && relocation.offset < 1 << 18
         && relocation.part <= 2
-        && number(relocation.target) <= greatest_section_number(room.version)
+        && section_number(relocation.target) <= greatest_section_number(room.version)
 }
 
 // Whether an object with these bounds can have each of these relocations.
@@ -176,7 +176,8 @@ fn order_number(relocation: &Reloc) -> u64
     ensures value { result ≡ order_of relocation.now }
     ensures bound { result < 2 ^ 40 }
 {
-    (number(relocation.section) * (1 << 18) + relocation.offset as u64) * 4 + relocation.part as u64
+    (section_number(relocation.section) * (1 << 18) + relocation.offset as u64) * 4
+        + relocation.part as u64
 }
 
 // Whether a place is at least `least` and is not `barred`.

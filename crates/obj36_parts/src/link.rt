@@ -15,7 +15,7 @@ ghost use Rattle.std.proofs.Common.{rules};
 use crate::definition::push_within_capacity;
 use crate::names::{kind_has_entry, kind_has_name};
 use crate::section::Section;
-use crate::sections::class;
+use crate::sections::class_number;
 use indexmap::{IndexMap, IndexSet};
 use m36_text::{HashSeed, Name};
 use m36_word::NoMemory;
@@ -88,7 +88,7 @@ fn hash_number(link: &Link) -> u64
     link.expr as u64
         + ((link.modifier as u64) << 18)
         + ((link.kind as u64) << 24)
-        + (class(link.section) << 32)
+        + (class_number(link.section) << 32)
 }
 
 impl Link {
@@ -163,7 +163,7 @@ impl Links {
 
     /// The index of the first link that is equal to this one, counted from 0. None if there is
     /// none.
-    pub fn place(&self, link: &Link) -> Option<u64>
+    pub fn index_of(&self, link: &Link) -> Option<u64>
         ensures { result ≡ position (same_link link.now) self.now }
     {
         self.places.get(link).copied()
@@ -174,7 +174,7 @@ impl Links {
     pub fn has(&self, link: &Link) -> bool
         ensures { result ≡ has_link link.now self.now }
     {
-        self.place(link).is_some()
+        self.index_of(link).is_some()
     }
 
     /// The names that the links use, each once, in the order in which they first occur.

@@ -88,7 +88,7 @@ impl NameTable {
     }
 
     // The offset of a name; for a name that is not in the table, the offset after the last one.
-    pub(crate) fn place(&self, name: &Name) -> u64
+    pub(crate) fn offset_of(&self, name: &Name) -> u64
         ensures { result ≡ name_offset name.now self.now.names self.now.base }
     {
         self.places.get(name).copied().unwrap_or(self.next)

@@ -42,7 +42,7 @@ pub const SEGMENT_LIMIT: u64 = 1 << 18;
 pub const SECTION_LIMIT: u64 = (1 << 18) - 4096;
 
 /// The class of a definition in this section.
-pub fn class(section: Section) -> u64
+pub fn class_number(section: Section) -> u64
     ensures value { result ≡ class_number section }
     ensures bound { result ≤ 3 }
 {
@@ -55,7 +55,7 @@ pub fn class(section: Section) -> u64
 }
 
 /// The number of a section in links and relocations.
-pub fn number(section: Section) -> u64
+pub fn section_number(section: Section) -> u64
     ensures value { result ≡ section_number section }
     ensures bound { result ≤ 3 }
 {
@@ -116,7 +116,7 @@ fn offset_unless_empty(count: usize, at: u64) -> u64
 fn class_with_entry(def: &Def) -> u64
     ensures { result ≡ class_of def.now }
 {
-    class(def.section) + if def.is_entry { ENTRY_MARK } else { 0 }
+    class_number(def.section) + if def.is_entry { ENTRY_MARK } else { 0 }
 }
 
 /// Adds words at the end.
@@ -130,7 +130,7 @@ pub fn push_all(out: &mut Words, words: &[Word]) -> Result<(), NoMemory>
 }
 
 /// A copy of words. Fails only with `NoMemory`.
-pub fn copied(alloc: Global, words: &[Word]) -> Result<Words, NoMemory>
+pub fn copy_of_words(alloc: Global, words: &[Word]) -> Result<Words, NoMemory>
     ensures { IfOk result (λ copy. copy ≡ words.now) }
 {
     let mut copy = Words::new(alloc);
@@ -185,7 +185,7 @@ fn push_definition(
         (name_offset definition.now.name table.now.names table.now.base) ∷ []) }
 {
     let def = definition.def;
-    let place = table.place(&definition.name);
+    let place = table.offset_of(&definition.name);
     push_pair(
         out,
         word_of_halves(next, class_with_entry(&def)),
@@ -220,9 +220,9 @@ fn subject(table: &NameTable, link: &Link) -> u64
     ensures { result ≡ section_or_name_offset table.now.names table.now.base link.now }
 {
     if kind_has_name(link.kind as u64) {
-        table.place(&link.name)
+        table.offset_of(&link.name)
     } else {
-        number(link.section)
+        section_number(link.section)
     }
 }
 
@@ -232,7 +232,7 @@ fn entry(table: &NameTable, link: &Link) -> u64
     ensures { result ≡ entry_name_offset table.now.names table.now.base link.now }
 {
     if kind_has_entry(link.kind as u64) {
-        table.place(&link.entry)
+        table.offset_of(&link.entry)
     } else {
         0
     }
@@ -372,9 +372,9 @@ pub fn linkage_words_of(
 fn word_of_relocation(relocation: &Reloc) -> Word
     ensures { result ≡ relocation_word relocation.now }
 {
-    let place = number(relocation.section) << 15;
+    let place = section_number(relocation.section) << 15;
     let part = (relocation.part as u64) << 12;
-    let target = number(relocation.target) << 9;
+    let target = section_number(relocation.target) << 9;
     word_of_halves(relocation.offset as u64, place + part + target)
 }
 

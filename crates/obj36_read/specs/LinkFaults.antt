@@ -32,8 +32,8 @@ link_count k = right (slice_index k 1)
 -- Whether the head of the linkage section is valid. There are as many links as expressions, they
 -- end at the end of the section, and before them are an even number of static words in version 1
 -- and none in version 2.
-unfoldable pub is_head : ℕ → List ℕ → List ℕ → Bool
-is_head version d k =
+unfoldable pub is_valid_linkage_head : ℕ → List ℕ → List ℕ → Bool
+is_valid_linkage_head version d k =
     nat_eq (link_count k) (expression_count d)
     && nat_le head_words (link_start k)
     && nat_eq (link_start k % 2) 0
@@ -58,19 +58,19 @@ first_bad_link k at expression (suc count) =
 -- The first invalid word of the linkage section. That of an invalid head is word 1.
 unfoldable pub linkage_fault : ℕ → List ℕ → List ℕ → Option ℕ
 linkage_fault version d k =
-    if is_head version d k
+    if is_valid_linkage_head version d k
     then first_bad_link k (link_start k) (first_expression d) (link_count k)
     else Some 1
 
 -- ---- O7, indexed from word 0 of the list
 
 -- an index in a section as an index in the list, if the section begins at `from`
-abbrev pub behind : ℕ → Option ℕ → Option ℕ
-behind from place = option_map (λ p. from + p) place
+abbrev pub index_in_list : ℕ → Option ℕ → Option ℕ
+index_in_list from place = option_map (λ p. from + p) place
 
 -- the first word with which O7 refuses a list, given its definition and linkage sections and where
 -- they begin
 unfoldable pub links_fault : ℕ → ℕ → List ℕ → ℕ → List ℕ → Option ℕ
 links_fault version d_from d k_from k =
-    earlier (behind d_from (first_bad_type version d (expression_count d) (first_expression d)))
-    (behind k_from (linkage_fault version d k))
+    earlier (index_in_list d_from (first_bad_type version d (expression_count d) (first_expression d)))
+    (index_in_list k_from (linkage_fault version d k))

@@ -9,7 +9,7 @@ ghost use Rattle.obj36_read.specs.TableFaults.{first_definition, same_name, firs
 ghost use Rattle.obj36_read.specs.Spelled.{words_but_last, leading_quarters_value, last_word_value};
 ghost use Rattle.obj36_read.specs.Repeated.{least_earlier_place};
 
-use crate::reading::{behind, first_words, quarter_from, word_at};
+use crate::reading::{first_words, quarter_from, word_at, words_after};
 use crate::tables::{
     count_of_definitions, earlier_of, first_definition_offset, is_name_within,
     next_definition_offset, offset_of_name,
@@ -52,7 +52,7 @@ fn words_before_last(d: &[Word], at: u64) -> &[Word]
     requires at { at < 2 ^ 18 }
     ensures { result.now ≡ words_but_last d.now at }
 {
-    first_words(behind(d, at), quarter_from(d, at, 0) / 4)
+    first_words(words_after(d, at), quarter_from(d, at, 0) / 4)
 }
 
 // The nine-bit parts of the last word of a name that belong to the name, as one number.

@@ -7,8 +7,8 @@ ghost use Rattle.obj36_read.specs.TableFaults.{earlier, expression_count};
 ghost use Rattle.obj36_read.specs.TableFaults.{first_expression};
 ghost use Rattle.obj36_read.specs.Reading.{link_start};
 ghost use Rattle.obj36_read.specs.LinkFaults.{is_expression_type, first_bad_type, link_count};
-ghost use Rattle.obj36_read.specs.LinkFaults.{is_head, is_valid_link_at, first_bad_link, linkage_fault};
-ghost use Rattle.obj36_read.specs.LinkFaults.{behind, links_fault};
+ghost use Rattle.obj36_read.specs.LinkFaults.{is_valid_linkage_head, is_valid_link_at, first_bad_link, linkage_fault};
+ghost use Rattle.obj36_read.specs.LinkFaults.{index_in_list, links_fault};
 
 use crate::reading::word_at;
 use crate::tables::{count_of_expressions, earlier_of, first_expression_offset, index_if};
@@ -68,9 +68,9 @@ fn start_of_links(k: &[Word]) -> u64
 
 // Whether the head of the linkage section is valid: there are as many links as expressions, and
 // they fill the section after the static words.
-#[tactic(auto, unfolding(crate::specs::LinkFaults::is_head))]
+#[tactic(auto, unfolding(crate::specs::LinkFaults::is_valid_linkage_head))]
 fn is_good_head(version: u8, d: &[Word], k: &[Word]) -> bool
-    ensures { result ≡ is_head version d.now k.now }
+    ensures { result ≡ is_valid_linkage_head version d.now k.now }
 {
     let count = count_of_links(k);
     let start = start_of_links(k);
@@ -137,7 +137,7 @@ fn fault_of_linkage(version: u8, d: &[Word], k: &[Word]) -> Option<u64>
 pub fn index_in_list(from: u64, place: Option<u64>) -> Option<u64>
     requires from { from < 2 ^ 18 }
     requires place { IfSome place (λ p. p < 2 ^ 20) }
-    ensures value { result ≡ behind from place }
+    ensures value { result ≡ index_in_list from place }
     ensures bound { IfSome result (λ p. p < 2 ^ 21) }
 {
     match place {

@@ -4,9 +4,9 @@ ghost use Rattle.std.specs.Prelude.{ℕ, [], ◌++◌, ◌≡◌, ◌^◌, ◌<�
 ghost use Rattle.obj36_read.specs.Reading.{parts_of};
 
 use crate::reading::{
-    bound, count_in_head, first_link_offset, first_words, length_in_map, read_definitions,
-    read_links, read_relocations, statics, version, words_from_definition, words_from_linkage,
-    words_from_symbol,
+    count_in_head, entry_bound_in_map, first_link_offset, first_words, length_in_map,
+    read_definitions, read_links, read_relocations, statics, version, words_from_definition,
+    words_from_linkage, words_from_symbol,
 };
 use m36_text::HashSeed;
 use m36_word::{NoMemory, Word, Words};
@@ -99,7 +99,7 @@ pub(crate) fn parts_with(lists: Lists, words: &[Word]) -> Parts
     requires relocations { lists.relocations ≡ (parts_of words.now).relocations }
     ensures { result ≡ parts_of words.now }
 {
-    let entry_bound = bound(words) as u32;
+    let entry_bound = entry_bound_in_map(words) as u32;
     let version = version(words);
     Parts {
         text: lists.text,

@@ -12,8 +12,8 @@ ghost use Rattle.obj36_read.specs.MapFaults.{sections_covering, first_shared_wor
 ghost use Rattle.obj36_read.specs.Near.{AllFitHalfWords};
 
 use crate::reading::{
-    NEWER_MAP, OLDER_MAP, behind, first_words, index_of_bound, index_of_map, length_in_map,
-    version, word_at,
+    NEWER_MAP, OLDER_MAP, first_words, index_of_bound, index_of_map, length_in_map, version,
+    word_at, words_after,
 };
 use m36_word::Word;
 use obj36_parts::halves::{left_of, right_of};
@@ -243,5 +243,5 @@ pub fn fault_of_sharing(words: &[Word]) -> Option<u64>
 pub fn words_within(words: &[Word], e: Extent) -> &[Word]
     ensures { result.now ≡ extent_words words.now e }
 {
-    first_words(behind(words, e.from), e.count)
+    first_words(words_after(words, e.from), e.count)
 }

@@ -44,7 +44,7 @@ pub(crate) fn word_at(words: &[Word], at: u64) -> Word
 }
 
 /// The words after the first `count`; none if there are fewer.
-pub fn behind(words: &[Word], count: u64) -> &[Word]
+pub fn words_after(words: &[Word], count: u64) -> &[Word]
     ensures { result.now ≡ drop count words.now }
 {
     if count <= words.len() as u64 {
@@ -69,7 +69,7 @@ pub fn first_words(words: &[Word], count: u64) -> &[Word]
 
 // Part i of nine bits of a word, counted from the left.
 #[tactic(auto, unfolding(obj36_parts::specs::Halves::quarter))]
-fn part(word: Word, i: u64) -> u64
+fn quarter(word: Word, i: u64) -> u64
     requires { i < 4 }
     ensures value { result ≡ quarter word i }
     ensures bound { result < 2 ^ 9 }
@@ -91,7 +91,7 @@ pub(crate) fn quarter_from(words: &[Word], at: u64, i: u64) -> u64
     ensures value { result ≡ quarter_at words.now at i }
     ensures bound { result < 2 ^ 9 }
 {
-    part(word_at(words, at + i / 4), i % 4)
+    quarter(word_at(words, at + i / 4), i % 4)
 }
 
 // Writes the first `count` characters of the name at an index.
@@ -333,7 +333,7 @@ pub(crate) fn count_in_head(words: &[Word], part: &[Word], i: u64) -> u64
 pub(crate) fn words_from_definition(words: &[Word]) -> &[Word]
     ensures { result.now ≡ from_definition words.now }
 {
-    behind(words, length_in_map(words, 1))
+    words_after(words, length_in_map(words, 1))
 }
 
 // The rest of the list from the linkage section on.
@@ -341,7 +341,7 @@ pub(crate) fn words_from_definition(words: &[Word]) -> &[Word]
 pub(crate) fn words_from_linkage(words: &[Word]) -> &[Word]
     ensures { result.now ≡ from_linkage words.now }
 {
-    behind(words_from_definition(words), length_in_map(words, 2))
+    words_after(words_from_definition(words), length_in_map(words, 2))
 }
 
 // The rest of the list after the linkage section.
@@ -349,7 +349,7 @@ pub(crate) fn words_from_linkage(words: &[Word]) -> &[Word]
 fn words_from_statics(words: &[Word]) -> &[Word]
     ensures { result.now ≡ from_statics words.now }
 {
-    behind(words_from_linkage(words), length_in_map(words, 3))
+    words_after(words_from_linkage(words), length_in_map(words, 3))
 }
 
 // The rest of the list from the symbol section on.
@@ -358,7 +358,7 @@ pub(crate) fn words_from_symbol(words: &[Word]) -> &[Word]
     ensures { result.now ≡ from_symbol words.now }
 {
     if version(words) == 2 {
-        behind(words_from_statics(words), length_in_map(words, 4))
+        words_after(words_from_statics(words), length_in_map(words, 4))
     } else {
         words_from_statics(words)
     }
@@ -381,7 +381,7 @@ pub(crate) fn statics(words: &[Word]) -> &[Word]
     if version(words) == 2 {
         first_words(words_from_statics(words), length_in_map(words, 4))
     } else {
-        let inner = behind(words_from_linkage(words), HEAD_WORDS);
+        let inner = words_after(words_from_linkage(words), HEAD_WORDS);
         first_words(inner, first_link_offset(words).saturating_sub(HEAD_WORDS))
     }
 }
@@ -396,7 +396,7 @@ pub fn index_of_bound(version: u8) -> u64
 
 // The entry bound, which a word of the map has.
 #[tactic(auto, unfolding(crate::specs::Reading::bound_in))]
-pub(crate) fn bound(words: &[Word]) -> u64
+pub(crate) fn entry_bound_in_map(words: &[Word]) -> u64
     ensures value { result ≡ bound_in words.now }
     ensures bound { result < 2 ^ 18 }
 {

@@ -21,10 +21,10 @@ use obj36_parts::halves::{left_of, right_of};
 use obj36_parts::names::{kind_has_entry, kind_has_name};
 
 // Whether a part of nine bits is a character that a name can have.
-fn is_name_quarter(quarter_from: u64) -> bool
-    ensures { result ≡ is_name_character quarter_from }
+fn is_name_quarter(quarter: u64) -> bool
+    ensures { result ≡ is_name_character quarter }
 {
-    quarter_from < 1 << 8 && is_name_character(quarter_from as u8)
+    quarter < 1 << 8 && is_name_character(quarter as u8)
 }
 
 // Whether `count` nine-bit parts, from part `from` of the word `at` on, are characters of a name.

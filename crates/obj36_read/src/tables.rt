@@ -229,7 +229,7 @@ fn fault_of_members(alloc: Global, version: u8, d: &[Word]) -> Result<Option<u64
 }
 
 // Whether a fault is that of word 0.
-fn is_head(place: Option<u64>) -> bool
+fn is_at_head(place: Option<u64>) -> bool
     ensures { result ≡ is_at_head place }
 {
     match place {
@@ -247,7 +247,7 @@ pub fn fault_of_tables(alloc: Global, version: u8, d: &[Word]) -> Result<Option<
     ensures bound { IfOk result (λ place. IfSome place (λ p. p < 2 ^ 20)) }
 {
     let count = fault_of_count(d);
-    if is_head(count) {
+    if is_at_head(count) {
         return Ok(Some(0));
     }
     let members = fault_of_members(alloc, version, d)?;

@@ -75,7 +75,7 @@ fn names_are_found(rt: HostRuntime) -> Result<(), NoMemory> {
 // Adds a copy of a link. Returns the index of the first equal link.
 fn add_link(links: &mut Links, link: &Link) -> Result<Option<u64>, NoMemory> {
     links.push(link.copied())?;
-    Ok(links.place(link))
+    Ok(links.index_of(link))
 }
 
 // As `add_link`, for the link to an entry of `b`.

@@ -229,7 +229,7 @@ fn is_step(told: &StepRecord, turn: &Turn) -> bool {
 // Takes a turn of both systems and asserts that it is the same. Overwrites `told` with the record
 // of a step of the first system. Returns false if memory ran out.
 fn both(rt: &impl Abort, one: &mut Super, told: &mut StepRecord, other: &mut Super) -> bool {
-    match one.coming() {
+    match one.next_event() {
         NextEvent::Step => {
             one.step_told(told);
             assert!(rt; is_step(told, &other.turn()));
@@ -249,7 +249,7 @@ fn both(rt: &impl Abort, one: &mut Super, told: &mut StepRecord, other: &mut Sup
 
 // Takes all turns of both systems and asserts that they are the same.
 fn agree(rt: &impl Abort, one: &mut Super, other: &mut Super) {
-    let mut told = one.untold();
+    let mut told = one.empty_record();
     for _ in 0..19 {
         if !both(rt, one, &mut told, other) {
             return;

@@ -1,5 +1,5 @@
 use Rattle.std.proofs.Common.{◌≡◌, ◌+◌}
-use Rattle.m36_super.specs.declared.coming.NextEvent.TheVariants.{Step}
+use Rattle.m36_super.specs.declared.next_event.NextEvent.TheVariants.{Step}
 use Rattle.m36_super.specs.SuperFields.{booted_of}
 use Rattle.cmd_folder.specs.RunProgram.{run_from}
 use Rattle.cmd_folder.specs.RunSays.{IsConsoleTextPut, run_of}
@@ -17,7 +17,7 @@ invariant-steps g l =
     record {
       left : Left run l.taken l.left l.system l.block (run_from run 0 l.steps (booted_of l.fn.system)) (seen l.fn.world) (seen l.world);
       count : l.taken + l.left ≡ l.steps;
-      next : l.system.coming ≡ Step;
+      next : l.system.next_event ≡ Step;
       same : l.system.lib ≡ l.fn.system.lib;
       shown : IsConsoleTextPut l.output l.block;
     }

@@ -1,5 +1,5 @@
 -- The code and the line of the refusal are those of the text.
-use Rattle.m36_procs.specs.declared.fault.Code.TheVariants as code
+use Rattle.m36_procs.specs.declared.fault.ProcsCode.TheVariants as code
 use Rattle.cmd_procs.proofs.ProcsSteps.{decode_refused}
 use Rattle.cmd_procs.proofs.reading.decode.Goals as goal
 

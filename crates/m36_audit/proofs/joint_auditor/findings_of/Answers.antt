@@ -33,7 +33,7 @@ returns-clause-after c =
     let at = dbr_at c.args.dbrs.now c.args.k c.index-dbrs-k.result c.requires.process c.index-dbrs-k.is in
     let recorded = c.record_tables.ensures in
     record {
-      of_tables = tables_owned c.args.core.now c.args.dbrs.now c.index-dbrs-k.result c.args.k few at c.mark_tables.new.marks.tables c.mark_tables.new.marks.least c.mark_tables.ensures c.args.shares.now.tables.values.items c.record_owners.new.tables.values.items c.record_owners.ensures.tables c.requires.before.of_tables;
-      of_segments = segments_owned c.args.core.now c.args.dbrs.now c.index-dbrs-k.result c.args.k few at c.args.shares.now.segments.values.items c.record_owners.new.segments.values.items c.record_owners.ensures.segments c.requires.before.of_segments;
-      of_identities = process_told c.args.core.now c.args.dbrs.now c.args.firsts.now.items c.requires.equal_descriptors.below c.args.k few (length c.args.core.now) c.index-dbrs-k.result recorded.0 recorded.1 at c.args.shares.now.identities.values.items c.record_tables.new.recorded.values.items recorded.2 c.requires.before.of_identities;
+      of_tables = tables_owned c.args.core.now c.args.dbrs.now c.index-dbrs-k.result c.args.k few at c.mark_tables.new.marks.tables c.mark_tables.new.marks.least c.mark_tables.ensures c.args.owners.now.tables.values.items c.record_owners.new.tables.values.items c.record_owners.ensures.tables c.requires.before.of_tables;
+      of_segments = segments_owned c.args.core.now c.args.dbrs.now c.index-dbrs-k.result c.args.k few at c.args.owners.now.segments.values.items c.record_owners.new.segments.values.items c.record_owners.ensures.segments c.requires.before.of_segments;
+      of_identities = process_told c.args.core.now c.args.dbrs.now c.args.firsts.now.items c.requires.equal_descriptors.below c.args.k few (length c.args.core.now) c.index-dbrs-k.result recorded.0 recorded.1 at c.args.owners.now.identities.values.items c.record_tables.new.recorded.values.items recorded.2 c.requires.before.of_identities;
     }

@@ -16,8 +16,8 @@ joint_findings-requires-clause-stops_len c =
 
 pub joint_findings-requires-clause-before : goal.joint_findings-requires-clause-before
 joint_findings-requires-clause-before c =
-    no_shares c.args.core.now c.args.dbrs.now c.in_ok-firsts.firsts.items c.len-size.result c.in_ok-shares.shares.tables.values.items c.in_ok-shares.shares.segments.values.items c.in_ok-shares.shares.identities.values.items
-    c.len-size.ensures.value c.in_ok-shares.ensures.tables c.in_ok-shares.ensures.segments c.in_ok-shares.ensures.identities
+    no_shares c.args.core.now c.args.dbrs.now c.in_ok-firsts.firsts.items c.len-size.result c.in_ok-owners.owners.tables.values.items c.in_ok-owners.owners.segments.values.items c.in_ok-owners.owners.identities.values.items
+    c.len-size.ensures.value c.in_ok-owners.ensures.tables c.in_ok-owners.ensures.segments c.in_ok-owners.ensures.identities
 
 pub returns-clause-audited : goal.returns-clause-audited
 returns-clause-audited c =

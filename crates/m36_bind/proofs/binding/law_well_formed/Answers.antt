@@ -10,7 +10,7 @@ loop-object-preserved c =
     let objects = c.args.objects.now in
     let i = c.loop-object.object-index in
     object_more objects (drop i objects) (drop (i + 1) objects) c.object-item.result
-    (object_left objects i c.object-item.result c.loop-object-test.true c.object-item.is) c.formed.ensures c.loop-object.invariant
+    (object_left objects i c.object-item.result c.loop-object-test.true c.object-item.is) c.parts_are_well_formed.ensures c.loop-object.invariant
 
 pub returns : goal.returns
 returns c =

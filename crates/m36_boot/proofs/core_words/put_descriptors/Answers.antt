@@ -2,8 +2,8 @@ use Rattle.std.proofs.Common.{arith}
 use Rattle.m36_boot.proofs.LaidCore.{described_more}
 use Rattle.m36_boot.proofs.core_words.put_descriptors.Goals as goal
 
-pub put_pair-requires-clause-core : goal.put_pair-requires-clause-core
-put_pair-requires-clause-core c =
+pub put_descriptor-requires-clause-core : goal.put_descriptor-requires-clause-core
+put_descriptor-requires-clause-core c =
     let size = c.loop-seg.invariant.size in
     let room = c.requires.core in
     omega (arith, size, room)
@@ -16,4 +16,4 @@ loop-seg-preserved c =
     let test = c.loop-seg-test.true in
     described_more c.args.catalog.now c.args.files.now c.loop-seg.seg _ _ _ c.loop-seg.core _ c.descriptor.result (omega (arith, size, room, most, test))
     c.loop-seg.invariant c.descriptor.ensures.value c.descriptor_pair.ensures.even c.descriptor_pair.ensures.odd c.descriptor.ensures.ordered c.descriptor_pair.ensures.back
-    c.put_pair.ensures
+    c.put_descriptor.ensures

@@ -13,13 +13,13 @@ pub returns-in-Step-clause-says : goal.returns-in-Step-clause-says
 returns-in-Step-clause-says g c =
     let world = g.W.World in
     let m = g.M.Stepper in
-    took_command (machine_relations m.regs m.content m.next m.went) c.command.result (run_of commands.Step c.in-Step.left) c.args.sitting.now c.args.m.now c.args.line.now (session.Step c.in-Step.left) c.command.new.sitting c.command.new.m (pending c.args.block.now (world.seen c.args.world.now)) (pending c.command.new.block (world.seen c.command.new.world)) (sym c.in-Step.ensures.value) refl refl refl c.command.ensures.says
+    took_command (machine_relations m.regs m.content m.next m.went) c.run_command_unless_ended.result (run_of commands.Step c.in-Step.left) c.args.sitting.now c.args.m.now c.args.line.now (session.Step c.in-Step.left) c.run_command_unless_ended.new.sitting c.run_command_unless_ended.new.m (pending c.args.block.now (world.seen c.args.world.now)) (pending c.run_command_unless_ended.new.block (world.seen c.run_command_unless_ended.new.world)) (sym c.in-Step.ensures.value) refl refl refl c.run_command_unless_ended.ensures.says
 
 pub returns-in-Go-clause-says : goal.returns-in-Go-clause-says
 returns-in-Go-clause-says g c =
     let world = g.W.World in
     let m = g.M.Stepper in
-    took_command (machine_relations m.regs m.content m.next m.went) c.command-in-Go.result (run_of commands.Go go_limit) c.args.sitting.now c.args.m.now c.args.line.now session.Go c.command-in-Go.new.sitting c.command-in-Go.new.m (pending c.args.block.now (world.seen c.args.world.now)) (pending c.command-in-Go.new.block (world.seen c.command-in-Go.new.world)) (sym c.in-Go.ensures.value) refl refl refl c.command-in-Go.ensures.says
+    took_command (machine_relations m.regs m.content m.next m.went) c.run_command_unless_ended-in-Go.result (run_of commands.Go go_limit) c.args.sitting.now c.args.m.now c.args.line.now session.Go c.run_command_unless_ended-in-Go.new.sitting c.run_command_unless_ended-in-Go.new.m (pending c.args.block.now (world.seen c.args.world.now)) (pending c.run_command_unless_ended-in-Go.new.block (world.seen c.run_command_unless_ended-in-Go.new.world)) (sym c.in-Go.ensures.value) refl refl refl c.run_command_unless_ended-in-Go.ensures.says
 
 pub returns-in-Break-clause-says : goal.returns-in-Break-clause-says
 returns-in-Break-clause-says g c =
@@ -57,7 +57,7 @@ pub returns-in-Back-clause-says : goal.returns-in-Back-clause-says
 returns-in-Back-clause-says g c =
     let world = g.W.World in
     let m = g.M.Stepper in
-    took_back (machine_relations m.regs m.content m.next m.went) c.back.result c.in-Back.n c.args.sitting.now c.args.m.now c.args.line.now c.back.new.sitting c.back.new.m (pending c.args.block.now (world.seen c.args.world.now)) (pending c.back.new.block (world.seen c.back.new.world)) (sym c.in-Back.ensures.value) c.back.ensures.says
+    took_back (machine_relations m.regs m.content m.next m.went) c.go_back_if_taken.result c.in-Back.n c.args.sitting.now c.args.m.now c.args.line.now c.go_back_if_taken.new.sitting c.go_back_if_taken.new.m (pending c.args.block.now (world.seen c.args.world.now)) (pending c.go_back_if_taken.new.block (world.seen c.go_back_if_taken.new.world)) (sym c.in-Back.ensures.value) c.go_back_if_taken.ensures.says
 
 pub returns-in-Quit-clause-says : goal.returns-in-Quit-clause-says
 returns-in-Quit-clause-says g c =

@@ -13,7 +13,7 @@ returns-in-Err c =
     let same : c.is_executing-same.result ≡ (c.args.at.seg == c.args.regs.now.ppr.psr) = c.is_executing-same.ensures in
     let told : denied_answer c.in-Err.field-0.0 ≡ unless_violation tt (first_violation (read_rows c.args.sdw.now c.args.at.ring (c.args.at.seg == c.args.regs.now.ppr.psr))) = c.in-Err.ensures ∙ (λ i. unless_violation tt (first_violation (read_rows c.args.sdw.now (ring i) (same i)))) in
     denied_word c.args.core.now c.args.pager.now c.args.regs.now c.args.at c.requires.dbr c.args.sdw.now c.in-Err.field-0.0 c.requires.live told
-    ∙ ap Err (sym (c.fault.ensures ∙ ap (λ (v : Refusal). fault_by v c.args.at) c.violation.ensures))
+    ∙ ap Err (sym (c.fault_of.ensures ∙ ap (λ (v : Refusal). fault_by v c.args.at) c.violation.ensures))
 
 pub returns-then-not-is_within_bound : goal.returns-then-not-is_within_bound
 returns-then-not-is_within_bound c =
@@ -23,7 +23,7 @@ returns-then-not-is_within_bound c =
     let told : allowed_answer ≡ unless_violation tt (first_violation (read_rows c.args.sdw.now c.args.at.ring (c.args.at.seg == c.args.regs.now.ppr.psr))) = c.in_default.ensures ∙ (λ i. unless_violation tt (first_violation (read_rows c.args.sdw.now (ring i) (same i)))) in
     let out : is_within_bound c.args.sdw.now c.args.at.word ≡ false = ap (λ (w : ℕ). is_within_bound c.args.sdw.now w) (sym word) ∙ sym c.is_within_bound.ensures ∙ c.if-not-is_within_bound.true in
     beyond_word c.args.core.now c.args.pager.now c.args.regs.now c.args.at c.requires.dbr c.args.sdw.now c.requires.live told out
-    ∙ ap Err (sym (c.fault-then-not-is_within_bound.ensures ∙ ap (λ (v : Refusal). fault_by v c.args.at) c.violation-then-not-is_within_bound.ensures))
+    ∙ ap Err (sym (c.fault_of-then-not-is_within_bound.ensures ∙ ap (λ (v : Refusal). fault_by v c.args.at) c.violation-then-not-is_within_bound.ensures))
 
 pub returns : goal.returns
 returns c =

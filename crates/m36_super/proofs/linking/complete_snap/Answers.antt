@@ -6,4 +6,4 @@ use Rattle.m36_super.proofs.linking.complete_snap.Goals as goal
 
 pub returns-in-Ok-clause-turn : goal.returns-in-Ok-clause-turn
 returns-in-Ok-clause-turn c loaded =
-    linked c.args.machine.now.state c.write_changes.new.machine.state c.args.pager.now c.write_changes.new.pager c.args.known.now c.accept.new.self c.args.coming.now Step loaded c.args.at c.args.snap.now (Linked c.note_snapped.result) c.write_changes.ensures.put c.write_changes.ensures.regs c.in-Ok.ensures.ok refl (ap Linked c.note_snapped.ensures)
+    linked c.args.machine.now.state c.write_changes.new.machine.state c.args.pager.now c.write_changes.new.pager c.args.known.now c.accept.new.self c.args.next_event.now Step loaded c.args.at c.args.snap.now (Linked c.note_snapped.result) c.write_changes.ensures.put c.write_changes.ensures.regs c.in-Ok.ensures.ok refl (ap Linked c.note_snapped.ensures)

@@ -34,6 +34,6 @@ returns-in-Some c =
 
 pub returns-in-None : goal.returns-in-None
 returns-in-None c =
-    ap (λ v. Some v) c.kept.ensures
+    ap (λ v. Some v) c.kept_word_of.ensures
     ∙ sym (content_kept c.args.self.now c.args.core.now c.args.seg c.args.word (sym c.has.ensures ∙ c.if-not-has.false)
     (frame_told c.args.self.now c.args.core.now c.args.seg (c.args.word / 1024) c.spot.result c.frame_at.result c.spot.ensures.value c.frame_at.ensures ∙ c.in-None.is))

@@ -12,7 +12,7 @@ returns c =
       known = c.link.new.known;
       catalog = c.self.inside.catalog;
       files = c.self.inside.files;
-      coming = c.link.new.coming;
+      next_event = c.link.new.next_event;
       loaded = c.self.inside.loaded;
       alloc = c.self.inside.alloc;
-    })) (link_turn c.link.result) c.args.at _ _ c.self.view_is c.requires.coming c.self.invariant.frames c.deref.ensures.value refl (c.link.ensures.turn c.self.inside.loaded)
+    })) (link_turn c.link.result) c.args.at _ _ c.self.view_is c.requires.next_event c.self.invariant.frames c.deref.ensures.value refl (c.link.ensures.turn c.self.inside.loaded)
