@@ -1,15 +1,15 @@
 //! Defines the symbols of lines, and refuses their definitions and the lengths of sections.
 
-ghost use Rattle.std.specs.Prelude.{ℕ, true, List, [], ◌∷◌, ◌≡◌, ◌^◌, ◌<◌, length, Option, None};
+ghost use Rattle.std.specs.Prelude.{true, [], ◌∷◌, ◌≡◌, ◌^◌, ◌<◌, length, Option, None};
 ghost use Rattle.std.specs.Prelude.{OnOk, IfOk};
 ghost use Rattle.alm_lines.specs.Sums.{IsTerm};
 ghost use Rattle.alm_lines.specs.Symbols.{with_symbol};
 ghost use Rattle.alm_lines.specs.Arguments.{name_at};
-ghost use Rattle.alm_lines.specs.Spots.{start, next_line_spot, end_of, HasRoomForLines};
+ghost use Rattle.alm_lines.specs.Spots.{start, next_line_spot, HasRoomForLines};
 ghost use Rattle.alm_lines.specs.Refusals.{earlier_refusal, fits_field};
 ghost use Rattle.alm_lines.specs.declared.refusal.ValueField.TheVariants.{Half};
 ghost use Rattle.alm_lines.specs.Layout.{redefinition, with_labels, labels_refusal, defined_symbol};
-ghost use Rattle.alm_lines.specs.Layout.{defined_symbol_refusal, equ_refusal, number_sum, value_by, equ_sum};
+ghost use Rattle.alm_lines.specs.Layout.{defined_symbol_refusal, equ_refusal, number_sum, equ_sum};
 ghost use Rattle.alm_lines.specs.Layout.{defined_symbol_sum, with_defined_symbol, own_redefinition, symbols_with_defined, definition_refusal};
 ghost use Rattle.alm_lines.specs.Layout.{over_limit_refusal, symbols_after, refusal_after, symbols_from};
 ghost use Rattle.alm_lines.specs.Layout.{layout_refusal};

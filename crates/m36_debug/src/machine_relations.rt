@@ -1,6 +1,6 @@
 //! Takes the turns of a command.
 
-ghost use Rattle.std.specs.Prelude.{ℕ, ◌≡◌, ◌≤◌, ◌<◌, ◌+◌, ◌-◌, ◌^◌, [], ◌∷◌};
+ghost use Rattle.std.specs.Prelude.{◌≡◌, ◌≤◌, ◌<◌, ◌+◌, ◌-◌, ◌^◌, [], ◌∷◌};
 ghost use Rattle.m36_debug.specs.Parts.{TurnContract, ServiceIsFlagged, TurnChangesCounts, PrecludesStepIfNoneLeft};
 ghost use Rattle.m36_debug.specs.Parts.{CountsSteps, LineContract, put_turn_result, turn_result};
 ghost use Rattle.m36_step.specs.Answers.{is_service};

@@ -30,13 +30,7 @@ pub fn new_value(r: Register, v: u128, regs: &Regs) -> NewValues
 
 /// The change by which a register takes a number, with these new indicators. `overflow` says
 /// whether overflow has to be reported.
-pub fn register_change(
-    r: Register,
-    v: u128,
-    ind: Ind,
-    overflow: bool,
-    regs: &Regs,
-) -> Change
+pub fn register_change(r: Register, v: u128, ind: Ind, overflow: bool, regs: &Regs) -> Change
     requires register { HasValidIndex r }
     requires number { v < 2 * half (working_of r) }
     ensures value { IsEffect result regs.now
