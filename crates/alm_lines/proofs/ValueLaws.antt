@@ -1,5 +1,5 @@
 -- The properties of a value are those of the sum of its expression.
-use Rattle.std.proofs.Common.{◌≡◌, ℕ, ◌+◌, Bool, true, false, List, [], ◌∷◌, Option, Some, None, refl, ap, ◌∙◌, zero-add}
+use Rattle.std.proofs.Common.{◌≡◌, ℕ, ◌+◌, Bool, true, false, List, [], ◌∷◌, Some, None, refl, ap, ◌∙◌, zero-add}
 use Rattle.std.specs.Prelude.{not, option_map, if◌then◌else◌}
 use Rattle.alm_tokens.specs.declared.expression.Term.{Term}
 use Rattle.alm_parse.specs.declared.line.Line36.{Line36}

@@ -7,7 +7,7 @@ use Rattle.m36_world.specs.Seen.{Seen}
 use Rattle.m36_program.specs.Gathered.{Gathers, Adds}
 use Rattle.m36_program.proofs.Gathered.{gathers_put, loses_put}
 use Rattle.cmd_folder.specs.RunText.{console_pieces}
-use Rattle.cmd_folder.proofs.BlockLaws.{gathers_none, adds_then, loses_more}
+use Rattle.cmd_folder.proofs.BlockLaws.{gathers_none}
 use Rattle.std.proofs.Common.{refl}
 
 -- no characters

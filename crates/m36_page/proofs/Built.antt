@@ -1,14 +1,14 @@
 -- The code of the pager evicts a page, or takes one in.
-use Rattle.std.proofs.Common.{ℕ, ◌≡◌, ◌≢◌, ◌+◌, ◌-◌, ◌*◌, ◌/◌, ◌%◌, ◌^◌, ◌<◌, ◌≤◌, ◌⊎◌, Bool, true, false, List, length, get_or, set, Option, Some, None, refl, sym, ap, subst, inl, inr, ◌∙◌, arith}
+use Rattle.std.proofs.Common.{ℕ, ◌≡◌, ◌≢◌, ◌+◌, ◌-◌, ◌*◌, ◌/◌, ◌%◌, ◌^◌, ◌<◌, ◌≤◌, ◌⊎◌, true, List, length, get_or, set, Option, Some, None, refl, sym, ap, subst, inl, inr, ◌∙◌, arith}
 use Rattle.std.specs.Prelude.{position, All, IsSome}
 use Rattle.std.proofs.lemmas.Bool.{cases_eq, cases_lt, ltb-true}
 use Rattle.std.proofs.lemmas.List.{get_or-set_same, get_or-set_other, length-set}
 use Rattle.std.proofs.lemmas.List.Elements.{All-get_or}
 use Rattle.m36_page.specs.Fields.{TableFields, PagerFields}
 use Rattle.m36_page.specs.Copied.{IsCopied}
-use Rattle.m36_page.specs.Residence.{is_table_of, table_of, has_page_in, spot_in, kept_in, has_page, spot_of, kept_word, absent_ptw, resident_ptw, frame_of, Holds, IsPager, AgreesWithCore, IsConsistent, HasPtwPlaces}
-use Rattle.m36_page.specs.Changes.{IsSameShape, KeepsContents, OthersStay}
-use Rattle.m36_page.proofs.Frames.{held_inside, bounded}
+use Rattle.m36_page.specs.Residence.{is_table_of, table_of, has_page_in, spot_in, kept_in, has_page, spot_of, kept_word, absent_ptw, resident_ptw, frame_of, Holds, IsPager, IsConsistent}
+use Rattle.m36_page.specs.Changes.{OthersStay}
+use Rattle.m36_page.proofs.Frames.{held_inside}
 use Rattle.m36_page.proofs.Tables.{found, words_pages, words_spots, words_kept, words_were, words_others, words_whole}
 use Rattle.m36_page.specs.Moved.{HasWords, IsEvicted, IsTakenIn, IsEmptied}
 use Rattle.m36_page.proofs.Moves.{resident_frame, away_kept, away_settled, away_frame, away_out, same_page}

@@ -1,15 +1,15 @@
 -- Page table words that are laid out.
-use Rattle.std.proofs.Common.{ℕ, ◌≡◌, ◌≢◌, ◌+◌, ◌-◌, ◌*◌, ◌<◌, ◌≤◌, ◌⊎◌, Bool, true, List, [], ◌∷◌, length, get_or, map, replicate, Option, Some, None, refl, sym, ap, subst, inl, inr, ◌∙◌, arith}
+use Rattle.std.proofs.Common.{ℕ, ◌≡◌, ◌≢◌, ◌+◌, ◌-◌, ◌*◌, ◌<◌, ◌≤◌, ◌⊎◌, true, List, [], ◌∷◌, length, get_or, map, Some, refl, sym, ap, subst, inl, inr, ◌∙◌, arith}
 use Rattle.std.specs.Prelude.{slice_get, position, All}
 use Rattle.std.proofs.lemmas.Bool.{cases_lt, cases_eq}
-use Rattle.std.proofs.lemmas.Option.{slice_get-get_or, slice_get_within, get_or_from_slice_get}
+use Rattle.std.proofs.lemmas.Option.{slice_get-get_or}
 use Rattle.std.proofs.lemmas.List.Elements.{All-get_or, All-nil, All-cons}
 use Rattle.m36_model.specs.Core.{unmarked}
 use Rattle.m36_page.specs.declared.table.PageTable.{PageTable}
 use Rattle.m36_page.specs.Fields.{TableFields, PagerFields}
 use Rattle.m36_page.specs.Copied.{IsFilled}
-use Rattle.m36_page.specs.Residence.{is_table_of, has_page, spot_of, absent_ptw, Holds, IsPager, AgreesWithCore, HasFrames}
-use Rattle.m36_page.specs.Changes.{IsTableWord, AreAbsent, AllEmpty}
+use Rattle.m36_page.specs.Residence.{is_table_of, has_page, spot_of, absent_ptw, AgreesWithCore}
+use Rattle.m36_page.specs.Changes.{AreAbsent, AllEmpty}
 use Rattle.m36_page.specs.Given.{filled_table, initial_pager, are_placed}
 use Rattle.m36_page.proofs.Frames.{absent_unmarked}
 use Rattle.m36_page.proofs.Tables.{found, placed}

@@ -1,6 +1,6 @@
 -- Words that are zero after the last one that is written.
 use Rattle.std.proofs.Common.{ℕ, zero, suc, ◌≡◌, ◌+◌, ◌-◌, ◌<◌, ◌≤◌, List, [], ◌∷◌, ◌++◌, length, get_or, set, replicate, refl, sym, ap, ◌∙◌, arith, append_assoc}
-use Rattle.std.proofs.lemmas.List.{get_or_past, length-append, length-replicate, length-set, replicate-append-replicate, set-append_left, take_all}
+use Rattle.std.proofs.lemmas.List.{get_or_past, length-append, length-replicate, length-set, replicate-append-replicate, set-append_left}
 use Rattle.m36_page.specs.Copied.{IsCopied}
 
 -- n zeros
