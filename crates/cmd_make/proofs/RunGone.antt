@@ -21,7 +21,8 @@ use Rattle.cmd_folder.specs.RunText.{turn_step_count, turns_step_count}
 use Rattle.cmd_folder.specs.Runs.{IsEvent, Finishes}
 use Rattle.cmd_folder.proofs.TurnLaws.{link_is}
 use Rattle.cmd_make.specs.QuietRun.{RunSummary, summary_of_run, after_service, serve_event, serve, run_from}
-use Rattle.cmd_make.proofs.RunGoes.{is_step, step_counts, IsServiceMade, linked_made, PrintMade, print_made}
+use Rattle.cmd_folder.proofs.RunGoes.{is_step, step_counts, IsServiceMade, linked_made}
+use Rattle.cmd_make.proofs.RunGoes.{PrintMade, print_made}
 
 -- The program ends with a value, without an event.
 abbrev pub Gone : Program quiet RunSummary → Type 0
@@ -156,7 +157,7 @@ link_gone how lib taken left b (told ∷ turns) last at on is runs =
     (subst (λ c. IsTurnBy c lib b told first.mid) is first.is) (λ e. subst IsEvent e first.event) in
     let none = made.counts in
     link_chosen lib taken left b first.mid told at first.is first.event
-    (after_gone first.mid.coming how lib taken left first.mid turns last on made.silent refl
+    (after_gone first.mid.coming how lib taken left first.mid turns last on made.quiet refl
     (first.on left (omega (arith, none))))
 
 print_made_by :
@@ -172,7 +173,7 @@ print_first :
     → Gone (then_by first.mid.coming lib taken left first.mid)
 print_first how lib taken left b told turns last on first (inl made) =
     let none = made.counts in
-    after_gone first.mid.coming how lib taken left first.mid turns last on made.silent refl
+    after_gone first.mid.coming how lib taken left first.mid turns last on made.quiet refl
     (first.on left (omega (arith, none)))
 print_first how lib taken left b told turns last on first (inr over) =
     over_gone lib taken left first.mid over.0 over.1.next_is

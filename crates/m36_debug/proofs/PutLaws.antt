@@ -1,22 +1,17 @@
 -- Laws of lines that are put one after another.
 use Rattle.std.proofs.Common.{◌≡◌, ◌≤◌, ◌<◌, ◌+◌, ℕ, List, [], ◌∷◌, ◌++◌, length, take, drop, get_or, refl, sym, ap, subst, ◌∙◌}
-use Rattle.std.proofs.lemmas.List.{append-nil, append_assoc, take_all, at_drop_more, at_drop_all}
+use Rattle.std.proofs.lemmas.List.{append_assoc, take_all, at_drop_more, at_drop_all}
 use Rattle.m36_desc.specs.Fields.{PtrFields}
 use Rattle.m36_outside.specs.declared.sink.Put.{Put}
 use Rattle.m36_outside.specs.declared.sink.Put.TheVariants.{Done, Failed}
-use Rattle.m36_world.proofs.Following.{follow_none}
 use Rattle.m36_world.specs.Happened.{IsOutputFailed}
 use Rattle.m36_world.specs.Follow.{Follow, outputs}
 use Rattle.m36_world.specs.Seen.{Seen}
-use Rattle.m36_program.specs.Gathered.{Gathers}
-use Rattle.m36_program.proofs.Gathered.{follow_pieces, loses_here}
+use Rattle.m36_program.proofs.Gathered.{follow_pieces, gathers_none, loses_here}
 use Rattle.m36_debug.specs.Putting.{Pending, pending, PutsPieces}
 use Rattle.m36_debug.specs.SessionTexts.{pointer_line, pointer_lines}
 
 -- nothing is to be put
-pub gathers_none : (block : List (List ℕ)) (seen : Seen) → Gathers block block [] seen seen
-gathers_none block seen = record { handed = []; is = append-nil block; follow = follow_none seen }
-
 pub puts_nothing : (now : Pending) → PutsPieces Done [] now now
 puts_nothing now = gathers_none now.block now.world
 

@@ -45,7 +45,7 @@ pub enum LineResult {
 
 // Writes where `go` has stopped, or the end line, once it is complete; otherwise nothing.
 #[inline]
-#[tactic(auto, using(crate::proofs::PutLaws::gathers_none))]
+#[tactic(auto, using(m36_program::proofs::Gathered::gathers_none))]
 fn put_go<W: World>(
     block: &mut Block,
     world: &mut W,

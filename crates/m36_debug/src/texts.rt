@@ -152,7 +152,7 @@ fn put_step<W: World>(
 /// Writes the lines of a turn before which `taken` steps were taken. `text` keeps the line of an
 /// earlier step, of which only the parts that differ are formatted again.
 #[inline(never)]
-#[tactic(auto, unfolding(crate::specs::SessionTexts::turn_lines), using(crate::proofs::PutLaws::gathers_none))]
+#[tactic(auto, unfolding(crate::specs::SessionTexts::turn_lines), using(m36_program::proofs::Gathered::gathers_none))]
 pub(crate) fn put_turn<W: World>(
     block: &mut Block,
     world: &mut W,
