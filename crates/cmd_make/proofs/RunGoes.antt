@@ -138,10 +138,10 @@ GoesOn lib taken left =
     (b : Booted) (events : List Event) (result : Result RunSummary Status)
     → b.coming ≡ Step → Goes (run_from lib taken left b) events result → RunGoes lib taken left b events result
 
-abbrev then_by : NextEvent → Library → ℕ → ℕ → Booted → Program quiet RunSummary
+abbrev pub then_by : NextEvent → Library → ℕ → ℕ → Booted → Program quiet RunSummary
 then_by next lib taken left b = after_service next taken (λ b. run_from lib taken left b) b
 
-abbrev served_by : NextEvent → Library → ℕ → ℕ → Booted → Program quiet RunSummary
+abbrev pub served_by : NextEvent → Library → ℕ → ℕ → Booted → Program quiet RunSummary
 served_by next lib taken left b = serve_event next lib taken (λ b. run_from lib taken left b) b
 
 -- what follows a service

@@ -20,9 +20,9 @@ use Rattle.cmd_folder.specs.declared.finish.Finish.TheVariants.{Over, Limit}
 use Rattle.cmd_folder.specs.RunText.{turn_step_count, turns_step_count}
 use Rattle.cmd_folder.specs.Runs.{IsEvent, Finishes}
 use Rattle.cmd_folder.proofs.TurnLaws.{link_is}
-use Rattle.cmd_make.specs.QuietRun.{RunSummary, summary_of_run, after_service, serve_event, serve, run_from}
+use Rattle.cmd_make.specs.QuietRun.{RunSummary, summary_of_run, serve, run_from}
 use Rattle.cmd_folder.proofs.RunGoes.{is_step, step_counts, IsServiceMade, linked_made}
-use Rattle.cmd_make.proofs.RunGoes.{PrintMade, print_made}
+use Rattle.cmd_make.proofs.RunGoes.{PrintMade, print_made, then_by, served_by}
 
 -- The program ends with a value, without an event.
 abbrev pub Gone : Program quiet RunSummary → Type 0
@@ -85,12 +85,6 @@ unfolding AreTurns
 none_left how lib left b last runs = subst (λ l. Finishes how lib left [] l) runs.are runs.finishes
 
 -- ---- after a service
-
-abbrev then_by : NextEvent → Library → ℕ → ℕ → Booted → Program quiet RunSummary
-then_by next lib taken left b = after_service next taken (λ b. run_from lib taken left b) b
-
-abbrev served_by : NextEvent → Library → ℕ → ℕ → Booted → Program quiet RunSummary
-served_by next lib taken left b = serve_event next lib taken (λ b. run_from lib taken left b) b
 
 after_gone :
     (next : NextEvent) (how : Finish) (lib : Library) (taken left : ℕ) (b : Booted) (turns : List Turn) (last : Booted)

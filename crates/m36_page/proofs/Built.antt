@@ -11,7 +11,7 @@ use Rattle.m36_page.specs.Changes.{OthersStay}
 use Rattle.m36_page.proofs.Frames.{held_inside}
 use Rattle.m36_page.proofs.Tables.{found, words_pages, words_spots, words_kept, words_were, words_others, words_whole}
 use Rattle.m36_page.specs.Moved.{HasWords, IsEvicted, IsTakenIn, IsEmptied}
-use Rattle.m36_page.proofs.Moves.{resident_frame, away_kept, away_settled, away_frame, away_out, same_page}
+use Rattle.m36_page.proofs.Moves.{resident_frame, away_kept, away_settled, away_frame, away_out, same_page, same_some}
 
 -- ---- evicted
 
@@ -97,9 +97,6 @@ same_spots p new e s q = ap (λ ts. spot_in (table_of ts s) q) e
 same_words : (p new : PagerFields) → new.tables ≡ p.tables → (s w : ℕ) → kept_word new s w ≡ kept_word p s w
 unfolding kept_word
 same_words p new e s w = ap (λ ts. kept_in (table_of ts s) w) e
-
-same_some : (a b : ℕ × ℕ) → Some a ≡ Some b → a ≡ b
-same_some a b e = cc
 
 pub taken_from : (p : PagerFields) (core : List ℕ) (new : PagerFields) (mid now : List ℕ) (k seg page i : ℕ) (d : TableFields)
     → IsConsistent p core → has_page p seg page ≡ true → frame_of p core seg page ≡ None

@@ -163,7 +163,7 @@ one_frame p core k j seg page reads h i =
     let b = reads.frames j seg page i in
     omega (arith, a, b)
 
-same_some : (a b : ℕ × ℕ) → Some a ≡ Some b → a ≡ b
+pub same_some : (a b : ℕ × ℕ) → Some a ≡ Some b → a ≡ b
 same_some a b e = cc
 
 away_reads : (p : PagerFields) (core : List ℕ) (new : PagerFields) (now : List ℕ) (k seg page : ℕ)

@@ -11,7 +11,7 @@ use Rattle.m36_page.specs.Changes.{IsSameShape, IsSet}
 use Rattle.m36_page.specs.Moved.{HasWords, IsKeptWordSet}
 use Rattle.m36_page.proofs.Frames.{held_inside, word_stays}
 use Rattle.m36_page.proofs.Tables.{words_pages, words_spots, words_kept, words_were, words_others, words_whole}
-use Rattle.m36_page.proofs.Moves.{frame_range}
+use Rattle.m36_page.proofs.Moves.{frame_range, same_some}
 use Rattle.m36_page.proofs.Parts.{parts, content_some, content_kept}
 
 -- the content of a word that is not the one that is set
@@ -41,9 +41,6 @@ frame_same : (p : PagerFields) (core : List ℕ) (s q a v : ℕ) → IsConsisten
 unfolding frame_of
 frame_same p core s q a v settled has above =
     ap frame_in (get_or-set_other core a (spot_of p s q) v 0 (spot_apart p core s q a settled has above))
-
-same_some : (a b : ℕ × ℕ) → Some a ≡ Some b → a ≡ b
-same_some a b e = cc
 
 same_word : (w word : ℕ) → w / 1024 ≡ word / 1024 → w % 1024 ≡ word % 1024 → w ≡ word
 same_word w word high low = omega (arith, high, low)
