@@ -11,10 +11,6 @@ use Rattle.m36_page.specs.Fields.{TableFields, PagerFields}
 use Rattle.m36_page.specs.Residence.{is_table_of, table_of, has_page_in, spot_in, kept_in, has_page, spot_of, kept_word}
 use Rattle.m36_page.specs.Moved.{HasWords}
 
--- a table with its words replaced
-abbrev with_words : TableFields → List ℕ → TableFields
-with_words t words = record t { words = words }
-
 -- the index of a table is the same as before
 place_set : (tables : List TableFields) (i seg : ℕ) (t d : TableFields) → t.seg ≡ (get_or tables i d).seg
     → position_or_len (is_table_of seg) (set tables i t) ≡ position_or_len (is_table_of seg) tables
