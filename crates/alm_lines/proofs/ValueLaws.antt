@@ -66,8 +66,6 @@ pub refused_given : (text : List ℕ) (symbols : List (List ℕ × Sum)) (spot :
 refused_given text symbols spot line terms place room may_move value e =
     ap (λ v. evaluated_refusal line v place room may_move) e ∙ same_refused text symbols spot line terms place room may_move
 
-pub ruleset given_values = (value_given, refused_given)
-
 pub kind_given : (text : List ℕ) (symbols : List (List ℕ × Sum)) (spot : LocationCounter) (terms : List Term) (value : ValueFields)
     → value ≡ value_of_expression text symbols spot terms → value.kind ≡ kind_of (sum_of text symbols spot terms)
 unfolding value_of_expression

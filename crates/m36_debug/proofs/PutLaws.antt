@@ -72,12 +72,6 @@ waiting_lost block block' old new fails = loses_here block [] old new fails
 
 pub ruleset handing = (puts_waiting, waiting_lost)
 
--- the piece that was put is this line
-pub puts_same :
-    (answer : Put) (old new : Pending) (lines others : List (List ℕ))
-    → lines ≡ others → PutsPieces answer lines old new → PutsPieces answer others old new
-puts_same answer old new lines others is puts = subst (λ l. PutsPieces answer l old new) is puts
-
 -- some lines, and then others, as an answer says
 pub puts_then :
     (answer : Put) (old now new : Pending) (first second : List (List ℕ))
@@ -189,6 +183,3 @@ pub puts_first_cut :
     (old new : Pending) (line : List ℕ) (lines : List (List ℕ))
     → PutsPieces Failed (line ∷ []) old new → PutsPieces Failed (line ∷ lines) old new
 puts_first_cut old new line lines cut = puts_longer old new (line ∷ []) lines cut
-
--- what a function that puts several lines takes by `using`
-pub ruleset lines_in_turn = (puts_behind, puts_behind_cut, puts_first_cut)

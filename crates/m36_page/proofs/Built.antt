@@ -239,23 +239,6 @@ emptied p core new now k seg page s away = record {
       ];
 }
 
-pub emptied_none : (p : PagerFields) (core : List ℕ) (k : ℕ) → IsConsistent p core → get_or p.holders k None ≡ None → IsEmptied p core p core k
-emptied_none p core k s none = record {
-  kept = record {
-    shape = record { first = refl; frames = refl; pages = λ x q. refl; spots = λ x q. refl };
-    size = refl;
-    content = λ x w. refl;
-    others = λ a out. refl;
-  };
-  settled = s;
-  empty_frame = none;
-  spot = λ x q h. absurd (held_some p k x q h none);
-  same = λ still. (refl, refl);
-  others = record { holders = λ j other. refl; words = λ a out. refl; kept = λ x w out. refl };
-  stays = λ x q frame has e apart. e;
-  out = λ x q has e. e;
-}
-
 -- ---- the place of a page table word
 
 table_some : (o : Option TableFields) (page : ℕ) → has_page_in o page ≡ true → IsSome o
