@@ -1,6 +1,6 @@
 //! Assembles lines into an object.
 
-ghost use Rattle.std.specs.Prelude.{ℕ, [], ◌≡◌, ◌^◌, ◌<◌, length};
+ghost use Rattle.std.specs.Prelude.{[], ◌≡◌, ◌^◌, ◌<◌, length};
 ghost use Rattle.std.specs.Prelude.{Option, None, Ok, IfOk, true};
 ghost use Rattle.alm_parse.specs.Sources.{IsResultOf};
 ghost use Rattle.alm_lines.specs.Spots.{start, HasRoomForLines};

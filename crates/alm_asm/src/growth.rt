@@ -1,6 +1,6 @@
 //! Finds the first line with which the definition, linkage or symbol section is too long.
 
-ghost use Rattle.std.specs.Prelude.{ℕ, false, [], ◌∷◌, ◌≡◌, ◌+◌, ◌*◌, ◌^◌, ◌<◌};
+ghost use Rattle.std.specs.Prelude.{false, [], ◌∷◌, ◌≡◌, ◌+◌, ◌*◌, ◌^◌, ◌<◌};
 ghost use Rattle.std.specs.Prelude.{◌≤◌, length, if◌then◌else◌, Option, OnOk, IfOk};
 ghost use Rattle.obj36_parts.specs.ObjectSegment.{section_limit};
 ghost use Rattle.alm_lines.specs.Arguments.{first_arg, terms_in};

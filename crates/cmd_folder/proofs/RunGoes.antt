@@ -68,7 +68,7 @@ pub no_turns :
 unfolding pieces_of_turns turns_step_count
 no_turns run taken how = ap (λ n. end_pieces run.denied how n) (add-zero taken)
 
-stay : (lib : Library) (left : ℕ) (b : Booted) → runs.Goes lib left b [] b
+pub stay : (lib : Library) (left : ℕ) (b : Booted) → runs.Goes lib left b [] b
 unfolding AreTurns turns_step_count
 stay lib left b = record { turns_are = refl; events = tt; few = omega arith }
 
@@ -130,7 +130,7 @@ finishes_on (Some (Over e)) lib left all told turns last is finishes = finishes
 finishes_on (Some Limit) lib left all told turns last is finishes =
     (ap (λ n. turn_step_count told + n) finishes.0 ∙ sym is, finishes.1)
 
-turn_first :
+pub turn_first :
     (lib : Library) (left all : ℕ) (b after last : Booted) (told : Turn) (turns : List Turn)
     → IsTurn lib b told after → IsEvent told → all ≡ turn_step_count told + left → runs.Goes lib left after turns last
     → runs.Goes lib all b (told ∷ turns) last
@@ -270,7 +270,7 @@ RestGoes run taken left =
     (b : Booted) (events : List Event) (result : Result (Unit {0}) Status)
     → b.next_event ≡ Step → Goes (run_from run taken left b) events result → RunGoes run taken left b events result
 
-over_turn : (lib : Library) (b : Booted) (e : End) → b.next_event ≡ next_event.Over e → IsTurn lib b (turn.Ended e) b
+pub over_turn : (lib : Library) (b : Booted) (e : End) → b.next_event ≡ next_event.Over e → IsTurn lib b (turn.Ended e) b
 unfolding IsTurn
 over_turn lib b e is = subst (λ c. IsTurnBy c lib b (turn.Ended e) b) (sym is) (refl, refl)
 

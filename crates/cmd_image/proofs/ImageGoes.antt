@@ -90,7 +90,7 @@ run_is taken (suc left) state =
 
 -- ---- what is put, by the findings
 
-audit_puts :
+pub audit_puts :
     (findings : List (ℕ × ℕ)) (events : List Event) (result : Result (Unit {0}) Status)
     → Goes (audit_only findings) events result
     → PutsBy (audit_pieces findings) (audit_status (passes findings)) events result
@@ -138,7 +138,7 @@ found_puts Audit state findings events result goes = audit_puts findings events 
 
 -- ---- some call ends
 
-audit_end : (findings : List (ℕ × ℕ)) → SomeEnd (audit_only findings)
+pub audit_end : (findings : List (ℕ × ℕ)) → SomeEnd (audit_only findings)
 unfolding audit_only
 audit_end findings = puts_end (audit_pieces findings) (audit_status (passes findings)) (audit_may_end (passes findings))
 

@@ -1,6 +1,6 @@
 //! Performs the command `bind NAME` over any world.
 
-ghost use Rattle.std.specs.Prelude.{◌≡◌, ◌≤◌, ◌∷◌, ◌++◌, [], length, OnOk, IfOk, Ok};
+ghost use Rattle.std.specs.Prelude.{◌≡◌, ◌≤◌, ◌∷◌, ◌++◌, [], length, OnOk, Ok};
 ghost use Rattle.m36_outside.specs.ReadAnswer.{file_limit};
 ghost use Rattle.m36_bindfile.specs.BindFile.{bind_lines, names_or_fault, BindResult};
 ghost use Rattle.m36_bind.specs.Bound.{bound_object_of};

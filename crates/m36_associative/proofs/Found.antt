@@ -1,10 +1,10 @@
 -- What the memories and the pages in front find.
-use Rattle.std.proofs.Common.{ℕ, ◌≡◌, ◌+◌, ◌*◌, ◌/◌, ◌%◌, ◌<◌, ◌^◌, ◌++◌, Bool, true, false, if◌then◌else◌, List, [], ◌∷◌, length, Option, Some, None, IfSome, OnSome, option_map, Ok, slice_get, slice_set, slice_index, nat_eq, refl, sym, ap, ◌∙◌, arith}
+use Rattle.std.proofs.Common.{ℕ, ◌≡◌, ◌+◌, ◌*◌, ◌/◌, ◌%◌, ◌<◌, ◌^◌, ◌++◌, Bool, true, false, if◌then◌else◌, List, [], ◌∷◌, length, Option, Some, None, option_map, Ok, slice_get, slice_set, slice_index, refl, sym, ap, ◌∙◌, arith}
 use Rattle.std.proofs.lemmas.List.{set-get_or}
 use Rattle.std.proofs.lemmas.Option.{slice_get_within}
 use Rattle.m36_desc.specs.Fields.{SdwFields, PtwFields, DbrFields}
 use Rattle.m36_desc.specs.Descriptors.{ptw_of}
-use Rattle.m36_model.specs.Place.{wrapped_address, frame_at, address_in_frame, address_in_frame_by, ptw_at, directory_at, page_at, has_descriptor_in_bounds, sdw_place_by, sdw_at, core_sdw, marked_word, with_mark, with_marks, marks_by}
+use Rattle.m36_model.specs.Place.{wrapped_address, frame_at, address_in_frame, address_in_frame_by, directory_at, page_at, has_descriptor_in_bounds, sdw_place_by, sdw_at, core_sdw, marked_word, with_mark, with_marks, marks_by}
 use Rattle.m36_tables.specs.Tables.{TableWordIsInCore}
 use Rattle.m36_associative.specs.Right.{IsMarked, IsPageRights, DescribesPage, IsKeptDescriptor, IsKeptTableWord}
 use Rattle.m36_associative.specs.declared.front.Page.{Page}

@@ -75,9 +75,6 @@ pub no_key : (core : List ℕ) (dbr : DbrFields) (words tables : List ℕ) (p : 
 no_key core dbr words tables p e seg page b k = absurd (omega arith)
 
 -- nothing is kept
-nothing_in : {X : Type 0} (x : X) → Contains [] x → ⊥
-nothing_in x c = let within = c.1 in omega arith
-
 pub nothing_kept : (core : List ℕ) (dbr : DbrFields) (m : Memories) → ((e : SdwEntry) → Contains m.sdws e → e.key ≡ 0) → ((e : PtwEntry) → Contains m.ptws e → e.key ≡ 0) → ((p : Page) → Contains m.pages p → p.key ≡ 0) → m.fetching.len ≡ 0 → AreCoherent core dbr m
 nothing_kept core dbr m s t g z =
     record {

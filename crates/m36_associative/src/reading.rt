@@ -1,8 +1,7 @@
 //! Lookups: in the memories first, and in core only if nothing is kept.
 
-ghost use Rattle.std.specs.Prelude.{ℕ, ◌≡◌, ◌+◌, ◌/◌, ◌%◌, ◌<◌, ◌^◌, List, Some, Ok, true, false, IfOk, IfSome, OnOk, OnSome, IsTrue, length};
-ghost use Rattle.m36_desc.specs.Fields.{DbrFields};
-ghost use Rattle.m36_model.specs.Place.{wrapped_address, address_in_frame, ptw_at, directory_at, page_at, sdw_place, core_sdw, word_place, marks_by, with_marks};
+ghost use Rattle.std.specs.Prelude.{ℕ, ◌≡◌, ◌+◌, ◌/◌, ◌%◌, ◌<◌, ◌^◌, Some, Ok, true, false, IfOk, IfSome, OnOk, OnSome, IsTrue, length};
+ghost use Rattle.m36_model.specs.Place.{wrapped_address, address_in_frame, ptw_at, directory_at, page_at, sdw_place, core_sdw, word_place};
 ghost use Rattle.m36_tables.specs.Tables.{TableWordIsInCore};
 ghost use Rattle.m36_associative.specs.Right.{AreCoherent, IsWatched, IsKeptDescriptor, IsKeptTableWord, DescribesPage, IsMarked, page_key};
 ghost use Rattle.m36_associative.specs.Watched.{is_watched};

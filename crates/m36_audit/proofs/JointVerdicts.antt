@@ -1,13 +1,13 @@
 -- The findings of processes in order, and what is recorded for core words after one more process.
 use Rattle.std.proofs.Common.{◌≡◌, ℕ, zero, suc, ◌+◌, ◌≤◌, ◌<◌, length, refl, sym, ◌∙◌, ap, subst, inl, inr, arith, get_or}
-use Rattle.std.specs.Prelude.{◌⊎◌, List, [], ◌∷◌, ◌++◌, ◌↔◌, drop, slice_get, slice_index, replicate, Option, Some, None}
+use Rattle.std.specs.Prelude.{◌⊎◌, List, [], ◌∷◌, ◌++◌, ◌↔◌, drop, slice_get, slice_index, replicate, Some, None}
 use Rattle.std.proofs.lemmas.Bool.{cases_lt}
 use Rattle.std.proofs.lemmas.List.{append_assoc, append-nil, length-replicate}
 use Rattle.std.proofs.Math.ListN.{drop_of_length-le}
 use Rattle.std.proofs.lemmas.Option.{slice_get_cases}
 use Rattle.m36_desc.specs.Fields.{DbrFields}
 use Rattle.m36_model.specs.Audit.{AreFindings}
-use Rattle.m36_model.specs.JointAudit.{JointFindingFields, findings_of_process, joint_finding, AreFindingsFrom, AreJointFindings, IsJointlyAudited}
+use Rattle.m36_model.specs.JointAudit.{JointFindingFields, findings_of_process, AreFindingsFrom, AreJointFindings, IsJointlyAudited}
 use Rattle.m36_isol.specs.Findings.{JointFindingsLaw}
 use Rattle.m36_audit.specs.declared.joint_verdict.JointFinding.{JointFinding}
 use Rattle.m36_audit.specs.RecordedNumbers.{AreRecorded}
@@ -56,10 +56,6 @@ nothing_joint law core dbrs findings f = (
   λ none. law.sound core dbrs (subst (λ (l : List JointFindingFields). AreJointFindings core dbrs l) (ap all_found none) f),
   λ audited. no_findings findings (law.complete core dbrs (all_found findings) audited f),
 )
-
--- two more findings after those of the processes
-pub joined_findings : (core : List ℕ) (dbrs : List DbrFields) (own second_noted third_noted : List JointFinding) (second third : Option ℕ) → all_found second_noted ≡ all_found own ++ joint_finding 2 second → all_found third_noted ≡ all_found second_noted ++ joint_finding 3 third → all_found third_noted ≡ all_found own ++ joint_finding 2 second ++ joint_finding 3 third
-joined_findings core dbrs own second_noted third_noted second third e f = f ∙ ap (λ (l : List JointFindingFields). l ++ joint_finding 3 third) e
 
 none_told : (Has : ℕ → ℕ → ℕ → Type 0) (size : ℕ) (values : List ℕ) → values ≡ replicate size 0 → AreRecorded (IsOfProcessBelow Has 0) size values
 none_told Has size values e =

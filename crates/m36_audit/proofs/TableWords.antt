@@ -1,6 +1,6 @@
 -- Marking the table words of one more segment.
 use Rattle.std.proofs.Common.{◌≡◌, ℕ, ◌+◌, ◌*◌, ◌/◌, ◌<◌, ◌≤◌, refl, sym, ◌∙◌, ap, subst, inl, inr, arith}
-use Rattle.std.specs.Prelude.{◌⊎◌, true, false, nat_lt, List, length, replicate, slice_index, Option, None, Ok}
+use Rattle.std.specs.Prelude.{◌⊎◌, true, false, nat_lt, List, length, replicate, slice_index, Option, Ok}
 use Rattle.std.proofs.lemmas.Bool.{cases_lt, ltb-true}
 use Rattle.std.proofs.lemmas.List.{length-replicate, get_or-replicate, get_or_past}
 use Rattle.m36_desc.specs.Fields.{SdwFields, DbrFields}
@@ -278,13 +278,3 @@ zeros size a (inl lt) = get_or-replicate size a 0 0 lt
 zeros size a (inr le) =
     let past : length (replicate size 0) ≤ a = rw (length-replicate {A = ℕ} size 0) le in
     get_or_past (replicate size 0) a 0 past
-
--- no word has a mark
-pub nothing_marked : (core : List ℕ) (dbr : DbrFields) (size : ℕ) (tables : List ℕ) → tables ≡ replicate size 0 → AreMarked (IsMarkedSoFar core dbr 0 0 0) size tables None
-nothing_marked core dbr size tables e =
-    record {
-      len = ap length e ∙ length-replicate {A = ℕ} size 0;
-      none = λ a inside h t k. nothing_so_far core dbr t a k;
-      some = λ a h. absurd (h (ap (λ (l : List ℕ). slice_index l a) e ∙ zeros size a (cases_lt a size)));
-      least_two = λ a k. nothing_so_far core dbr k.table a k.of;
-    }

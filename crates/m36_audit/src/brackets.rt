@@ -1,6 +1,6 @@
 //! The first condition: the ring brackets of each live segment are in order.
 
-ghost use Rattle.std.specs.Prelude.{ℕ, ◌≡◌, ◌<◌, ◌^◌};
+ghost use Rattle.std.specs.Prelude.{◌≡◌, ◌<◌, ◌^◌};
 ghost use Rattle.std.specs.Bool.{Decides};
 ghost use Rattle.m36_model.specs.Audit.{IsOutOfOrder};
 ghost use Rattle.m36_audit.specs.Live.{has_disordered_brackets};

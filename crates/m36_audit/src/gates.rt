@@ -1,7 +1,7 @@
 //! The fifth and the sixth condition: a segment that rings above R2 may call is a gate, and the
 //! ring that such a call enters has a stack.
 
-ghost use Rattle.std.specs.Prelude.{ℕ, ◌≡◌, ◌<◌, ◌^◌};
+ghost use Rattle.std.specs.Prelude.{◌≡◌, ◌<◌, ◌^◌};
 ghost use Rattle.std.specs.Bool.{Decides};
 ghost use Rattle.m36_model.specs.Audit.{IsNoGate, HasNoStack};
 ghost use Rattle.m36_audit.specs.Live.{may_be_called_from_above, is_enterable_anywhere, is_ring_stack};

@@ -1,9 +1,8 @@
 //! Which table of which segment has each core word, over several processes.
 
-ghost use Rattle.std.specs.Prelude.{ℕ, ◌≡◌, ◌+◌, ◌*◌, ◌/◌, ◌<◌, ◌≤◌, ◌^◌, IfOk, OnSome, length, slice_index};
-ghost use Rattle.m36_desc.specs.Fields.{SdwFields};
+ghost use Rattle.std.specs.Prelude.{ℕ, ◌≡◌, ◌+◌, ◌*◌, ◌/◌, ◌<◌, ◌≤◌, ◌^◌, IfOk, length, slice_index};
 ghost use Rattle.m36_model.specs.JointAudit.{most_processes};
-ghost use Rattle.m36_model.specs.Place.{directory_at, sdw_place, core_sdw};
+ghost use Rattle.m36_model.specs.Place.{directory_at};
 ghost use Rattle.m36_audit.specs.Runs.{pages_of_segment};
 ghost use Rattle.m36_audit.specs.Classes.{descriptors_of_process, most_descriptors};
 ghost use Rattle.m36_audit.specs.WordOwners.{descriptor_recorded, directory_recorded, pages_recorded, page_table_recorded, table_recorded_if_live, segment_recorded, segments_recorded};

@@ -1,6 +1,6 @@
 //! The findings of an audit.
 
-ghost use Rattle.std.specs.Prelude.{ℕ, [], ◌≡◌, ◌++◌, ◌+◌, ◌<◌, ◌≤◌};
+ghost use Rattle.std.specs.Prelude.{[], ◌≡◌, ◌++◌, ◌+◌, ◌<◌, ◌≤◌};
 ghost use Rattle.std.specs.Bool.{Decides};
 ghost use Rattle.arrayvec.specs.ArrayVec.{array_vec_len};
 ghost use Rattle.m36_model.specs.Audit.{numbered_finding};

@@ -1,6 +1,6 @@
 //! The objects that the binder is given, each found by its name.
 
-ghost use Rattle.std.specs.Prelude.{ℕ, ◌≡◌, IfOk, OnOk, slice_get, option_map, option_and_then};
+ghost use Rattle.std.specs.Prelude.{◌≡◌, IfOk, OnOk, slice_get, option_map, option_and_then};
 ghost use Rattle.std.specs.Map.{lookup};
 ghost use Rattle.obj36_parts.specs.Names.{same};
 ghost use Rattle.m36_bind.specs.Given.{object_named, with_index, IndexesAreFirst};

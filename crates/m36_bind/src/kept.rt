@@ -1,6 +1,6 @@
 //! The definitions of the bound object: those of the retained names.
 
-ghost use Rattle.std.specs.Prelude.{ℕ, ◌≡◌, ◌^◌, ◌<◌, ◌||◌, [], length, IfOk, OnOk};
+ghost use Rattle.std.specs.Prelude.{◌≡◌, ◌^◌, ◌<◌, ◌||◌, [], length, IfOk, OnOk};
 ghost use Rattle.m36_bindfile.specs.BindFile.{BindResult};
 ghost use Rattle.m36_bind.specs.Components.{ChangesOrRefuses, relocation_of};
 ghost use Rattle.m36_relocate.specs.Exports.{with_relocated_definitions};

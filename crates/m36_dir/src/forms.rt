@@ -1,7 +1,7 @@
 //! Parses each line of a boot text by itself. A line is given without its line feed. None is a line
 //! that has the form of no kind of line.
 
-ghost use Rattle.std.specs.Prelude.{ℕ, ◌≡◌, ◌+◌, ◌<◌, length, drop, Some, IfSome};
+ghost use Rattle.std.specs.Prelude.{◌≡◌, ◌+◌, ◌<◌, length, drop, Some, IfSome};
 ghost use Rattle.m36_text.specs.Lines.{words_of};
 ghost use Rattle.m36_text.specs.Numbers.{octal_in};
 ghost use Rattle.m36_dir.specs.BootLine.{frames_line, work_line, library_line, name_line, start_line, brackets_of, segment_line, line_named, parsed_line};

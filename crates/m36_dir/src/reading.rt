@@ -2,7 +2,7 @@
 
 ghost use Rattle.std.specs.Prelude.{◌≡◌, ◌<◌, ◌^◌, [], ◌∷◌, ◌++◌, length, Some, None, IfOk, IfErr, OnOk};
 ghost use Rattle.m36_dir.specs.BootLine.{parsed_line};
-ghost use Rattle.m36_dir.specs.BootOrder.{code_at_end, code_of_rest, ChecksLine, well_formed_lines, first_code};
+ghost use Rattle.m36_dir.specs.BootOrder.{code_of_rest, ChecksLine, well_formed_lines, first_code};
 ghost use Rattle.m36_dir.specs.Catalog.{catalog_in, catalog_of, RefusesWith};
 ghost use Rattle.m36_dir.specs.IsCatalog.{IsCatalog};
 

@@ -19,9 +19,6 @@ use Rattle.m36_isol.proofs.Places.{place_is, place_parts, content_placed, core_s
 use Rattle.m36_isol.proofs.CoreTables.{Matches, matches, has_tables, same_sdw, same_spot_of}
 use Rattle.m36_isol.proofs.CoreMarks.{IsHarmless, set_matches, marks_match, marks_near, marks_are_ptws, marked_self, marked_then}
 
-pub placed_order : (d : SdwFields) (w : ℕ) → is_placed d w ≡ true → has_ordered_brackets d ≡ true
-placed_order d w h = (and_parts (has_ordered_brackets d) (is_within_bound d w) h).0
-
 pub placed_within : (d : SdwFields) (w : ℕ) → is_placed d w ≡ true → is_within_bound d w ≡ true
 placed_within d w h = (and_parts (has_ordered_brackets d) (is_within_bound d w) h).1
 

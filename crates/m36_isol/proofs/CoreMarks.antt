@@ -16,7 +16,7 @@ use Rattle.m36_model.specs.StoreLaw.{Each}
 use Rattle.m36_model.specs.CoreLaw.{IsPtwWord, IsPtwMarked, IsSameExceptMarks, IsMarkedFrom}
 use Rattle.m36_model.specs.declared.outcome.Refusal.{Refusal}
 use Rattle.m36_isol.specs.MarkBits.{MarksKeepBits}
-use Rattle.m36_isol.proofs.Lists.{set_other, set_same, get_set_past, index_of_get}
+use Rattle.m36_word.proofs.Lists.{set_other, set_same, get_set_past, index_of_get}
 use Rattle.m36_isol.proofs.CoreTables.{Matches, same_sdw}
 
 -- setting marks twice

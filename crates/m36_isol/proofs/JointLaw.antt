@@ -16,7 +16,7 @@ use Rattle.m36_model.specs.CoreLaw.{HasTables, IsSegmentSpot, IsPtwWord, IsPtwMa
 use Rattle.m36_model.specs.JointAudit.{IsJointlyAudited}
 use Rattle.m36_model.specs.declared.outcome.Refusal.{Refusal}
 use Rattle.m36_isol.proofs.Spots.{each_map}
-use Rattle.m36_isol.proofs.Lists.{index_of_get}
+use Rattle.m36_word.proofs.Lists.{index_of_get}
 use Rattle.m36_isol.proofs.Places.{core_spot_inside}
 use Rattle.m36_isol.proofs.CoreTables.{Matches, matches, has_tables, same_sdw, same_spot_of}
 use Rattle.m36_isol.proofs.CoreMarks.{IsHarmless, ptw_apart, set_matches, unmarked_word, marks_are_ptws, marked_self, marked_then}

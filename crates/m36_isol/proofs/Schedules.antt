@@ -18,7 +18,7 @@ use Rattle.m36_model.specs.Schedule.{Processes, process_of, Event, processes_aft
 use Rattle.m36_model.specs.JointAudit.{IsJointlyAudited}
 use Rattle.m36_model.specs.JointIsolation.{AgreeAll, IsEventKept, JointlyIsolated}
 use Rattle.m36_model.specs.declared.record.StepRecord.{StepRecord}
-use Rattle.m36_isol.proofs.Lists.{set_other, set_same, get_beside, get_map}
+use Rattle.m36_word.proofs.Lists.{set_other, set_same, get_beside, get_map}
 use Rattle.m36_isol.proofs.Alike.{Sees, Reaches}
 use Rattle.m36_isol.proofs.Windows.{after_is}
 use Rattle.m36_isol.proofs.AuditedBy.{same_dbr}

@@ -1,6 +1,6 @@
 //! The processes on one core.
 
-ghost use Rattle.std.specs.Prelude.{ℕ, ◌≡◌, ◌<◌, length, slice_get, slice_set, IfOk, Some};
+ghost use Rattle.std.specs.Prelude.{ℕ, ◌≡◌, ◌<◌, length, slice_get, slice_set, Some};
 ghost use Rattle.m36_procs.specs.EventResult.{EventResult};
 
 use m36_core::Core;

@@ -1,19 +1,17 @@
 -- Quick steps, one after another.
-use Rattle.std.proofs.Common.{ℕ, zero, suc, ◌≡◌, ◌+◌, ◌<◌, ◌∙◌, refl, sym, ap, subst, List, [], below_none, below_more, arith, None, Some}
+use Rattle.std.proofs.Common.{ℕ, zero, suc, ◌≡◌, ◌+◌, ◌<◌, ◌∙◌, refl, sym, ap, subst, List, [], below_more, arith, None, Some}
 use Rattle.m36_model.specs.Core.{core_store}
 use Rattle.m36_model.specs.Laws.{ExecutesLdbr}
 use Rattle.m36_model.specs.Step.{record_of, state_after}
 use Rattle.m36_model.specs.Store.{State}
 use Rattle.m36_model.specs.declared.outcome.Outcome.{Outcome}
 use Rattle.m36_model.specs.declared.outcome.Outcome.TheVariants.{Next}
-use Rattle.m36_model.specs.declared.place.Reference.{Reference}
 use Rattle.m36_model.specs.declared.record.StepRecord.{StepRecord}
 use Rattle.m36_step.specs.Answers.{IsStepWithNext}
 use Rattle.m36_step.specs.Hurry.{apply_repeatedly, state_after_steps}
 use Rattle.m36_step.specs.MachineFields.{MachineFields}
 use Rattle.m36_step.specs.MachineTurn.{machine_turn, machine_after, turn_given_end, after_given_end, end_by_outcome}
-use Rattle.m36_step.specs.Quick.{IsNoLdbr, Steps, next_end}
-use Rattle.m36_step.specs.declared.ended.Ended.{Ended}
+use Rattle.m36_step.specs.Quick.{Steps, next_end}
 use Rattle.m36_step.proofs.Ends.{step_told, step_left}
 
 -- `taken` steps lead from the first state to this one; each has the outcome Next and is not an LDBR

@@ -1,6 +1,6 @@
 //! The effect of an instruction, given its operand.
 
-ghost use Rattle.std.specs.Prelude.{ℕ, ◌≡◌, ◌≢◌, ◌<◌, Ok, IfOk, IfErr, IsTrue};
+ghost use Rattle.std.specs.Prelude.{◌≡◌, ◌≢◌, ◌<◌, Ok, IfOk, IsTrue};
 ghost use Rattle.m36_inst.specs.Groups.{is_pointer_instruction, is_control_instruction};
 ghost use Rattle.m36_inst.specs.Operands.{operand_of};
 ghost use Rattle.m36_inst.specs.declared.operand.Operand.TheVariants.{N};

@@ -1,6 +1,6 @@
 //! Operands whose words are not referenced: addresses, and the targets of transfers and calls.
 
-ghost use Rattle.std.specs.Prelude.{ℕ, ◌≡◌, ◌<◌, ◌≤◌, ◌^◌, List, IfOk, IsTrue, length};
+ghost use Rattle.std.specs.Prelude.{◌≡◌, ◌<◌, ◌≤◌, ◌^◌, List, IfOk, IsTrue, length};
 ghost use Rattle.m36_model.specs.Chain.{chain_end_fields};
 ghost use Rattle.m36_model.specs.OperandHeld.{is_empty};
 ghost use Rattle.m36_model.specs.Results.{operand_fields, place_only};

@@ -214,9 +214,6 @@ reading_more g f count k (suc n) w text next some h e put =
     let is = ap characters_of e.2 in
     subst (λ (l : ℕ). IsReading g f count (k + 1) l next) same (subst (IsReading g f count (k + 1) n) (sym put) (reading_by g f count k n text (characters_of w) e.0 h e.1 is (four_characters w)))
 
-behind_fault : (text : List ℕ) (f : Fault) (r : Result (List ℕ) Fault) → with_characters_before text (with_word_before (Err f) r) ≡ Err f
-behind_fault text f r = refl
-
 pub reading_failed : (g : RegsFields) (f : Flat) (count k left : ℕ) (text : List ℕ) (why : Fault) → 0 < left → IsReading g f count k left text → examined_reply flat_store g f (console_at g k) ≡ Err why → console_words g f 0 count ≡ Err why
 unfolding console_words
 reading_failed g f count k zero text why some h e = absurd (omega arith)

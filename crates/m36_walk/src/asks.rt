@@ -1,6 +1,6 @@
 //! Calls that change nothing: targets, places, ring brackets, and words that are only read.
 
-ghost use Rattle.std.specs.Prelude.{ℕ, ◌≡◌, ◌<◌, ◌^◌, IfOk, length};
+ghost use Rattle.std.specs.Prelude.{◌≡◌, ◌<◌, ◌^◌, IfOk, length};
 ghost use Rattle.m36_desc.specs.Access.{ring_after_call};
 ghost use Rattle.m36_model.specs.Act.{Transfer, Call, Locate};
 ghost use Rattle.m36_model.specs.Core.{core_store};

@@ -1,6 +1,6 @@
 //! References that read.
 
-ghost use Rattle.std.specs.Prelude.{ℕ, ◌≡◌, ◌+◌, ◌%◌, ◌<◌, ◌≤◌, ◌^◌, [], ◌∷◌, None, IfOk, length};
+ghost use Rattle.std.specs.Prelude.{◌≡◌, ◌+◌, ◌%◌, ◌<◌, ◌≤◌, ◌^◌, [], ◌∷◌, None, IfOk, length};
 ghost use Rattle.m36_word.specs.Pairs.{pair_words};
 ghost use Rattle.m36_model.specs.Act.{Fetch, Indirect, Odd};
 ghost use Rattle.m36_model.specs.Results.{words_of_pairs};

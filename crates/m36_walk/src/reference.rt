@@ -1,11 +1,11 @@
 //! One reference by the tables: descriptor, rights, places, and then its marks. Then its page is
 //! put in front.
 
-ghost use Rattle.std.specs.Prelude.{ℕ, ◌≡◌, ◌+◌, ◌/◌, ◌%◌, ◌<◌, ◌≤◌, ◌^◌, ◌==◌, Ok, IfOk, OnOk, length, Result, true, false};
+ghost use Rattle.std.specs.Prelude.{◌≡◌, ◌+◌, ◌/◌, ◌%◌, ◌<◌, ◌≤◌, ◌^◌, ◌==◌, Ok, IfOk, OnOk, length, Result, true, false};
 ghost use Rattle.m36_desc.specs.Access.{unless_violation, first_violation, read_rows, write_rows, fetch_rows};
 ghost use Rattle.m36_associative.specs.Right.{AreCoherent};
 ghost use Rattle.m36_model.specs.Core.{core_store};
-ghost use Rattle.m36_model.specs.Place.{wrapped_address, core_sdw, directory_at, word_place, marks_by, with_marks};
+ghost use Rattle.m36_model.specs.Place.{core_sdw, directory_at};
 ghost use Rattle.m36_model.specs.Store.{spots_of};
 ghost use Rattle.m36_walk.specs.ReferenceResult.{refusal_as_fault, violation_as_fault, reference_result, result_with_places, result_of_lookup, MarksAreSet};
 ghost use Rattle.m36_walk.specs.Runs.{IsInCore, places_as_fault};

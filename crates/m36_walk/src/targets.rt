@@ -1,7 +1,7 @@
 //! References that touch no word: the target of a transfer or of a call, the place of a word, and
 //! R1.
 
-ghost use Rattle.std.specs.Prelude.{ℕ, ◌≡◌, ◌<◌, ◌^◌, ◌==◌, [], Ok, IfOk, length};
+ghost use Rattle.std.specs.Prelude.{◌≡◌, ◌<◌, ◌^◌, ◌==◌, [], Ok, IfOk, length};
 ghost use Rattle.m36_desc.specs.Access.{unless_violation, first_violation, has_ordered_brackets, ordered_rows, transfer_rows, call_rows, ring_after_call};
 ghost use Rattle.m36_model.specs.Core.{core_store};
 ghost use Rattle.m36_model.specs.Place.{core_sdw};

@@ -1,5 +1,4 @@
 -- The names of the components were taken from the bind file, or not.
-use Rattle.std.proofs.Common.{sym}
 use Rattle.cmd_tools.proofs.ToolSteps.{text_read, text_unread}
 use Rattle.cmd_tools.proofs.binding.parse_and_bind.Goals as goal
 

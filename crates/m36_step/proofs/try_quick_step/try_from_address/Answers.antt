@@ -1,4 +1,3 @@
-use Rattle.std.proofs.Common.{refl}
 use Rattle.m36_step.proofs.GoingOn.{addressed_on}
 use Rattle.m36_step.proofs.try_quick_step.try_from_address.Goals as goal
 

@@ -1,4 +1,3 @@
-use Rattle.std.proofs.Common.{refl}
 use Rattle.m36_step.proofs.GoingOn.{decoded_on, no_ldbr}
 use Rattle.m36_step.proofs.try_quick_step.try_from_word.Goals as goal
 

@@ -1,4 +1,3 @@
-use Rattle.std.proofs.Common.{List}
 use Rattle.std.specs.Prelude.{option_map}
 use Rattle.m36_bind.proofs.GivenLaws.{found_at}
 use Rattle.m36_bind.proofs.given.NamedObjects.find.Goals as goal

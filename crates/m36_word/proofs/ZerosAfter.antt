@@ -10,7 +10,7 @@ zeros n = replicate n 0
 abbrev pub filled : List ℕ → ℕ → List ℕ
 filled numbers count = numbers ++ zeros (count - length numbers)
 
-length-zeros : (n : ℕ) → length (zeros n) ≡ n
+pub length-zeros : (n : ℕ) → length (zeros n) ≡ n
 length-zeros n = length-replicate {A = ℕ} n 0
 
 pub length-filled : (numbers : List ℕ) (count : ℕ) → length numbers ≤ count → length (filled numbers count) ≡ count
@@ -32,10 +32,6 @@ read-after (w ∷ numbers) n (suc i) = read-after numbers n i
 
 pub get_or-filled : (numbers : List ℕ) (count i : ℕ) → get_or (filled numbers count) i 0 ≡ get_or numbers i 0
 get_or-filled numbers count i = read-after numbers (count - length numbers) i
-
--- past those that are written all are zero
-pub past-filled : (numbers : List ℕ) (count i : ℕ) → length numbers ≤ i → get_or (filled numbers count) i 0 ≡ 0
-past-filled numbers count i past = get_or-filled numbers count i ∙ get_or_past numbers i 0 past
 
 -- written up to a number, they read as before
 filled-twice : (numbers : List ℕ) (n count : ℕ) → length numbers ≤ count → n ≤ count → filled (filled numbers n) count ≡ filled numbers count
