@@ -14,7 +14,7 @@ use crate::segment_runs::count_segments;
 use crate::table_words::mark_tables;
 use crate::tables::TableMarks;
 use crate::verdict::{Verdict, note};
-use crate::word_count::{first_table_and_segment_word, first_word_in_two_segments};
+use crate::words::{first_table_and_segment_word, first_word_in_two_segments};
 use arrayvec::ArrayVec;
 use m36_core::Core;
 use m36_desc::Dbr;

@@ -72,7 +72,7 @@ mod segment_runs;
 mod table_words;
 mod tables;
 pub mod verdict;
-mod word_count;
+mod words;
 
 pub use auditor::audit;
 pub use joint_auditor::joint_audit;

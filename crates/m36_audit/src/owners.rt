@@ -8,7 +8,7 @@ ghost use Rattle.m36_audit.specs.WordOwners.{with_owner_at, AreOwned};
 use crate::recorded::RecordedNumbers;
 use crate::run::RunCounts;
 use crate::tables::TableMarks;
-use crate::word_count::open_runs_at;
+use crate::words::open_runs_at;
 use m36_core::Core;
 use m36_desc::Dbr;
 

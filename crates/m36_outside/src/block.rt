@@ -7,7 +7,7 @@ ghost use Rattle.m36_outside.specs.Gathered.{Adds};
 ghost use Rattle.m36_outside.specs.Passing.{joined, TakesLines};
 ghost use Rattle.m36_outside.specs.Put.{PutResult, PutHasCause, OnFailed};
 
-use crate::log::{Entries, Log};
+use crate::call_log::{Entries, Log};
 use crate::sink::{Put, Sink};
 use crate::spelled::{SHORT, Spelled};
 use crate::text::Text;

@@ -10,7 +10,7 @@ use crate::faults::{count_after_put, count_after_read};
 use crate::file_logs::FileLogs;
 use crate::folder::{Folder, ReadAnswer, WriteAnswer};
 use crate::folder_calls::FolderCalls;
-use crate::log::Log;
+use crate::call_log::Log;
 use crate::reading::read_and_log;
 use crate::replacing::write_file;
 use crate::sink::Put;

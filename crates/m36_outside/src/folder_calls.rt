@@ -3,7 +3,7 @@
 ghost use Rattle.std.specs.Prelude.{[], ◌∷◌, ◌++◌, ◌≡◌};
 
 use crate::folder::{ReadAnswer, WriteAnswer};
-use crate::log::{Entries, Log};
+use crate::call_log::{Entries, Log};
 use crate::text::Text;
 
 impl Entries<(Text, ReadAnswer)> for (&[u8], &ReadAnswer) {

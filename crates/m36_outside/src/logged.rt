@@ -8,7 +8,7 @@ ghost use Rattle.std.specs.Bool.{OnTrue, OnFalse};
 ghost use Rattle.std.specs.Io.KnownBytes.{Appends, Consumes, IsAtEnd, Keeps};
 ghost use Rattle.m36_outside.specs.Signals.{Signals, IsFault, GivesUp};
 
-use crate::log::{Entries, Log};
+use crate::call_log::{Entries, Log};
 use crate::text::Text;
 use std::io::{Error, ErrorKind, Read, Write};
 

@@ -8,7 +8,7 @@ ghost use Rattle.m36_outside.specs.Piece.{PieceResult, PieceHasCause};
 use crate::calls::Calls;
 use crate::faults::raise;
 use crate::lines::{Lines, Piece};
-use crate::log::Log;
+use crate::call_log::Log;
 use crate::remaining::Remaining;
 use crate::text::Text;
 use m36_word::NoMemory;

@@ -7,7 +7,7 @@ ghost use Rattle.m36_outside.specs.Put.{PutResult, PutHasCause};
 use crate::block::Block;
 use crate::calls::Calls;
 use crate::faults::raise;
-use crate::log::Log;
+use crate::call_log::Log;
 use crate::sink::{Put, Sink};
 use crate::text::Text;
 use m36_word::NoMemory;

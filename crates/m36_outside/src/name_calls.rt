@@ -6,7 +6,7 @@
 ghost use Rattle.std.specs.Prelude.{[], ◌∷◌, ◌++◌, ◌+◌, ◌≡◌, ◌<◌, true, false, MatchResult, MatchOption};
 ghost use Rattle.m36_outside.specs.NameCalls.{ErrorUnless, MakesSpare, MakesNone, spare_name};
 
-use crate::log::{Entries, Log};
+use crate::call_log::{Entries, Log};
 use crate::text::Text;
 use arrayvec::ArrayString;
 use std::fs;

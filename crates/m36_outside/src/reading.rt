@@ -10,7 +10,7 @@ ghost use Rattle.m36_outside.specs.System.{OpenHasError, PieceHasError};
 
 use crate::folder::{FILE_LIMIT, ReadAnswer};
 use crate::lines::Piece;
-use crate::log::Log;
+use crate::call_log::Log;
 use crate::logged::LoggedReader;
 use crate::text::Text;
 use m36_word::NoMemory;

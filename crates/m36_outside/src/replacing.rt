@@ -11,7 +11,7 @@ ghost use Rattle.m36_outside.specs.System.{FileHasError, NotesWrite, PutHasError
 
 use crate::directory::name_of_file;
 use crate::file_logs::FileLogs;
-use crate::log::Log;
+use crate::call_log::Log;
 use crate::name_calls::{make_spare, remove, rename};
 use crate::sink::Put;
 use crate::writing::write_and_log;

@@ -7,7 +7,7 @@ ghost use Rattle.m36_outside.specs.System.{PutHasError};
 
 use crate::block::{Block, TakenPart};
 use crate::faults::count_after_put;
-use crate::log::Log;
+use crate::call_log::Log;
 use crate::sink::{Put, Sink};
 use crate::text::Text;
 use crate::writing::write_and_log;

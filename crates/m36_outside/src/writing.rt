@@ -6,7 +6,7 @@ ghost use Rattle.m36_outside.specs.Put.{PutResult};
 ghost use Rattle.m36_outside.specs.Signals.{Signals, GivesUp};
 ghost use Rattle.m36_outside.specs.System.{NotesDone, PutHasError};
 
-use crate::log::Log;
+use crate::call_log::Log;
 use crate::logged::WriterLogs;
 use crate::sink::Put;
 use std::io::{ErrorKind, Write};

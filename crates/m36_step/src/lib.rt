@@ -49,7 +49,7 @@ mod references;
 mod shown;
 pub mod stepper;
 mod targets;
-mod try_quick_step;
+mod quick;
 pub mod turns;
 mod writes;
 

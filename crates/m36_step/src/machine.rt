@@ -18,7 +18,7 @@ use crate::hurry::run_quick_steps;
 use crate::recording::record_end;
 use crate::shown::take_shown_step;
 use crate::stepper::{Replay, Stepper};
-use crate::try_quick_step::try_quick_step;
+use crate::quick::try_quick_step;
 use crate::turns::{BackAnswer, Turn};
 use m36_core::Core;
 use m36_isol::law_audit_preserved;

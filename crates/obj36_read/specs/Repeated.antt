@@ -7,7 +7,7 @@ use Rattle.std.specs.Cmp.Lexicographic.{pointwise}
 use Rattle.obj36_read.specs.Reading.{quarter_at}
 use Rattle.obj36_read.specs.TableFaults.{earlier, next_definition, name_offset_at, name_is_within}
 use Rattle.obj36_read.specs.Spelled.{words_but_last, last_word_value}
-use Rattle.obj36_read.specs.declared.first_repeat.Spelling.{Spelling}
+use Rattle.obj36_read.specs.declared.repeats.Spelling.{Spelling}
 
 -- whether the name at a place has this spelling
 unfoldable pub has_spelling : List ℕ → ℕ → Spelling → Bool

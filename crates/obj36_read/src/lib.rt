@@ -10,7 +10,7 @@
 //! Source: the format is this project's own.
 #![tactic(auto)]
 
-mod first_repeat;
+mod repeats;
 pub mod linking;
 mod lists;
 pub mod map;

@@ -10,7 +10,7 @@ ghost use Rattle.obj36_read.specs.TableFaults.{first_expression, expressions_lea
 ghost use Rattle.obj36_read.specs.TableFaults.{first_bad_class, name_offset_at, name_is_within, is_at_head};
 ghost use Rattle.obj36_read.specs.TableFaults.{members_fault, table_fault};
 
-use crate::first_repeat::fault_of_repeats;
+use crate::repeats::fault_of_repeats;
 use crate::reading::{quarter_from, word_at};
 use m36_word::{NoMemory, Word};
 use obj36_parts::checks::greatest_class;
