@@ -24,7 +24,12 @@ initial_session_state = record { taken = 0; ended = None; breaks = [] }
 -- kept
 unfoldable pub session_state_after : SessionStateFields → Turn → SessionStateFields
 session_state_after s (Stepped result_of_put) =
-    record { taken = step_count_after s.taken (Stepped result_of_put); ended = s.ended; breaks = s.breaks }
+    record {
+      taken = step_count_after s.taken
+          (Stepped result_of_put);
+      ended = s.ended;
+      breaks = s.breaks;
+    }
 session_state_after s (Linked note) = s
 session_state_after s (Console text) = s
 session_state_after s (Ended end) =

@@ -18,8 +18,8 @@ use m36_step::Stepper;
 use m36_world::World;
 use std::alloc::Global;
 
-/// Answers the whole lines of a piece. `activity_after_line` has the part of a line that came before the piece,
-/// and afterwards the bytes after the last line feed.
+/// Answers the whole lines of a piece. `activity_after_line` has the part of a line that came
+/// before the piece, and afterwards the bytes after the last line feed.
 pub(crate) fn answer_piece<M: Stepper, W: World>(
     alloc: Global,
     piece: &[u8],
@@ -32,7 +32,8 @@ pub(crate) fn answer_piece<M: Stepper, W: World>(
     requires unbroken { IsUnbroken activity_after_line.old }
     requires few { sitting.old.taken + most_steps * length piece.now < 2 ^ 62 }
     ensures says { PieceContract (machine_relations M.regs M.content M.next M.went) result
-        (standing sitting.old Waiting) m.old (activity_after_line.old ++ piece.now) activity_after_line.new sitting.new m.new
+        (standing sitting.old Waiting) m.old (activity_after_line.old ++ piece.now)
+        activity_after_line.new sitting.new m.new
         (pending block.old (W.seen world.old))
         (pending block.new (W.seen world.new)) }
     ensures taken { sitting.new.taken ≤ sitting.old.taken + most_steps * length piece.now }
@@ -70,7 +71,8 @@ pub(crate) fn answer_last<M: Stepper, W: World>(
 ) -> LineResult
     requires { sitting.old.taken < 2 ^ 62 }
     ensures { LineContract (machine_relations M.regs M.content M.next M.went) result
-        (standing sitting.old Waiting) m.old (open_last_line activity_after_line.now) sitting.new m.new
+        (standing sitting.old Waiting) m.old (open_last_line activity_after_line.now) sitting.new
+        m.new
         (pending block.old (W.seen world.old))
         (pending block.new (W.seen world.new)) }
 {

@@ -109,7 +109,8 @@ fn reply_piece<M: Stepper, W: World>(
     requires unbroken { IsUnbroken activity_after_line.old }
     requires few { sitting.old.taken + most_steps * length piece.now < 2 ^ 62 }
     ensures says { PieceContract (machine_relations M.regs M.content M.next M.went) result
-        (standing sitting.old Waiting) m.old (activity_after_line.old ++ piece.now) activity_after_line.new sitting.new m.new
+        (standing sitting.old Waiting) m.old (activity_after_line.old ++ piece.now)
+        activity_after_line.new sitting.new m.new
         (pending block.old (W.seen world.old)) (pending block.new (W.seen world.new)) }
     ensures taken { sitting.new.taken ≤ sitting.old.taken + most_steps * length piece.now }
     ensures empty { block.new ≡ [] }
@@ -129,7 +130,8 @@ fn reply_last<M: Stepper, W: World>(
 ) -> LineResult
     requires { sitting.old.taken < 2 ^ 62 }
     ensures says { LineContract (machine_relations M.regs M.content M.next M.went) result
-        (standing sitting.old Waiting) m.old (open_last_line activity_after_line.now) sitting.new m.new
+        (standing sitting.old Waiting) m.old (open_last_line activity_after_line.now) sitting.new
+        m.new
         (pending block.old (W.seen world.old)) (pending block.new (W.seen world.new)) }
     ensures empty { block.new ≡ [] }
 {
@@ -149,7 +151,8 @@ pub fn debug<M: Stepper, W: World>(
 ) -> Result<(), SessionFault>
     ensures performs { Performs (session (machine_relations M.regs M.content M.next M.went) m.old)
         (ended_by result) (W.seen world.old) (W.seen world.new) }
-    ensures says { SessionContractInWorld (machine_relations M.regs M.content M.next M.went) result m.old m.new
+    ensures says { SessionContractInWorld (machine_relations M.regs M.content M.next M.went) result
+        m.old m.new
         (W.seen world.old) (W.seen world.new) }
     ensures limit { StepsWithin (machine_relations M.regs M.content M.next M.went) }
 {

@@ -1,6 +1,7 @@
 //! A block: pieces of output that are put at once.
 
-ghost use Rattle.std.specs.Prelude.{ℕ, [], ◌∷◌, ◌++◌, ◌+◌, ◌≡◌, ◌<◌, ◌≤◌, ◌==◌, length, get_or, take, slice_range};
+ghost use Rattle.std.specs.Prelude.{ℕ, [], ◌∷◌, ◌++◌, ◌+◌, ◌≡◌, ◌<◌, ◌≤◌, ◌==◌, length, get_or};
+ghost use Rattle.std.specs.Prelude.{take, slice_range};
 ghost use Rattle.std.specs.Bool.{OnTrue, OnFalse};
 ghost use Rattle.m36_outside.specs.Block.{has_room, is_room, offsets_of};
 ghost use Rattle.m36_outside.specs.Gathered.{Adds};

@@ -3,7 +3,8 @@
 //! The system is called by `make_new`, `rename` and `remove`. Each logs the call and whether the
 //! system did it.
 
-ghost use Rattle.std.specs.Prelude.{[], ◌∷◌, ◌++◌, ◌+◌, ◌≡◌, ◌<◌, true, false, MatchResult, MatchOption};
+ghost use Rattle.std.specs.Prelude.{[], ◌∷◌, ◌++◌, ◌+◌, ◌≡◌, ◌<◌, true, false, MatchResult};
+ghost use Rattle.std.specs.Prelude.{MatchOption};
 ghost use Rattle.m36_outside.specs.NameCalls.{ErrorUnless, MakesSpare, MakesNone, spare_name};
 
 use crate::call_log::{Entries, Log};

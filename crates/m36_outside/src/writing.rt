@@ -1,6 +1,7 @@
 //! The loop over the writes of std, each of which may take less than it is given.
 
-ghost use Rattle.std.specs.Prelude.{◌≡◌, ◌≤◌, ◌<◌, ◌-◌, ◌++◌, Some, IfSome, IfNone, MatchOption, length, take, drop};
+ghost use Rattle.std.specs.Prelude.{◌≡◌, ◌≤◌, ◌<◌, ◌-◌, ◌++◌, Some, IfSome, IfNone, MatchOption};
+ghost use Rattle.std.specs.Prelude.{length, take, drop};
 ghost use Rattle.std.specs.Io.KnownBytes.{Appends, Keeps};
 ghost use Rattle.m36_outside.specs.Put.{PutResult};
 ghost use Rattle.m36_outside.specs.Signals.{Signals, GivesUp};

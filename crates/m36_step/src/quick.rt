@@ -3,7 +3,8 @@
 //! All checks are made first. False: the step is not quick, and nothing has changed; `execute`
 //! then takes it from its beginning.
 
-ghost use Rattle.std.specs.Prelude.{◌≡◌, ◌<◌, ◌^◌, None, Ok, Some, IsTrue, IsFalse, length, slice_index};
+ghost use Rattle.std.specs.Prelude.{◌≡◌, ◌<◌, ◌^◌, None, Ok, Some, IsTrue, IsFalse, length};
+ghost use Rattle.std.specs.Prelude.{slice_index};
 ghost use Rattle.m36_inst.specs.Quick.{IsQuick};
 ghost use Rattle.m36_inst.specs.declared.rows.Group.TheVariants as group;
 ghost use Rattle.m36_model.specs.Act.{Fetch};
@@ -25,9 +26,9 @@ use m36_model::{At, Final, Kind, Regs};
 use m36_walk::Walk;
 use m36_word::Word;
 
-/// Executes an instruction whose group is not in `try_at_address`, given the parts of its final address.
-/// It is a separate function because `try_at_address` with all groups would be too large to be inlined:
-/// the compiler then ignores `inline(always)`.
+/// Executes an instruction whose group is not in `try_at_address`, given the parts of its final
+/// address. It is a separate function because `try_at_address` with all groups would be too large
+/// to be inlined: the compiler then ignores `inline(always)`.
 #[inline(never)]
 fn try_other_group<R: Recorder>(
     walk: &mut Walk,

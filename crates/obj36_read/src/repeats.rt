@@ -99,7 +99,8 @@ fn add_place<'a>(
     place: u64,
 ) -> Result<Option<u64>, NoMemory>
     requires { place < 2 ^ 18 }
-    ensures value { IfOk result (λ here. here ≡ least_earlier_place d.now places.old.entries place) }
+    ensures value { IfOk result (λ here. here ≡ least_earlier_place d.now places.old.entries
+        place) }
     ensures bound { IfOk result (λ here. IfSome here (λ p. p < 2 ^ 20)) }
     ensures more { OnOk result ((at : ℕ) → least_earlier_place d.now places.new.entries at
         ≡ earlier (least_earlier_place d.now places.old.entries at)
