@@ -29,7 +29,8 @@ midstep_after_address core f refs = midstep_with core (claimed_by f.tally f.plac
 -- references.
 abbrev pub formation_end :
     List ℕ → List Reference → Result Formed Halt → ProgramResult (Result ChainEnd Halt) (List ℕ)
-formation_end core refs (Ok f) = record { value = Ok (chain_end_fields f); mid = midstep_after_address core f refs }
+formation_end core refs (Ok f) =
+    record { value = Ok (chain_end_fields f); mid = midstep_after_address core f refs }
 formation_end core refs (Err h) = record { value = Err h; mid = midstep_with core [] refs }
 
 -- an address without a tally word

@@ -330,7 +330,8 @@ decode w = option_map effect_and_number (row_at (inst_of w).code (inst_of w).bit
 -- executes the instruction that was decoded from the word w; the machine stops if there is none
 abbrev pub execute_decoded : RegsFields → ℕ → Bool → Option (Effect × ℕ) → Act Ending
 execute_decoded g w privileged None = end_halted g (Some w) None (halt.Stop stop.Operation)
-execute_decoded g w privileged (Some row) = execute_unless_barred row.0 row.1 g w (is_barred row.0 privileged)
+execute_decoded g w privileged (Some row) =
+    execute_unless_barred row.0 row.1 g w (is_barred row.0 privileged)
 
 -- The right to privileged instructions: the segment that has the instruction is privileged, and the
 -- ring is 0.
@@ -341,7 +342,8 @@ has_right d ring = d.privileged && (ring == 0)
 abbrev pub execute_fetched : RegsFields → Result Answer Fault → Act Ending
 execute_fetched g (Err f) = end_halted g None None (halt.Fault f)
 execute_fetched g (Ok a) =
-    execute_decoded g (slice_index a.words 0) (has_right a.sdw g.ppr.prr) (decode (slice_index a.words 0))
+    execute_decoded g (slice_index a.words 0) (has_right a.sdw g.ppr.prr)
+    (decode (slice_index a.words 0))
 
 -- the request for the instruction word, in the ring of execution
 abbrev pub fetch_request : RegsFields → Request

@@ -25,9 +25,9 @@ use m36_model::{At, Final, Kind, Regs};
 use m36_walk::Walk;
 use m36_word::Word;
 
-/// Executes an instruction whose group is not in `try_at_address`, given the parts of its final address.
-/// It is a separate function because `try_at_address` with all groups would be too large to be inlined:
-/// the compiler then ignores `inline(always)`.
+/// Executes an instruction whose group is not in `try_at_address`, given the parts of its final
+/// address. It is a separate function because `try_at_address` with all groups would be too large
+/// to be inlined: the compiler then ignores `inline(always)`.
 #[inline(never)]
 fn try_other_group<R: Recorder>(
     walk: &mut Walk,

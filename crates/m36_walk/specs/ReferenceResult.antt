@@ -43,8 +43,8 @@ result_after_rights d (Err f) places = Err f
 abbrev pub result_after_descriptor : (SdwFields → Result Unit Acv)
     → (SdwFields → Result (List Spot) (ℕ × Refusal)) → AtFields → Result SdwFields Fault
     → Result ReferenceResult Fault
-result_after_descriptor rights places at (Ok d) = result_after_rights d (violation_as_fault at (rights d))
-    (places_as_fault at (places d))
+result_after_descriptor rights places at (Ok d) =
+    result_after_rights d (violation_as_fault at (rights d)) (places_as_fault at (places d))
 result_after_descriptor rights places at (Err f) = Err f
 
 -- a reference from its parts: the descriptor of the segment, the rights that it gives, and the
@@ -52,7 +52,8 @@ result_after_descriptor rights places at (Err f) = Err f
 unfoldable pub reference_result : (SdwFields → Result Unit Acv)
     → (SdwFields → Result (List Spot) (ℕ × Refusal)) → Result SdwFields Refusal → AtFields
     → Result ReferenceResult Fault
-reference_result rights places sdw at = result_after_descriptor rights places at (refusal_as_fault at sdw)
+reference_result rights places sdw at =
+    result_after_descriptor rights places at (refusal_as_fault at sdw)
 
 -- the result of the code as that of the definitions: the spots are a run of `count` words from the
 -- place that it has found
