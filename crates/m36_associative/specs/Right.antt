@@ -96,8 +96,8 @@ module _ (core : List ℕ) (dbr : DbrFields) (words tables : List ℕ) where
 
   -- a page in front by its key, which determines segment and page; key 0 is that of no page
   abbrev pub IsPageInFront : Page → Type 0
-  IsPageInFront p = (seg page : ℕ) → page < 256 → p.key ≡ page_key seg page
-  → DescribesPage p seg page
+  IsPageInFront p =
+      (seg page : ℕ) → page < 256 → p.key ≡ page_key seg page → DescribesPage p seg page
 
   -- the page that is fetched from: a page in front, in one ring
   pub record IsFetching (f : Fetching) : Type 0 where

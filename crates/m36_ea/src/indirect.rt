@@ -69,7 +69,7 @@ fn indirect_word(walk: &mut Walk, regs: &Regs, tpr: &Tpr, word: u32) -> Result<(
     ensures dbr { walk.new.dbr ≡ walk.old.dbr }
     ensures len { length walk.new.core ≡ length walk.old.core }
 {
-    walk.indirect(tpr.at(word), procedure_segment(regs))
+    walk.read_indirect(tpr.at(word), procedure_segment(regs))
 }
 
 /// Reads the odd word of a pair, and appends the completed reference: to both words or, if the odd

@@ -93,8 +93,8 @@ there rows code bit27 e all h = found_sound (has_code code bit27) (λ x. list_an
 complete_by :
     (rows : List CodeOfName) (code : ℕ) (bit27 : Bool) (name : List ℕ) (o : Option Entry) → all_there rows ≡ true → entry_at code bit27 ≡ o
     → option_map (λ e. e.name) o ≡ Some name → HasRow rows code bit27 (key name)
-complete_by rows code bit27 name None all h named_row = absurd cc
-complete_by rows code bit27 name (Some e) all h named_row =
+complete_by rows code bit27 name None all h named = absurd cc
+complete_by rows code bit27 name (Some e) all h named =
     let f = found code bit27 e h in
     let same : e.name ≡ name = cc in
     let row = row_of_entry rows e (there rows code bit27 e all h) in
@@ -110,7 +110,7 @@ index_of : (rows : List CodeOfName) → is_rising (keys rows) ≡ true → all_t
 index_of rows order all =
     record {
       rising = rises rows order;
-      complete = λ code bit27 name named_row. complete_by rows code bit27 name (entry_at code bit27) all refl named_row;
+      complete = λ code bit27 name named. complete_by rows code bit27 name (entry_at code bit27) all refl named;
     }
 
 in_order : is_rising (keys NAMES) ≡ true
@@ -146,8 +146,8 @@ pub absent :
     → ((i : ℕ) → i < length rows → key_at rows i ≡ wanted → ⊥) → code_named name ≡ None
 absent rows name wanted index same none =
     unnamed name
-    (λ code bit27 named_row.
-    let row = index.complete code bit27 name named_row in
+    (λ code bit27 named.
+    let row = index.complete code bit27 name named in
     none row.place row.inside (row.key_is ∙ sym same))
 
 place_by :
@@ -174,11 +174,11 @@ pub other :
     → code ≡ code_at rows i → bit27 ≡ bit27_at rows i → (name_at code bit27 ≡ Some name → ⊥) → code_named name ≡ None
 other rows name i code bit27 index within same code_is bit27_is unlike =
     unnamed name
-    (λ c b named_row.
-    let row = index.complete c b name named_row in
+    (λ c b named.
+    let row = index.complete c b name named in
     let place : row.place ≡ i = one_place rows row.place i index.rising row.inside within (row.key_is ∙ sym same) in
     let code_too : code ≡ c = code_is ∙ ap (λ k. code_at rows k) (sym place) ∙ row.code_is in
     let bit27_too : bit27 ≡ b = bit27_is ∙ ap (λ k. bit27_at rows k) (sym place) ∙ row.bit27_is in
-    unlike (ap (λ k. name_at k bit27) code_too ∙ ap (λ k. name_at c k) bit27_too ∙ named_row))
+    unlike (ap (λ k. name_at k bit27) code_too ∙ ap (λ k. name_at c k) bit27_too ∙ named))
 
 pub ruleset named_or_not = (named_code, other)

@@ -207,8 +207,8 @@ module _ {S : Type 0} (o : Store S) (quiet : (x : S) → o.put x [] ≡ x) (s : 
   case_tells (no_instruction w right m f none l) =
       on_decoded w right m f None none (halts m (Some w) None (halt.Stop stop.Operation) l)
   case_tells (privilege_refused w m i n f row privileged l) =
-      let refusing_violation : (is_privileged i && not false) ≡ true = ap (λ (b : Bool). b && true) privileged in
-      on_decoded w false m f (Some (i, n)) row (subst (λ (b : Bool). Tells (run o s.regs (execute_unless_barred i n s.regs w b) m)) (sym refusing_violation) (halts m (Some w) None (halt_at 10 (here s.regs)) l))
+      let denied : (is_privileged i && not false) ≡ true = ap (λ (b : Bool). b && true) privileged in
+      on_decoded w false m f (Some (i, n)) row (subst (λ (b : Bool). Tells (run o s.regs (execute_unless_barred i n s.regs w b) m)) (sym denied) (halts m (Some w) None (halt_at 10 (here s.regs)) l))
   case_tells (no_address_case w m i n a none l) =
       on_admitted w i n m a (subst (λ (k : Operand). Tells (run o s.regs (execute_admitted i n s.regs w k) m)) (sym none) (at_once_tells i w m l))
   case_tells (address_refused w before m i n h a forms known l) =

@@ -96,7 +96,8 @@ abbrev pub after_tally_read_by :
 after_tally_read_by o g s a m true =
     ends_with (without_tally (tally_final s.point (tally_address (slice_index a.words 0)))) m
 after_tally_read_by o g s a m false =
-    let t = serve o g m (indirect_request Write s.point s.point.y) in after_tally_claim s a t.mid t.reply
+    let t = serve o g m (indirect_request Write s.point s.point.y) in
+    after_tally_claim s a t.mid t.reply
 
 -- what follows the reference to the tally word: as `after_tally_read_by`, or the refusal of this
 -- word
@@ -109,7 +110,8 @@ after_tally_read o g s m (Err f) = refused_with (halt.Fault f) m
 -- otherwise the lockup
 abbrev pub at_tally_word : {S : Type 0} → Store S → RegsFields → Stage S → Bool → ChainStep S
 at_tally_word o g s true =
-    let t = serve o g s.mid (indirect_request Indirect s.point s.point.y) in after_tally_read o g s t.mid t.reply
+    let t = serve o g s.mid (indirect_request Indirect s.point s.point.y) in
+    after_tally_read o g s t.mid t.reply
 at_tally_word o g s false = refused_with (lockup s.point s.point.y) s.mid
 
 -- what follows a point, by what its tag does

@@ -43,8 +43,8 @@ pub record HasMarksOfCompleted {S : Type 0} (o : Store S) (s : State S) : Type 0
       ≡ with_marks_of o s.regs.dbr s.store
       (completed_requests o s.regs (program s.regs) (start_of_step s))
   pub references :
-      (run_of_step o s).mid.refs ≡ references_of []
-      (completed_requests o s.regs (program s.regs) (start_of_step s))
+      (run_of_step o s).mid.refs
+      ≡ references_of [] (completed_requests o s.regs (program s.regs) (start_of_step s))
 
 -- In every step, exactly the marks of the completed references are set before words are written.
 abbrev pub MarksOfCompletedReferences : Type 0

@@ -38,8 +38,7 @@ event o s i g =
     record {
       process = i;
       before = s;
-      told = record_of o
-          (process_of s g);
+      told = record_of o (process_of s g);
       after = processes_after o s i g;
     }
 

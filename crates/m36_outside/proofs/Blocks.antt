@@ -59,9 +59,9 @@ pub block_more :
     → pieces' ≡ pieces ++ piece ∷ []
     → IsStored bytes' offsets' len' count' pieces'
 block_more bytes offsets bytes' offsets' len count len' count' pieces pieces' piece lie room end next put marked are =
-    let split_at_pieces = and_parts (nat_lt count 2048) (nat_le (len + length piece) 32768) room in
-    let few : count < 2048 = ltb-true count 2048 split_at_pieces.0 in
-    let fits : len + length piece ≤ 32768 = leb-true (len + length piece) 32768 split_at_pieces.1 in
+    let parts = and_parts (nat_lt count 2048) (nat_le (len + length piece) 32768) room in
+    let few : count < 2048 = ltb-true count 2048 parts.0 in
+    let fits : len + length piece ≤ 32768 = leb-true (len + length piece) 32768 parts.1 in
     let whole = lie.len_is in
     let many = lie.count_is in
     let all = joined_more pieces piece in
@@ -90,9 +90,9 @@ block_room bytes offsets len count pieces piece lie =
 pub room_less :
     (len count wanted most : ℕ) → is_room len count most ≡ true → wanted ≤ most → is_room len count wanted ≡ true
 room_less len count wanted most room less =
-    let split_at_pieces = and_parts (nat_lt count 2048) (nat_le (len + most) 32768) room in
-    let fits : len + most ≤ 32768 = leb-true (len + most) 32768 split_at_pieces.1 in
-    and_from (nat_lt count 2048) (nat_le (len + wanted) 32768) split_at_pieces.0 (le-leb (len + wanted) 32768 (omega arith))
+    let parts = and_parts (nat_lt count 2048) (nat_le (len + most) 32768) room in
+    let fits : len + most ≤ 32768 = leb-true (len + most) 32768 parts.1 in
+    and_from (nat_lt count 2048) (nat_le (len + wanted) 32768) parts.0 (le-leb (len + wanted) 32768 (omega arith))
 
 -- ---- the piece with an index
 
@@ -205,11 +205,11 @@ pub block_cut :
     → Grew start now (joined (take place pieces)) → GrewWithin now next piece
     → place < length pieces → piece ≡ get_or pieces place [] → GrewWithin start next (joined pieces)
 block_cut start now next pieces place piece first more inside is =
-    let split_at_pieces : joined pieces ≡ (joined (take place pieces) ++ piece) ++ joined (drop (place + 1) pieces) =
+    let parts : joined pieces ≡ (joined (take place pieces) ++ piece) ++ joined (drop (place + 1) pieces) =
     ap joined (split_at pieces place piece inside is)
     ∙ joined_both (take place pieces) (piece ∷ drop (place + 1) pieces)
     ∙ sym (append_assoc (joined (take place pieces)) piece (joined (drop (place + 1) pieces))) in
-    subst (λ t. GrewWithin start next t) (sym split_at_pieces)
+    subst (λ t. GrewWithin start next t) (sym parts)
     (grew_longer start next (joined (take place pieces) ++ piece) (joined (drop (place + 1) pieces))
     (grew_more start now next (joined (take place pieces)) piece first more))
 

@@ -138,11 +138,11 @@ pub completes_added :
     → Completes now start (joined old ++ before) all → before ≡ piece ++ left
     → Gathers old new (piece ∷ []) now next taken taken' → Completes next start (joined new ++ left) all
 completes_added now next start taken taken' old new piece before left all run begins added =
-    let split_at_pieces : joined old ++ piece ≡ joined added.handed ++ joined new =
+    let parts : joined old ++ piece ≡ joined added.handed ++ joined new =
     sym (joined_more old piece) ∙ ap joined added.due ∙ joined_both added.handed new in
     let same : joined old ++ before ≡ joined added.handed ++ (joined new ++ left) =
     ap (λ l. joined old ++ l) begins ∙ sym (append_assoc (joined old) piece left)
-    ∙ ap (λ l. l ++ left) split_at_pieces ∙ append_assoc (joined added.handed) (joined new) left in
+    ∙ ap (λ l. l ++ left) parts ∙ append_assoc (joined added.handed) (joined new) left in
     completes_rest now next start (joined old ++ before) (joined added.handed) (joined new ++ left) all run same added.grew
 
 pub lines_added :

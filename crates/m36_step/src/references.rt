@@ -51,7 +51,7 @@ pub(crate) fn read_word(
     ensures count { length refs.new.items ≤ length refs.old.items + 1 }
 {
     let at = end_address(formed);
-    match walk.operand(at, procedure_segment(regs), &pending_tally(formed)) {
+    match walk.read_operand(at, procedure_segment(regs), &pending_tally(formed)) {
         Ok(word) => {
             add_aligned_reference(refs, Kind::Read, at, 1);
             Ok(word)

@@ -38,8 +38,8 @@ module _ (at : AtFields) (count : ℕ) (d : SdwFields) (words : List ℕ) where
   -- a Write that was refused
   pub written_refused : (s : ServeResult (List ℕ)) (new : List ℕ) (f : Fault) → s ≡ served_with_result (request Write at count []) new [] [] (result_at_place d count (Err f)) → IsServedWrite s new words (Err f)
   written_refused s new f e =
-      let empty_orders : core_put new (changes [] (puts_from Whole 0 words)) ≡ new = rw (unclaimed 0 words) (core_quiet new) in
-      subst (λ (t : ServeResult (List ℕ)). IsServedWrite t new words (Err f)) (sym e) (record { told = refl; core = sym empty_orders })
+      let nothing : core_put new (changes [] (puts_from Whole 0 words)) ≡ new = rw (unclaimed 0 words) (core_quiet new) in
+      subst (λ (t : ServeResult (List ℕ)). IsServedWrite t new words (Err f)) (sym e) (record { told = refl; core = sym nothing })
 
   -- a Write that was answered, and whose words were written from its first address on
   pub written_answered : (s : ServeResult (List ℕ)) (marked new : List ℕ) (a : ℕ) → s ≡ served_with_result (request Write at count []) marked [] [] (result_at_place d count (Ok a)) → length words ≡ count → new ≡ core_put marked (run_changes a words)

@@ -34,10 +34,10 @@ telling : (q : Request) (d d' : SdwFields) (new : List ℕ) (claims : List Spot)
     → served_with_words q d new claims refs (Ok words) ≡ served_with_words q d' new claims refs (Ok words')
 telling q d d' new claims refs words words' e f = λ i. served_with_words q (sym e i) new claims refs (Ok (f i))
 
-words_seen : (new : List ℕ) (changed with_pending : List Change) (a n : ℕ) → changed ≡ with_pending → map (core_word (core_put new changed)) (run_from a n) ≡ words_from (core_put new with_pending) a n
-words_seen new changed with_pending a n e = ap (λ cs. map (core_word (core_put new cs)) (run_from a n)) e ∙ map-run_from (core_put new with_pending) a n
+words_seen : (new : List ℕ) (changed seen : List Change) (a n : ℕ) → changed ≡ seen → map (core_word (core_put new changed)) (run_from a n) ≡ words_from (core_put new seen) a n
+words_seen new changed seen a n e = ap (λ cs. map (core_word (core_put new cs)) (run_from a n)) e ∙ map-run_from (core_put new seen) a n
 
-module _ (g : RegsFields) (dbr : DbrFields) (e : g.dbr ≡ dbr) (core new : List ℕ) (at : AtFields) (count : ℕ) (claims : List Spot) (refs : List Reference) (puts : List Put) (with_pending : List Change) (c : changes claims puts ≡ with_pending) where
+module _ (g : RegsFields) (dbr : DbrFields) (e : g.dbr ≡ dbr) (core new : List ℕ) (at : AtFields) (count : ℕ) (claims : List Spot) (refs : List Reference) (puts : List Put) (seen : List Change) (c : changes claims puts ≡ seen) where
   abbrev d : SdwFields
   d = sdw_in (record { core = core; dbr = dbr }) at.seg
 
@@ -46,27 +46,27 @@ module _ (g : RegsFields) (dbr : DbrFields) (e : g.dbr ≡ dbr) (core new : List
     R d = first_violation (read_rows d at.ring (at.seg == psr))
 
     pub read_told : (result : Result LookupResult Fault) → FoundBy R core dbr at count result → MarksAreSet dbr at false core new result
-        → serve core_store g (midstep_with core claims refs) (request Read at count puts) ≡ served_with_words (request Read at count puts) d new claims refs (run_words new with_pending count (ok_map (λ f. f.place) result))
+        → serve core_store g (midstep_with core claims refs) (request Read at count puts) ≡ served_with_words (request Read at count puts) d new claims refs (run_words new seen count (ok_map (λ f. f.place) result))
     read_told (Ok f) h m =
-        read_served g dbr e core new at count (Ok f) claims refs puts psr k h m ∙ telling (request Read at count puts) f.sdw d new claims refs _ _ (found_sdw R core dbr at count f h) (words_seen new (changes claims puts) with_pending f.place count c)
+        read_served g dbr e core new at count (Ok f) claims refs puts psr k h m ∙ telling (request Read at count puts) f.sdw d new claims refs _ _ (found_sdw R core dbr at count f h) (words_seen new (changes claims puts) seen f.place count c)
     read_told (Err x) h m = read_served g dbr e core new at count (Err x) claims refs puts psr k h m
 
     pub indirect_told : (result : Result LookupResult Fault) → FoundBy R core dbr at count result → MarksAreSet dbr at false core new result
-        → serve core_store g (midstep_with core claims refs) (request Indirect at count puts) ≡ served_with_words (request Indirect at count puts) d new claims refs (run_words new with_pending count (ok_map (λ f. f.place) result))
+        → serve core_store g (midstep_with core claims refs) (request Indirect at count puts) ≡ served_with_words (request Indirect at count puts) d new claims refs (run_words new seen count (ok_map (λ f. f.place) result))
     indirect_told (Ok f) h m =
-        indirect_served g dbr e core new at count (Ok f) claims refs puts psr k h m ∙ telling (request Indirect at count puts) f.sdw d new claims refs _ _ (found_sdw R core dbr at count f h) (words_seen new (changes claims puts) with_pending f.place count c)
+        indirect_served g dbr e core new at count (Ok f) claims refs puts psr k h m ∙ telling (request Indirect at count puts) f.sdw d new claims refs _ _ (found_sdw R core dbr at count f h) (words_seen new (changes claims puts) seen f.place count c)
     indirect_told (Err x) h m = indirect_served g dbr e core new at count (Err x) claims refs puts psr k h m
 
     pub odd_told : (result : Result LookupResult Fault) → FoundBy R core dbr at count result → MarksAreSet dbr at false core new result
-        → serve core_store g (midstep_with core claims refs) (request Odd at count puts) ≡ served_with_words (request Odd at count puts) d new claims refs (run_words new with_pending count (ok_map (λ f. f.place) result))
+        → serve core_store g (midstep_with core claims refs) (request Odd at count puts) ≡ served_with_words (request Odd at count puts) d new claims refs (run_words new seen count (ok_map (λ f. f.place) result))
     odd_told (Ok f) h m =
-        odd_served g dbr e core new at count (Ok f) claims refs puts psr k h m ∙ telling (request Odd at count puts) f.sdw d new claims refs _ _ (found_sdw R core dbr at count f h) (words_seen new (changes claims puts) with_pending f.place count c)
+        odd_served g dbr e core new at count (Ok f) claims refs puts psr k h m ∙ telling (request Odd at count puts) f.sdw d new claims refs _ _ (found_sdw R core dbr at count f h) (words_seen new (changes claims puts) seen f.place count c)
     odd_told (Err x) h m = odd_served g dbr e core new at count (Err x) claims refs puts psr k h m
 
   pub fetch_told : g.ppr.prr ≡ at.ring → (result : Result LookupResult Fault) → FoundBy (λ d. first_violation (fetch_rows d at.ring)) core dbr at count result → MarksAreSet dbr at false core new result
-      → serve core_store g (midstep_with core claims refs) (request Fetch at count puts) ≡ served_with_words (request Fetch at count puts) d new claims refs (run_words new with_pending count (ok_map (λ f. f.place) result))
+      → serve core_store g (midstep_with core claims refs) (request Fetch at count puts) ≡ served_with_words (request Fetch at count puts) d new claims refs (run_words new seen count (ok_map (λ f. f.place) result))
   fetch_told k (Ok f) h m =
-      fetch_served g dbr e core new at count (Ok f) claims refs puts k h m ∙ telling (request Fetch at count puts) f.sdw d new claims refs _ _ (found_sdw (λ d. first_violation (fetch_rows d at.ring)) core dbr at count f h) (words_seen new (changes claims puts) with_pending f.place count c)
+      fetch_served g dbr e core new at count (Ok f) claims refs puts k h m ∙ telling (request Fetch at count puts) f.sdw d new claims refs _ _ (found_sdw (λ d. first_violation (fetch_rows d at.ring)) core dbr at count f h) (words_seen new (changes claims puts) seen f.place count c)
   fetch_told k (Err x) h m = fetch_served g dbr e core new at count (Err x) claims refs puts k h m
 
   pub write_told : (result : Result LookupResult Fault) → FoundBy (λ d. first_violation (write_rows d at.ring)) core dbr at count result → MarksAreSet dbr at true core new result

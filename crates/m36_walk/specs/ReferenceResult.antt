@@ -35,26 +35,25 @@ result_with_places d (Err f) = Err f
 -- the spots of the words decide
 abbrev pub result_after_rights : SdwFields → Result Unit Fault → Result (List Spot) Fault
     → Result ReferenceResult Fault
-result_after_rights d (Ok u) first_place = result_with_places d first_place
-result_after_rights d (Err f) first_place = Err f
+result_after_rights d (Ok u) places = result_with_places d places
+result_after_rights d (Err f) places = Err f
 
 -- the result of a reference, by the lookup of its descriptor: the first fault of descriptor, rights
 -- and places, in this order
 abbrev pub result_after_descriptor : (SdwFields → Result Unit Acv)
     → (SdwFields → Result (List Spot) (ℕ × Refusal)) → AtFields → Result SdwFields Fault
     → Result ReferenceResult Fault
-result_after_descriptor rights first_place at (Ok d) =
-    result_after_rights d (violation_as_fault at (rights d))
-    (places_as_fault at (first_place d))
-result_after_descriptor rights first_place at (Err f) = Err f
+result_after_descriptor rights places at (Ok d) =
+    result_after_rights d (violation_as_fault at (rights d)) (places_as_fault at (places d))
+result_after_descriptor rights places at (Err f) = Err f
 
 -- a reference from its parts: the descriptor of the segment, the rights that it gives, and the
 -- places of the words
 unfoldable pub reference_result : (SdwFields → Result Unit Acv)
     → (SdwFields → Result (List Spot) (ℕ × Refusal)) → Result SdwFields Refusal → AtFields
     → Result ReferenceResult Fault
-reference_result rights first_place sdw at =
-    result_after_descriptor rights first_place at (refusal_as_fault at sdw)
+reference_result rights places sdw at =
+    result_after_descriptor rights places at (refusal_as_fault at sdw)
 
 -- the result of the code as that of the definitions: the spots are a run of `count` words from the
 -- place that it has found

@@ -56,7 +56,7 @@ impl Walk {
     /// Reads an indirect word in the ring of `at`, for an instruction in segment `psr`. Also
     /// returns R1 of its segment.
     #[tactic(auto, unfolding(crate::specs::Runs::IsInCore))]
-    pub fn indirect(&mut self, at: At, psr: u16) -> Result<(Word, u8), Fault>
+    pub fn read_indirect(&mut self, at: At, psr: u16) -> Result<(Word, u8), Fault>
         ensures serves { ServesWord (λ g. g.ppr.psr ≡ psr) Indirect self.old self.new.core at
             (ok_map (λ r. r.0) result) }
         ensures ring { IfOk result (λ r. r.1 ≡ (sdw_in self.old at.seg).r1) }
@@ -82,7 +82,12 @@ impl Walk {
     /// Reads an operand word in the ring of `at`, for an instruction in segment `psr`. A pending
     /// word is read as if it were written.
     #[tactic(auto, unfolding(crate::specs::Runs::IsInCore))]
-    pub fn operand(&mut self, at: At, psr: u16, pending: &Option<Pending>) -> Result<Word, Fault>
+    pub fn read_operand(
+        &mut self,
+        at: At,
+        psr: u16,
+        pending: &Option<Pending>,
+    ) -> Result<Word, Fault>
         ensures serves { Reads self.old self.new.core psr at 1 pending.now
             (ok_map (λ w. w ∷ []) result) }
         ensures dbr { self.new.dbr ≡ self.old.dbr }
@@ -154,7 +159,7 @@ impl Walk {
         ensures dbr { self.new.dbr ≡ self.old.dbr }
         ensures len { length self.new.core ≡ length self.old.core }
     {
-        self.operand(at, psr, &None)
+        self.read_operand(at, psr, &None)
     }
 
     /// Reads the pair that contains a word. The low bit of the word number is ignored.

@@ -152,7 +152,7 @@ fn words_and_marks(rt: HostRuntime) -> Result<(), NoMemory> {
     assert!(rt; walk.write(at(4, 2, 4), Word::low(7)) == Ok(()) && marks(&walk) == (true, true));
     assert!(rt; walk.write_pair(at(3, 5, 4), pair(1, 2)) == Ok(()));
     assert!(rt; walk.read_pair(at(3, 4, 4), 0) == Ok(pair(1, 2)));
-    assert!(rt; walk.indirect(at(3, 4, 4), 0) == Ok((Word::low(1), 4)));
+    assert!(rt; walk.read_indirect(at(3, 4, 4), 0) == Ok((Word::low(1), 4)));
     assert!(rt; walk.read_odd_word(at(3, 5, 4), 0) == Ok(Word::low(2)));
     assert!(rt; walk.write_block(at(3, 0o27, 4), [pair(3, 4); 8]) == Ok(()));
     assert!(rt; walk.read_block(at(3, 0o20, 4), 0) == Ok([pair(3, 4); 8]));
@@ -171,8 +171,8 @@ fn finds_places_as_core_stands(rt: HostRuntime) -> Result<(), NoMemory> {
         word: Word::low(9),
         place: 0o2005,
     });
-    assert!(rt; walk.operand(at(3, 4, 4), 0, &pending) == Ok(Word::ZERO));
-    assert!(rt; walk.operand(at(3, 5, 4), 0, &pending) == Ok(Word::low(9)));
+    assert!(rt; walk.read_operand(at(3, 4, 4), 0, &pending) == Ok(Word::ZERO));
+    assert!(rt; walk.read_operand(at(3, 5, 4), 0, &pending) == Ok(Word::low(9)));
     let before = walk.copy(rt.alloc())?;
     if walk.core().len() > 0o2005 {
         walk.store(0o2005, Word::low(6));

@@ -2,7 +2,7 @@ use Rattle.std.proofs.Common.{[], refl}
 use Rattle.m36_model.specs.Store.{changes}
 use Rattle.m36_model.specs.Core.{core_put}
 use Rattle.m36_walk.specs.Runs.{words_from}
-use Rattle.m36_walk.proofs.walk.Walk.indirect.Goals as goal
+use Rattle.m36_walk.proofs.walk.Walk.read_indirect.Goals as goal
 
 pub returns-clause-serves : goal.returns-clause-serves
 unfolding changes core_put words_from

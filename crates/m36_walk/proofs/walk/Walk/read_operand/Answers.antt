@@ -1,6 +1,6 @@
 use Rattle.m36_walk.specs.Runs.{words_from}
 use Rattle.m36_walk.specs.Words.{pending_changes}
-use Rattle.m36_walk.proofs.walk.Walk.operand.Goals as goal
+use Rattle.m36_walk.proofs.walk.Walk.read_operand.Goals as goal
 
 pub returns-clause-serves : goal.returns-clause-serves
 unfolding words_from
