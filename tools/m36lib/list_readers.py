@@ -243,15 +243,15 @@ def operands_of_definition(text, name, body):
         return ["USER"]
     if "seed_of" in body:
         return ["SEED"]
-    operand = "NAME" if "λ name. " in body or f"\n{name}_of name =" in text else "FILE"
-    return [operand] + [None] * (f"\n{name}_of None" in text)
+    operand = "NAME" if "λ name. " in body or f"\n{name}_command name =" in text else "FILE"
+    return [operand] + [None] * (f"\n{name}_command None" in text)
 
 
 def forms_of_definition(text, word, name):
     """The forms that a command accepts by its definition."""
     body = body_of(text, name)
     options = {option for option, refusal in REFUSALS.items() if refusal not in body}
-    has_folder_option = f"\n{name}_of (Some o) (Some user) = None\n" in text
+    has_folder_option = f"\n{name}_command (Some o) (Some user) = None\n" in text
     for operand in operands_of_definition(text, name, body):
         refused = {"--user"} if operand and has_folder_option else set()
         yield word, operand, frozenset(options - refused)

@@ -1,6 +1,6 @@
 -- If the length of no section is refused, the lines place no more words in any section than it may
 -- have.
-use Rattle.std.proofs.Common.{◌≡◌, ℕ, ◌%◌, ◌≤◌, Bool, true, false, cond, ltb, List, [], ◌∷◌, length, Option, Some, None, is_some, refl, ap, subst, true≢false, arith}
+use Rattle.std.proofs.Common.{◌≡◌, ℕ, ◌%◌, ◌≤◌, false, ltb, List, [], ◌∷◌, length, Option, None, subst, arith}
 use Rattle.std.proofs.lemmas.Bool.{ltb-false}
 use Rattle.alm_parse.specs.declared.args.Arg.{Arg}
 use Rattle.alm_parse.specs.declared.line.Line36.{Line36}
@@ -18,7 +18,8 @@ use Rattle.alm_lines.specs.declared.sum.Sum.{Sum}
 use Rattle.alm_lines.specs.declared.refusal.AlmRefusal.{AlmRefusal}
 use Rattle.alm_lines.specs.declared.refusal.AlmCode.TheVariants.{E8}
 use Rattle.alm_asm.proofs.Unrefused.{sooner_none}
-use Rattle.alm_asm.proofs.SymbolsMean.{layout_first}
+use Rattle.alm_asm.proofs.Fitting.{grown_section}
+use Rattle.alm_asm.proofs.SymbolsMean.{layout_first, some_none}
 
 -- at most this many words in each section
 pub record AreShort (spot : LocationCounter) : Type 0 where
@@ -33,15 +34,9 @@ grown_short Linkage spot n h at = record { text = at.text; inner = h; outer = at
 grown_short Symbol spot n h at = at
 grown_short Static spot n h at = record { text = at.text; inner = at.inner; outer = h }
 
-grown_stays : (section : Section) (spot : LocationCounter) (n : ℕ) → (plus_words_in section spot n).section ≡ spot.section
-grown_stays Text spot n = refl
-grown_stays Linkage spot n = refl
-grown_stays Symbol spot n = refl
-grown_stays Static spot n = refl
-
 placed_short : (spot : LocationCounter) (n : ℕ) → count (plus_words_in spot.section spot n) ≤ section_limit → AreShort spot → AreShort (plus_words_in spot.section spot n)
 placed_short spot n h at =
-    grown_short spot.section spot n (subst (λ (s : Section). count_in s (plus_words_in spot.section spot n) ≤ section_limit) (grown_stays spot.section spot n) h) at
+    grown_short spot.section spot n (subst (λ (s : Section). count_in s (plus_words_in spot.section spot n) ≤ section_limit) (grown_section spot.section spot n) h) at
 
 entered_short : (spot : LocationCounter) (definition_of_name : Section) → AreShort spot → AreShort (with_section spot definition_of_name)
 entered_short spot Text at = record { text = at.text; inner = at.inner; outer = at.outer }
@@ -62,10 +57,6 @@ moved_short text deed.Block arguments spot h at = placed_short spot (number_in (
 moved_short text deed.Even arguments spot h at = placed_short spot (place spot % 2) h at
 moved_short text deed.Bound arguments spot h at = at
 
-not_over_by : (b : Bool) (refusal : AlmRefusal) → cond b (Some refusal) None ≡ None → b ≡ false
-not_over_by true refusal e = absurd (true≢false (ap is_some e))
-not_over_by false refusal e = refl
-
 count_fits : (text : List ℕ) (first : Option AlmRefusal) (symbols : List (List ℕ × Sum)) (spot : LocationCounter) (line : Line36) → refusal_after text first symbols spot line ≡ None
     → count (next_line_spot text spot line) ≤ section_limit
 unfolding refusal_after over_limit_refusal
@@ -73,7 +64,7 @@ count_fits text first symbols spot line e =
     let words = count (next_line_spot text spot line) in
     let others = earlier_refusal (labels_refusal text line (here spot) symbols first line.labels) (definition_refusal text (symbols_with_labels text symbols spot line) spot line line.deed) in
     let long = (sooner_none others (over_limit_refusal line (next_line_spot text spot line)) e).1 in
-    ltb-false section_limit words (not_over_by (ltb section_limit words) (refusal_at line line.start E8) long)
+    ltb-false section_limit words (some_none (ltb section_limit words) (refusal_at line line.start E8) long)
 
 below_short : (text : List ℕ) (spot : LocationCounter) (line : Line36) → count (next_line_spot text spot line) ≤ section_limit → AreShort spot → AreShort (next_line_spot text spot line)
 unfolding next_line_spot

@@ -40,7 +40,7 @@ grown_uses Linkage spot n = refl
 grown_uses Symbol spot n = refl
 grown_uses Static spot n = refl
 
-grown_section : (section : Section) (spot : LocationCounter) (n : ℕ) → (plus_words_in section spot n).section ≡ spot.section
+pub grown_section : (section : Section) (spot : LocationCounter) (n : ℕ) → (plus_words_in section spot n).section ≡ spot.section
 grown_section Text spot n = refl
 grown_section Linkage spot n = refl
 grown_section Symbol spot n = refl

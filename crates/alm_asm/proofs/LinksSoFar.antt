@@ -1,38 +1,17 @@
 -- The refusal of a line depends only on the links up to it: those of later lines change no index.
 use Rattle.std.proofs.Common.{◌≡◌, ℕ, ◌+◌, ◌*◌, ◌<◌, Bool, true, false, cond, not, ◌||◌, List, [], ◌∷◌, ◌++◌, length, Option, Some, None, refl, sym, ap, ◌∙◌, arith, length-append}
-use Rattle.std.specs.Prelude.{nat_lt, unwrap_or}
 use Rattle.std.specs.List.{list_any, position, position_or_len}
-use Rattle.std.specs.Option.{option_or}
 use Rattle.std.proofs.lemmas.Bool.{lt-ltb}
-use Rattle.alm_tokens.specs.Tokens.{slice_of}
-use Rattle.alm_tokens.specs.declared.span.Span.{Span}
-use Rattle.alm_tokens.specs.declared.expression.Term.{Term}
-use Rattle.alm_parse.specs.declared.args.Arg.{Arg}
-use Rattle.alm_parse.specs.declared.args.Arg.TheVariants as arg
-use Rattle.alm_parse.specs.declared.deed.LineEffect.{LineEffect}
 use Rattle.alm_parse.specs.declared.deed.LineEffect.TheVariants as deed
 use Rattle.alm_parse.specs.declared.line.Line36.{Line36}
-use Rattle.alm_parse.specs.Bodies.{own_section}
 use Rattle.obj36_parts.specs.Fields.{LinkFields}
-use Rattle.obj36_parts.specs.declared.definition.Named.{Named}
-use Rattle.m36_word.specs.Field.{offset_limit}
 use Rattle.obj36_parts.specs.Indexes.{same_link}
-use Rattle.obj36_parts.specs.Sections.{is_text_section}
 use Rattle.alm_lines.specs.Arguments.{first_arg}
 use Rattle.alm_lines.specs.Spots.{next_line_spot}
 use Rattle.alm_lines.specs.SpotFields.{LocationCounter}
-use Rattle.alm_lines.specs.Refusals.{earlier_refusal, refusal_at}
-use Rattle.alm_lines.specs.Values.{has_value}
 use Rattle.alm_lines.specs.declared.sum.Sum.{Sum}
-use Rattle.alm_lines.specs.declared.refusal.AlmCode.TheVariants.{E7}
-use Rattle.alm_lines.specs.declared.refusal.ValueField.TheVariants.{Half}
-use Rattle.alm_asm.specs.Links.{link_of, operand_args, link_of_parts, link_in, with_link, links_after, links_from, offset_of_link_in}
-use Rattle.alm_asm.specs.Definitions.{defines_entries, definitions_after, definitions_refusal}
-use Rattle.alm_asm.specs.LineRefusals.{refusal_unless, op_place, may_name, is_in_reach, link_expression, link_is_in_reach}
-use Rattle.alm_asm.specs.LineRefusals.{operand_refusal, refusal_of_effect, line_refusal, with_links, lines_refusal}
-use Rattle.alm_lines.specs.declared.refusal.AlmRefusal.{AlmRefusal}
-use Rattle.alm_asm.specs.declared.tables.Tables.{Tables}
-use Rattle.alm_asm.proofs.LinksStanding.{stays_with, added_with}
+use Rattle.alm_asm.specs.Links.{operand_args, link_in, with_link, links_after, links_from}
+use Rattle.alm_asm.proofs.LinksStanding.{stays_with}
 
 -- ---- the first that passes
 

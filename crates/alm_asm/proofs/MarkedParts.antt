@@ -1,6 +1,6 @@
 -- The parts of words that have relocations, as lines place them.
-use Rattle.std.proofs.Common.{ℕ, ◌≡◌, ◌+◌, ◌*◌, ◌%◌, ◌^◌, ◌<◌, ◌≤◌, Bool, true, false, Option, Some, None, refl, ap, ◌∙◌, arith}
-use Rattle.m36_word.specs.Bits.{of_bit}
+use Rattle.std.proofs.Common.{ℕ, ◌≡◌, ◌+◌, ◌*◌, ◌%◌, ◌^◌, ◌<◌, ◌≤◌, Bool, Option, Some, None, refl, ap, ◌∙◌, arith}
+use Rattle.m36_word.proofs.BitLaws.{bit_small}
 use Rattle.m36_inst.specs.Fields.{InstFields}
 use Rattle.m36_inst.specs.Instruction.{inst_word}
 use Rattle.obj36_parts.specs.Halves.{left, right, bits_3_to_17}
@@ -10,18 +10,14 @@ use Rattle.alm_tokens.specs.Modifiers.{star_tag}
 use Rattle.alm_lines.specs.Sums.{half_of, offset_of}
 use Rattle.alm_lines.specs.Arguments.{first_arg, second_arg, terms_in}
 use Rattle.alm_lines.specs.Expressions.{sum_of}
-use Rattle.alm_lines.specs.declared.sum.Balance.{Balance}
 use Rattle.alm_asm.specs.Links.{link_of, offset_of_link_in}
 use Rattle.alm_asm.specs.Words.{address_instruction, pointer_register_instruction, halves_word}
 use Rattle.alm_asm.specs.Relocations.{operand_part}
 use Rattle.alm_asm.specs.Laws.{RelocatedPartsHoldValues}
+use Rattle.alm_asm.proofs.GoodDefinitions.{half_small}
 use Rattle.alm_asm.proofs.OffsetsRead.{offset_below, offset_kept}
 
 -- ---- instructions
-
-bit_small : (b : Bool) → of_bit b ≤ 1
-bit_small true = omega arith
-bit_small false = omega arith
 
 -- the left half of the word is the address
 address_is : (i : InstFields) → i.code < 2 ^ 9 → i.tag < 2 ^ 6 → left (inst_word i) ≡ i.y
@@ -53,10 +49,6 @@ linked_part None segment = refl
 
 -- ---- halves
 
-half_below : (b : Balance) → half_of b < 2 ^ 18
-unfolding half_of
-half_below b = omega arith
-
 left_is : (l r : ℕ) → r < 2 ^ 18 → left (l * 2 ^ 18 + r) ≡ l
 unfolding left
 left_is l r small = omega arith
@@ -82,9 +74,9 @@ parts_are_marked =
       first = λ text tables spot arguments.
           let l = (sum_of text tables.symbols spot (terms_in (first_arg arguments))).value in
           let r = (sum_of text tables.symbols spot (terms_in (second_arg arguments))).value in
-          left_is (half_of l) (half_of r) (half_below r);
+          left_is (half_of l) (half_of r) (half_small r);
       second = λ text tables spot arguments.
           let l = (sum_of text tables.symbols spot (terms_in (first_arg arguments))).value in
           let r = (sum_of text tables.symbols spot (terms_in (second_arg arguments))).value in
-          right_is (half_of l) (half_of r) (half_below r);
+          right_is (half_of l) (half_of r) (half_small r);
     }

@@ -118,7 +118,7 @@ sized_by text tables spot arguments deed.Block = sym (length-replicate (number_i
 sized_by text tables spot arguments deed.Even = sym (length-replicate (place spot % 2) 0)
 sized_by text tables spot arguments deed.Bound = refl
 
-same_self : (section : Section) → same_section section section ≡ true
+pub same_self : (section : Section) → same_section section section ≡ true
 same_self Text = refl
 same_self Linkage = refl
 same_self Symbol = refl

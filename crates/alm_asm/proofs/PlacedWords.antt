@@ -21,7 +21,7 @@ use Rattle.alm_lines.specs.SpotFields.{LocationCounter}
 use Rattle.alm_asm.specs.declared.tables.Tables.{Tables}
 use Rattle.alm_parse.specs.declared.deed.LineEffect.{LineEffect}
 use Rattle.alm_parse.specs.declared.deed.LineEffect.TheVariants as deed
-use Rattle.alm_asm.proofs.PlaceLaws.{places_count, words_follow}
+use Rattle.alm_asm.proofs.PlaceLaws.{places_count, words_follow, same_self}
 
 gathered : (text : List ℕ) (tables : Tables) (section : Section) (words : List ℕ) (spot : LocationCounter) (lines : List Line36)
     → words_from text tables section words spot lines ≡ words ++ words_from text tables section [] spot lines
@@ -33,17 +33,11 @@ gathered text tables section words spot (line ∷ lines) =
     ∙ append_assoc words own (words_from text tables section [] (next_line_spot text spot line) lines)
     ∙ ap (λ (l : List ℕ). words ++ l) (sym (gathered text tables section own (next_line_spot text spot line) lines))
 
-same_self_section : (section : Section) → same_section section section ≡ true
-same_self_section Text = refl
-same_self_section Linkage = refl
-same_self_section Symbol = refl
-same_self_section Static = refl
-
 own_words : (text : List ℕ) (tables : Tables) (section : Section) (spot : LocationCounter) (line : Line36) → spot.section ≡ section
     → words_of_line text tables section spot line ≡ words_of_effect text tables spot line.args line.deed
 unfolding words_of_line
 own_words text tables section spot line e =
-    ap (λ b. cond b (words_of_effect text tables spot line.args line.deed) []) (ap (λ (s : Section). same_section s section) e ∙ same_self_section section)
+    ap (λ b. cond b (words_of_effect text tables spot line.args line.deed) []) (ap (λ (s : Section). same_section s section) e ∙ same_self section)
 
 pub stands : (text : List ℕ) (tables : Tables) (section : Section) (lines above : List Line36) (line : Line36) (others : List Line36) → can_have_words section ≡ true
     → lines ≡ above ++ line ∷ others → (end_of text start above).section ≡ section

@@ -21,6 +21,7 @@ use Rattle.alm_asm.specs.declared.tables.Tables.{Tables}
 use Rattle.alm_parse.specs.declared.deed.LineEffect.{LineEffect}
 use Rattle.alm_parse.specs.declared.deed.LineEffect.TheVariants as deed
 use Rattle.alm_lines.specs.declared.refusal.AlmCode.TheVariants.{E7}
+use Rattle.alm_asm.specs.Laws.{can_have_words}
 use Rattle.alm_asm.proofs.Unrefused.{unless_none, line_parts, head_line, other_lines, lines_above}
 use Rattle.alm_asm.proofs.Fitting.{end_uses}
 
@@ -51,25 +52,19 @@ one_kind Static inner false e = absurd (true≢false (sym e))
 one_kind Static true true e = absurd (true≢false (sym e))
 one_kind Static false true e = refl
 
-abbrev is_entered : Section → Bool
-is_entered Text = true
-is_entered Linkage = true
-is_entered Symbol = false
-is_entered Static = true
-
-entered_by : (a b c : Bool) → is_entered (unwrap_or (cond a (Some Text) (cond b (Some Linkage) (cond c (Some Static) None))) Text) ≡ true
+entered_by : (a b c : Bool) → can_have_words (unwrap_or (cond a (Some Text) (cond b (Some Linkage) (cond c (Some Static) None))) Text) ≡ true
 entered_by true b c = refl
 entered_by false true c = refl
 entered_by false false true = refl
 entered_by false false false = refl
 
-names_section : (text : List ℕ) (name : Option Span) → is_entered (section_in text name) ≡ true
+names_section : (text : List ℕ) (name : Option Span) → can_have_words (section_in text name) ≡ true
 unfolding used_section
 names_section text None = refl
 names_section text (Some span) =
     entered_by (is_text (codes "text") (slice_of text span)) (is_text (codes "link") (slice_of text span)) (is_text (codes "static") (slice_of text span))
 
-entered_kept : (spot : LocationCounter) (definition_of_name : Section) → is_entered definition_of_name ≡ true → may_select spot definition_of_name ≡ true → (spot.uses_inner && spot.uses_outer) ≡ false → kept (with_section spot definition_of_name) ≡ true
+entered_kept : (spot : LocationCounter) (definition_of_name : Section) → can_have_words definition_of_name ≡ true → may_select spot definition_of_name ≡ true → (spot.uses_inner && spot.uses_outer) ≡ false → kept (with_section spot definition_of_name) ≡ true
 entered_kept spot Text n m e = ap not e
 entered_kept spot Linkage n m e = m
 entered_kept spot Symbol n m e = absurd (true≢false (sym n))

@@ -19,7 +19,7 @@ use Rattle.alm_asm.proofs.SymbolsStand.{labels_stay, own_stays, lines_stay}
 
 -- ---- refusals of symbols
 
-some_none : (b : Bool) (refusal : AlmRefusal) → cond b (Some refusal) None ≡ None → b ≡ false
+pub some_none : (b : Bool) (refusal : AlmRefusal) → cond b (Some refusal) None ≡ None → b ≡ false
 some_none true refusal e = absurd (true≢false (ap is_some e))
 some_none false refusal e = refl
 

@@ -1,6 +1,6 @@
 //! Assembles lines into an object.
 
-ghost use Rattle.std.specs.Prelude.{ℕ, [], ◌≡◌, ◌^◌, ◌<◌, length};
+ghost use Rattle.std.specs.Prelude.{[], ◌≡◌, ◌^◌, ◌<◌, length};
 ghost use Rattle.std.specs.Prelude.{Option, None, Ok, IfOk, true};
 ghost use Rattle.alm_parse.specs.Sources.{IsResultOf};
 ghost use Rattle.alm_lines.specs.Spots.{start, HasRoomForLines};
@@ -141,8 +141,8 @@ fn first_refusal(
         (growth_refusal text.now tables.now.symbols first_growth start lines.now)) }
 {
     let refused = lines_refusal(alloc, text, tables, lines, seen)?;
-    let plus_words = growth_refusal(alloc, text, tables, lines, seen)?;
-    Ok(earlier_refusal(earlier_refusal(found, refused), plus_words))
+    let grown = growth_refusal(alloc, text, tables, lines, seen)?;
+    Ok(earlier_refusal(earlier_refusal(found, refused), grown))
 }
 
 // The tables of lines, or the first refusal. Sets `seen` to the values of the lines.

@@ -1,10 +1,8 @@
 //! Definitions: the names of `entry` and `segdef` lines in order, and their refusals.
 
-ghost use Rattle.std.specs.Prelude.{ℕ, Bool, List, [], ◌∷◌, ◌++◌, ◌≡◌, Option, OnOk, IfOk};
-ghost use Rattle.std.specs.List.{list_any};
-ghost use Rattle.alm_lines.specs.Symbols.{same_name};
+ghost use Rattle.std.specs.Prelude.{[], ◌∷◌, ◌++◌, ◌≡◌, Option, OnOk, IfOk};
 ghost use Rattle.alm_asm.specs.Definitions.{section_of, definition_of_name, definition_of_arg, with_names, defines_entries};
-ghost use Rattle.alm_asm.specs.Definitions.{definitions_if_any, definitions_after, definitions_from};
+ghost use Rattle.alm_asm.specs.Definitions.{definitions_after, definitions_from};
 ghost use Rattle.alm_asm.specs.Definitions.{is_defined_name, is_label_kind, is_label, sum_refusal};
 ghost use Rattle.alm_asm.specs.Definitions.{name_refusal, arg_refusal, names_refusal};
 ghost use Rattle.alm_asm.specs.Definitions.{definitions_refusal};

@@ -1,6 +1,6 @@
 //! Finds the first line with which the definition, linkage or symbol section is too long.
 
-ghost use Rattle.std.specs.Prelude.{ℕ, false, [], ◌∷◌, ◌≡◌, ◌+◌, ◌*◌, ◌^◌, ◌<◌};
+ghost use Rattle.std.specs.Prelude.{false, [], ◌∷◌, ◌≡◌, ◌+◌, ◌*◌, ◌^◌, ◌<◌};
 ghost use Rattle.std.specs.Prelude.{◌≤◌, length, if◌then◌else◌, Option, OnOk, IfOk};
 ghost use Rattle.obj36_parts.specs.ObjectSegment.{section_limit};
 ghost use Rattle.alm_lines.specs.Arguments.{first_arg, terms_in};
@@ -346,12 +346,12 @@ fn count_link(
 }
 
 // The number of relocations of an expression: 1 if it has a value and is a place of a section.
-fn relocation_count(evaluated_has_value: bool, kind: Kind) -> u64
-    ensures value { result ≡ relocation_count evaluated_has_value kind }
+fn relocation_count(has_value: bool, kind: Kind) -> u64
+    ensures value { result ≡ relocation_count has_value kind }
     ensures bound { result ≤ 1 }
 {
     match kind {
-        Kind::Moved(_) => evaluated_has_value as u64,
+        Kind::Moved(_) => has_value as u64,
         Kind::Absolute | Kind::Inexpressible => 0,
     }
 }

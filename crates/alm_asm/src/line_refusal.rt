@@ -1,6 +1,6 @@
 //! Refusals of lines, given the symbols of all lines.
 
-ghost use Rattle.std.specs.Prelude.{ℕ, [], ◌≡◌, ◌+◌, ◌^◌, ◌<◌, ◌≤◌, length};
+ghost use Rattle.std.specs.Prelude.{[], ◌≡◌, ◌+◌, ◌^◌, ◌<◌, ◌≤◌, length};
 ghost use Rattle.std.specs.Prelude.{Option, OnOk, IfOk, nat_lt, unwrap_or};
 ghost use Rattle.alm_lines.specs.Arguments.{first_arg, terms_in};
 ghost use Rattle.alm_lines.specs.Values.{value_of_expression};
@@ -184,10 +184,10 @@ fn external_refusal(
         value,
     );
     let reached = link_is_in_reach(text, tables, spot, segment, entry, terms, tag, value, place);
-    let definition_of_name = may_name(tables, own_section(text, segment));
+    let named = may_name(tables, own_section(text, segment));
     earlier_refusal(
         earlier_refusal(expression, refusal_unless(reached, at)),
-        refusal_unless(definition_of_name, at),
+        refusal_unless(named, at),
     )
 }
 

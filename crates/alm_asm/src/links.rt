@@ -1,6 +1,6 @@
 //! Links: the external operands of instructions, each once, in the order of their first use.
 
-ghost use Rattle.std.specs.Prelude.{ℕ, [], ◌≡◌, ◌^◌, ◌<◌, ◌≤◌, length, Option};
+ghost use Rattle.std.specs.Prelude.{[], ◌≡◌, ◌^◌, ◌<◌, ◌≤◌, Option};
 ghost use Rattle.std.specs.Prelude.{OnOk, IfOk, position, unwrap_or};
 ghost use Rattle.obj36_parts.specs.ObjectSegment.{link_offset};
 ghost use Rattle.obj36_parts.specs.Indexes.{same_link};

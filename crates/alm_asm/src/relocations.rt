@@ -1,8 +1,8 @@
 //! Relocations: the parts of words whose expressions are places of a section, and the offsets of
 //! links.
 
-ghost use Rattle.std.specs.Prelude.{ℕ, List, [], ◌∷◌, ◌++◌, ◌≡◌, ◌%◌, ◌^◌, ◌<◌, length, Option};
-ghost use Rattle.std.specs.Prelude.{OnOk, IfOk};
+ghost use Rattle.std.specs.Prelude.{[], ◌∷◌, ◌++◌, ◌≡◌, ◌%◌, ◌^◌, ◌<◌, length, Option};
+ghost use Rattle.std.specs.Prelude.{OnOk};
 ghost use Rattle.alm_lines.specs.Arguments.{first_arg, terms_in};
 ghost use Rattle.alm_lines.specs.Values.{value_of_expression};
 ghost use Rattle.alm_asm.specs.LineValues.{values_from};

@@ -1,5 +1,5 @@
 -- The properties of a value are those of the sum of its expression.
-use Rattle.std.proofs.Common.{◌≡◌, ℕ, ◌+◌, Bool, true, false, List, [], ◌∷◌, Option, Some, None, refl, ap, ◌∙◌, zero-add}
+use Rattle.std.proofs.Common.{◌≡◌, ℕ, ◌+◌, Bool, true, false, List, [], ◌∷◌, Some, None, refl, ap, ◌∙◌, zero-add}
 use Rattle.std.specs.Prelude.{not, option_map, if◌then◌else◌}
 use Rattle.alm_tokens.specs.declared.expression.Term.{Term}
 use Rattle.alm_parse.specs.declared.line.Line36.{Line36}
@@ -65,8 +65,6 @@ pub refused_given : (text : List ℕ) (symbols : List (List ℕ × Sum)) (spot :
     → value ≡ value_of_expression text symbols spot terms → evaluated_refusal line value place room may_move ≡ expression_refusal text symbols spot line terms place room may_move
 refused_given text symbols spot line terms place room may_move value e =
     ap (λ v. evaluated_refusal line v place room may_move) e ∙ same_refused text symbols spot line terms place room may_move
-
-pub ruleset given_values = (value_given, refused_given)
 
 pub kind_given : (text : List ℕ) (symbols : List (List ℕ × Sum)) (spot : LocationCounter) (terms : List Term) (value : ValueFields)
     → value ≡ value_of_expression text symbols spot terms → value.kind ≡ kind_of (sum_of text symbols spot terms)

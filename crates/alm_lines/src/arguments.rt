@@ -1,6 +1,6 @@
 //! The arguments of operations.
 
-ghost use Rattle.std.specs.Prelude.{ℕ, List, [], ◌∷◌, ◌++◌, ◌≡◌, ◌≤◌, ◌^◌, take, length, Option};
+ghost use Rattle.std.specs.Prelude.{[], ◌∷◌, ◌++◌, ◌≡◌, ◌≤◌, ◌^◌, take, length, Option};
 ghost use Rattle.std.specs.Prelude.{OnOk, IfOk};
 ghost use Rattle.alm_lines.specs.Arguments.{name_at, first_arg, second_arg, symbol_in, terms_in};
 ghost use Rattle.alm_lines.specs.Arguments.{number_in, words_of_arg, words_of_args, section_named};

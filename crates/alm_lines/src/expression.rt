@@ -1,9 +1,9 @@
 //! The sums of expressions.
 
-ghost use Rattle.std.specs.Prelude.{ℕ, List, [], ◌∷◌, ◌≡◌, ◌-◌, ◌^◌, ◌≤◌, length, Option};
-ghost use Rattle.alm_lines.specs.Sums.{zero_sum, IsTerm};
+ghost use Rattle.std.specs.Prelude.{[], ◌∷◌, ◌≡◌, ◌-◌, ◌^◌, ◌≤◌, length, Option};
+ghost use Rattle.alm_lines.specs.Sums.{IsTerm};
 ghost use Rattle.alm_lines.specs.Expressions.{symbol_sum, atom_sum, term_sum, with_terms, sum_of};
-ghost use Rattle.alm_lines.specs.Expressions.{is_defined, is_symbol_atom, is_undefined};
+ghost use Rattle.alm_lines.specs.Expressions.{is_defined, is_undefined};
 ghost use Rattle.alm_lines.specs.Expressions.{first_undefined_place, expression_place};
 
 use crate::arguments::name_at;

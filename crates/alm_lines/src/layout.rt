@@ -1,11 +1,11 @@
 //! Defines the symbols of lines, and refuses their definitions and the lengths of sections.
 
-ghost use Rattle.std.specs.Prelude.{ℕ, true, List, [], ◌∷◌, ◌≡◌, ◌^◌, ◌<◌, length, Option, None};
+ghost use Rattle.std.specs.Prelude.{true, [], ◌∷◌, ◌≡◌, ◌^◌, ◌<◌, length, Option, None};
 ghost use Rattle.std.specs.Prelude.{OnOk, IfOk};
 ghost use Rattle.alm_lines.specs.Sums.{IsTerm};
 ghost use Rattle.alm_lines.specs.Symbols.{with_symbol};
 ghost use Rattle.alm_lines.specs.Arguments.{name_at};
-ghost use Rattle.alm_lines.specs.Spots.{start, next_line_spot, end_of, HasRoomForLines};
+ghost use Rattle.alm_lines.specs.Spots.{start, next_line_spot, HasRoomForLines};
 ghost use Rattle.alm_lines.specs.Refusals.{earlier_refusal, fits_field};
 ghost use Rattle.alm_lines.specs.declared.refusal.ValueField.TheVariants.{Half};
 ghost use Rattle.alm_lines.specs.Layout.{redefinition, with_labels, labels_refusal, defined_symbol};

@@ -1,9 +1,9 @@
 //! The place of a line, as a location counter for each section.
 
-ghost use Rattle.std.specs.Prelude.{ℕ, List, [], ◌∷◌, ◌++◌, ◌≡◌, ◌^◌, ◌<◌, length, IfOk};
+ghost use Rattle.std.specs.Prelude.{[], ◌∷◌, ◌++◌, ◌≡◌, ◌^◌, ◌<◌, length, IfOk};
 ghost use Rattle.alm_lines.specs.Sums.{balance, IsTerm};
-ghost use Rattle.alm_lines.specs.Spots.{start, count, count_in, place, offset_in_section, here, label_sum_in};
-ghost use Rattle.alm_lines.specs.Spots.{plus_words, plus_words_in, with_section, size_of, next_spot, next_line_spot, end_of};
+ghost use Rattle.alm_lines.specs.Spots.{start, count, place, here};
+ghost use Rattle.alm_lines.specs.Spots.{plus_words, with_section, size_of, next_spot, next_line_spot, end_of};
 ghost use Rattle.alm_lines.specs.Spots.{HasRoomForLines, IsOneLineFurther};
 
 use crate::arguments::{first_symbol, second_number, section_in, words_of_args};

@@ -1,6 +1,6 @@
 -- A label that is not a symbol begins at a byte of the text, and so does the first number out of
 -- its range.
-use Rattle.std.proofs.Common.{◌≡◌, ℕ, suc, ◌<◌, ◌≤◌, Bool, true, false, cond, List, [], ◌∷◌, length, Option, Some, None, refl, arith, sym, subst}
+use Rattle.std.proofs.Common.{◌≡◌, ℕ, suc, ◌<◌, ◌≤◌, Bool, true, false, cond, List, [], ◌∷◌, length, Option, Some, None, arith, sym, subst}
 use Rattle.std.specs.List.{find, All}
 use Rattle.std.specs.Option.{option_or, IfSome}
 use Rattle.alm_tokens.specs.declared.span.Span.{Span}

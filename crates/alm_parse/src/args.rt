@@ -1,6 +1,6 @@
 //! The arguments of an operation.
 
-ghost use Rattle.std.specs.Prelude.{ℕ, List, [], ◌∷◌, ◌++◌, ◌≡◌, OnOk, OnErr, IfOk};
+ghost use Rattle.std.specs.Prelude.{List, [], ◌∷◌, ◌++◌, ◌≡◌, OnOk, OnErr, IfOk};
 
 use alm_tokens::expression::Expr;
 use alm_tokens::span::Span;

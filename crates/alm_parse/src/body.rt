@@ -1,6 +1,6 @@
 //! Divides the operand of an instruction, up to its modifier.
 
-ghost use Rattle.std.specs.Prelude.{ℕ, ◌≡◌, ◌^◌, ◌<◌, ◌≤◌, ◌+◌, not, length, IfOk, IfSome};
+ghost use Rattle.std.specs.Prelude.{◌≡◌, ◌^◌, ◌<◌, ◌≤◌, ◌+◌, not, length, IfOk, IfSome};
 ghost use Rattle.std.specs.List.{position};
 ghost use Rattle.m36_text.specs.Texts.{is_name_character};
 ghost use Rattle.alm_tokens.specs.Tokens.{slice_of};

@@ -1,6 +1,6 @@
 //! Why a source cannot be assembled.
 
-ghost use Rattle.std.specs.Prelude.{ℕ, ◌≡◌, ◌-◌, ◌^◌, ◌<◌, ◌+◌};
+ghost use Rattle.std.specs.Prelude.{◌≡◌, ◌-◌, ◌^◌, ◌<◌, ◌+◌};
 ghost use Rattle.alm_parse.specs.Sources.{fault_with_code, fault_of};
 ghost use Rattle.alm_parse.specs.declared.fault.AlmFault.TheVariants as fault;
 

@@ -1,6 +1,6 @@
 //! Parses a line of a source.
 
-ghost use Rattle.std.specs.Prelude.{ℕ, ◌≡◌, ◌^◌, ◌<◌, Option, Result, Ok, IfSome, IfOk, IfErr, length};
+ghost use Rattle.std.specs.Prelude.{◌≡◌, ◌^◌, ◌<◌, Option, Result, Ok, IfSome, IfOk, IfErr, length};
 ghost use Rattle.m36_text.specs.Results.{and_then};
 ghost use Rattle.std.specs.List.{All};
 ghost use Rattle.alm_tokens.specs.Heads.{IsLabelSpan, IsTokenSpan};

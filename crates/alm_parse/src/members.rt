@@ -1,6 +1,6 @@
 //! Parses operands that are lists, separated by commas.
 
-ghost use Rattle.std.specs.Prelude.{ℕ, ◌≡◌, ◌^◌, ◌<◌, None, IfOk, IfErr, length, map};
+ghost use Rattle.std.specs.Prelude.{◌≡◌, ◌^◌, ◌<◌, None, IfOk, IfErr, length, map};
 ghost use Rattle.std.specs.List.{list_all};
 ghost use Rattle.m36_text.specs.Results.{value_unless};
 ghost use Rattle.alm_tokens.specs.Lists.{is_symbol_at};

@@ -1,7 +1,6 @@
 //! Parses the operand of an instruction.
 
-ghost use Rattle.std.specs.Prelude.{ℕ, ◌≡◌, ◌^◌, ◌<◌, Option, IfSome, IfOk, IfErr, length, map};
-ghost use Rattle.alm_tokens.specs.Expressions.{term_of};
+ghost use Rattle.std.specs.Prelude.{◌≡◌, ◌^◌, ◌<◌, Option, IfSome, IfErr, length};
 ghost use Rattle.alm_parse.specs.Operands.{body_span, modifier_tag_after_comma, entry_if_any, operand_of, parse_operand};
 ghost use Rattle.alm_parse.specs.Refusals.{IsParserResultOf, ErrorIsInside};
 

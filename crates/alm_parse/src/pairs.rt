@@ -1,6 +1,6 @@
 //! Parses operands of two members, and names of sections.
 
-ghost use Rattle.std.specs.Prelude.{ℕ, [], ◌∷◌, ◌≡◌, ◌≤◌, ◌^◌, ◌<◌, Option, IfSome, IfOk, IfErr, length, map};
+ghost use Rattle.std.specs.Prelude.{[], ◌∷◌, ◌≡◌, ◌≤◌, ◌^◌, ◌<◌, Option, IfOk, IfErr, length, map};
 ghost use Rattle.alm_tokens.specs.Expressions.{expression_pieces, term_of};
 ghost use Rattle.alm_parse.specs.declared.args.Arg.TheVariants as arg;
 ghost use Rattle.alm_parse.specs.Pairs.{value_of_terms, value_of_members, parse_value, halves_of_terms, halves_of_members, parse_halves};

@@ -1,6 +1,6 @@
 //! Why a source is refused, and where.
 
-ghost use Rattle.std.specs.Prelude.{ℕ, ◌≡◌, ◌^◌, ◌<◌, length, slice_index, IfSome};
+ghost use Rattle.std.specs.Prelude.{◌≡◌, ◌^◌, ◌<◌, length, slice_index, IfSome};
 ghost use Rattle.alm_parse.specs.Refusals.{refusal_at_token, operand_form_refusal, IsRefusedInside};
 ghost use Rattle.alm_parse.specs.declared.refusal.ParseError.TheVariants as halt;
 

@@ -1,6 +1,6 @@
 //! Expressions: terms joined by `+` and `-`.
 
-ghost use Rattle.std.specs.Prelude.{ℕ, List, [], ◌∷◌, ◌++◌, ◌≡◌, ◌^◌, ◌<◌, ◌≤◌, length, map, OnOk, OnErr, IfOk};
+ghost use Rattle.std.specs.Prelude.{List, [], ◌∷◌, ◌++◌, ◌≡◌, ◌^◌, ◌<◌, ◌≤◌, length, map, OnOk, OnErr, IfOk};
 ghost use Rattle.std.specs.List.{list_all};
 ghost use Rattle.alm_tokens.specs.Expressions.{is_current_place, is_term, is_term_at, without_first_minus, expression_pieces, atom_of, term_of, IsSmall};
 

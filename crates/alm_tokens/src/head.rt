@@ -1,6 +1,6 @@
 //! Finds the labels, the operation and the operand of a line.
 
-ghost use Rattle.std.specs.Prelude.{ℕ, ◌≡◌, ◌^◌, ◌<◌, ◌≤◌, ◌==◌, not, Bool, Option, Some, None, option_map, IfSome, IfOk, length};
+ghost use Rattle.std.specs.Prelude.{◌≡◌, ◌^◌, ◌<◌, ◌≤◌, ◌==◌, not, Option, Some, None, IfSome, IfOk, length};
 ghost use Rattle.std.specs.List.{All, position};
 ghost use Rattle.alm_tokens.specs.Bytes.{is_blank};
 ghost use Rattle.alm_tokens.specs.Heads.{IsLabelSpan, IsTokenSpan, token_step, token, head_of, operand_start, operand_end, operand_in, delimited_operand};

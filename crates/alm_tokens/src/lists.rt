@@ -1,6 +1,6 @@
 //! Operands that are lists: symbols or numbers, separated by commas.
 
-ghost use Rattle.std.specs.Prelude.{ℕ, ◌≡◌, ◌^◌, ◌<◌, IfSome, IfOk, length};
+ghost use Rattle.std.specs.Prelude.{◌≡◌, ◌^◌, ◌<◌, IfSome, IfOk, length};
 ghost use Rattle.std.specs.List.{list_all, find};
 ghost use Rattle.std.specs.Option.{option_copied};
 ghost use Rattle.alm_tokens.specs.Lists.{members, is_symbol_at, member_has_form_of, is_out_of_range, first_out_of_range_place};

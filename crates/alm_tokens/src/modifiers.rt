@@ -1,6 +1,6 @@
 //! The names of registers and modifiers.
 
-ghost use Rattle.std.specs.Prelude.{ℕ, ◌≡◌, ◌<◌, IfSome};
+ghost use Rattle.std.specs.Prelude.{◌≡◌, ◌<◌, IfSome};
 ghost use Rattle.m36_text.specs.Numbers.{octal_in};
 ghost use Rattle.alm_tokens.specs.Modifiers.{without_x, register_tag, pr_number_by_digit, pr_number_by_name, pr_number, single_tag, indirect_first_modifier, indirect_last_modifier, tag_of};
 

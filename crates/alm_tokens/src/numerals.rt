@@ -1,6 +1,6 @@
 //! Numbers that a word can hold.
 
-ghost use Rattle.std.specs.Prelude.{ℕ, ◌≡◌, ◌≤◌, ◌^◌, ◌<◌, IfOk, length, slice_index};
+ghost use Rattle.std.specs.Prelude.{◌≡◌, ◌≤◌, ◌^◌, ◌<◌, IfOk};
 ghost use Rattle.alm_tokens.specs.Numerals.{is_negative, without_sign, greatest_word, number_magnitude, has_form_of, is_number, signed_word, number_word};
 ghost use Rattle.alm_tokens.specs.Tokens.{is_over_number_limit, number_or_zero};
 

@@ -1,7 +1,6 @@
 //! Symbols and numbers.
 
-ghost use Rattle.std.specs.Prelude.{ℕ, ◌≡◌, ◌≤◌, IfOk};
-ghost use Rattle.m36_text.specs.Reading.{number_read};
+ghost use Rattle.std.specs.Prelude.{◌≡◌, ◌≤◌, IfOk};
 ghost use Rattle.alm_tokens.specs.Tokens.{is_symbol, has_digits, is_over_number_limit, parsed_expression_number, greatest_number};
 
 use crate::bytes::begins_symbol;

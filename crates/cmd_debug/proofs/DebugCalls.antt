@@ -1,6 +1,6 @@
 -- A call that performs the program of `debug FILE` or of `debug` reads, and then holds a session.
 use Rattle.std.proofs.Common.{◌≡◌, ℕ, List, [], ◌∷◌, ◌++◌, Result, Ok, Err, refl, sym, ap, subst, ◌∙◌, inl, inr}
-use Rattle.std.proofs.lemmas.List.{append-nil, append_assoc}
+use Rattle.std.proofs.lemmas.List.{append-nil}
 use Rattle.std.specs.Prelude.{None}
 use Rattle.m36_outside.specs.Putting.{PutsPieces}
 use Rattle.m36_outside.specs.declared.sink.Put.{Put}
@@ -9,8 +9,6 @@ use Rattle.m36_outside.proofs.Grown.{appended-nil}
 use Rattle.m36_world.specs.Follow.{Follow}
 use Rattle.m36_world.specs.Seen.{Seen}
 use Rattle.m36_world.specs.declared.event.Event.{Event}
-use Rattle.m36_world.specs.declared.event.Event.TheVariants.{FileRead, FileWrite, Output, OutputFailed, Input}
-use Rattle.m36_world.specs.declared.event.Event.TheVariants.{InputFailed}
 use Rattle.m36_world.proofs.Following.{follow_split, follow_logs}
 use Rattle.m36_model.specs.Store.{State}
 use Rattle.m36_super.specs.BootResult.{IsBooted}
@@ -45,16 +43,6 @@ use Rattle.cmd_debug.specs.Sessions.{NothingDone, IsHeldOver, HoldsImage, HoldsF
 use Rattle.cmd_debug.specs.Sessions.{IsFolderCall, DebugLaw}
 
 -- ---- pieces
-
-pub pieces_both : (first more : List Event) → pieces_of (first ++ more) ≡ pieces_of first ++ pieces_of more
-pieces_both [] more = refl
-pieces_both (FileRead name answer ∷ first) more = pieces_both first more
-pieces_both (FileWrite name content answer ∷ first) more = pieces_both first more
-pieces_both (Output piece ∷ first) more = ap (λ l. piece ∷ l) (pieces_both first more)
-pieces_both (OutputFailed pieces ∷ first) more =
-    ap (λ l. pieces ++ l) (pieces_both first more) ∙ sym (append_assoc pieces (pieces_of first) (pieces_of more))
-pieces_both (Input piece ∷ first) more = pieces_both first more
-pieces_both (InputFailed ∷ first) more = pieces_both first more
 
 -- ---- a reader puts nothing
 

@@ -1,14 +1,8 @@
 -- Over the same files and the same bytes of input, calls of `debug FILE` put prefixes of one text.
-use Rattle.std.proofs.Common.{◌≡◌, ◌⊎◌, ℕ, List, [], ◌++◌, Option, Some, Result, Ok, Err}
+use Rattle.std.proofs.Common.{◌≡◌, ◌⊎◌, ℕ, List, [], ◌++◌, Some, Result, Ok, Err}
 use Rattle.std.proofs.Common.{refl, sym, ap, subst, ◌∙◌, inl, inr, arith}
-use Rattle.std.proofs.lemmas.List.Folds.{concat-append as joined_both}
 use Rattle.m36_outside.specs.Files.{Files}
-use Rattle.m36_outside.specs.Passing.{joined}
-use Rattle.m36_outside.specs.Putting.{PutsPieces}
-use Rattle.m36_outside.specs.Written.{GrewWithin}
-use Rattle.m36_outside.specs.declared.sink.Put.{Put}
-use Rattle.m36_outside.specs.declared.sink.Put.TheVariants.{Done, Failed}
-use Rattle.m36_outside.proofs.Grown.{grew_within, grew_longer}
+use Rattle.m36_outside.specs.declared.sink.Put.TheVariants.{Done}
 use Rattle.m36_world.specs.Follow.{Follow}
 use Rattle.m36_world.specs.Seen.{Seen}
 use Rattle.m36_world.specs.declared.event.Event.{Event}
@@ -25,8 +19,10 @@ use Rattle.m36_program.specs.Performs.{Performs}
 use Rattle.m36_program.specs.Program.{wants}
 use Rattle.m36_program.specs.Reader.{reader_result}
 use Rattle.m36_program.specs.MayHappen.{output_of, pieces_of, put_answer_of}
+use Rattle.m36_program.proofs.AlikeLaws.{written_within}
 use Rattle.m36_program.proofs.ProgramLaws.{performs_text}
-use Rattle.m36_program.proofs.ReaderLaws.{reader_pieces, reader_input, reader_outcome, reader_split}
+use Rattle.m36_program.proofs.ReaderLaws.{pieces_both, same_value, same_err, ok_err, err_end, reader_pieces, reader_input}
+use Rattle.m36_program.proofs.ReaderLaws.{reader_outcome, reader_split}
 use Rattle.m36_debug.specs.Session.{MachineRelations}
 use Rattle.m36_debug.specs.SessionProgram.{talking, session}
 use Rattle.m36_debug.specs.SessionText.{OneAnswer, IsDeterministic}
@@ -36,7 +32,7 @@ use Rattle.cmd_image.proofs.ImageReads.{image_reader}
 use Rattle.cmd_debug.specs.DebugProgram.{on_image, debug_image}
 use Rattle.cmd_debug.specs.Held.{new_history, past_turning}
 use Rattle.cmd_debug.specs.Sessions.{DebugTextLaw}
-use Rattle.cmd_debug.proofs.DebugCalls.{pieces_both, not_end}
+use Rattle.cmd_debug.proofs.DebugCalls.{not_end}
 use Rattle.cmd_debug.proofs.FolderText.{folder_text}
 
 -- ---- the machine of an image is deterministic
@@ -102,21 +98,6 @@ image_text state bytes result end old new old' new' events others is_end left le
 
 -- ---- a call
 
-same_ok : {A : Type 0} (a b : A) → (let r : Option (Result A Status) = Some (Ok a) in r) ≡ Some (Ok b) → a ≡ b
-same_ok a b is = cc
-
-same_err : {A : Type 0} (s t : Status) → (let r : Option (Result A Status) = Some (Err s) in r) ≡ Some (Err t) → s ≡ t
-same_err s t is = cc
-
-ok_not_err : {A P : Type 0} (a : A) (s : Status) → (let r : Option (Result A Status) = Some (Ok a) in r) ≡ Some (Err s)
-    → P
-ok_not_err a s is = absurd (cc)
-
-own_end :
-    (A : Type 0) (result : Result (Unit {0}) Status) (s : Status) → result ≡ Err s → IsEnd result
-    → IsEnd {A = A} (Err s)
-own_end A result s is ended = let end : IsEnd {A = Unit {0}} (Err s) = subst IsEnd is ended in end
-
 -- A value was read in a call, and the pieces of the call are those of what followed.
 record Read (name : List ℕ) (files : Files) (events : List Event) (result : Result (Unit {0}) Status) (old new : Seen)
     : Type 0 where
@@ -172,7 +153,7 @@ read_or_refused name files result old new told performs =
         result_is = ends.result_is;
         outcome = λ ended. reader_outcome (image_state name) files (Err ends.status) old new (image_reader talking name)
             told
-            (own_end (State (List ℕ)) result ends.status ends.result_is ended)
+            (err_end (State (List ℕ)) (Unit {0}) result ends.status ends.result_is ended)
             (record { events = performs.events; follow = performs.follow; goes = ends.goes });
         pieces = reader_pieces (image_state name) performs.events (Err ends.status) (image_reader talking name)
             ends.goes;
@@ -186,17 +167,17 @@ both_text :
     → ReadOrRefused name files events result old new → ReadOrRefused name files others end old' new'
     → OneText (pieces_of events) (pieces_of others) result end
 both_text name files bytes events others result end old new old' new' is_end left left' (inl one) (inl other) =
-    let same : other.value ≡ one.value = same_ok other.value one.value (sym other.outcome ∙ one.outcome) in
+    let same : other.value ≡ one.value = same_value other.value one.value (sym other.outcome ∙ one.outcome) in
     subst (λ l. OneText l (pieces_of others) result end) (sym one.pieces)
     (subst (λ l. OneText (pieces_of one.more) l result end) (sym other.pieces)
     (image_text one.value bytes result end one.between new other.between new' one.more other.more is_end
     (one.left ∙ left) (other.left ∙ left') one.follow other.follow one.goes
     (subst (λ v. Goes (on_image v) other.more end) same other.goes)))
 both_text name files bytes events others result end old new old' new' is_end left left' (inl one) (inr other) =
-    ok_not_err one.value other.status (sym one.outcome ∙ other.outcome is_end)
+    ok_err one.value other.status (sym one.outcome ∙ other.outcome is_end)
 both_text name files bytes events others result end old new old' new' is_end left left' (inr one) (inl other) =
     nothing_put events others result end one.pieces
-    (λ ended. ok_not_err other.value one.status (sym other.outcome ∙ one.outcome ended))
+    (λ ended. ok_err other.value one.status (sym other.outcome ∙ one.outcome ended))
 both_text name files bytes events others result end old new old' new' is_end left left' (inr one) (inr other) =
     nothing_put events others result end one.pieces
     (λ ended. (
@@ -215,26 +196,14 @@ call_text name files bytes result end old new old' new' is_end told told' left l
     both_text name files bytes one.events other.events result end old new old' new' is_end left left'
     (read_or_refused name files result old new told one) (read_or_refused name files end old' new' told' other)
 
--- what is written grows by a prefix of the text
-grew_first :
-    (put : Put) (first left all : List (List ℕ)) (old new : Seen)
-    → all ≡ first ++ left → PutsPieces put first (output_of old) (output_of new) → GrewWithin old.written new.written
-    (joined all)
-grew_first Done first left all old new is puts =
-    subst (GrewWithin old.written new.written) (sym (ap joined is ∙ joined_both first left))
-    (grew_longer old.written new.written (joined first) (joined left) (grew_within old.written new.written
-    (joined first) puts.text))
-grew_first Failed first left all old new is puts =
-    subst (GrewWithin old.written new.written) (sym (ap joined is ∙ joined_both first left))
-    (grew_longer old.written new.written (joined first) (joined left) puts.text)
-
 pub debug_text_law : DebugTextLaw
 debug_text_law = record {
   one_text = λ name files bytes result end old new old' new' is_end told told' left left' one other.
       call_text name files bytes result end old new old' new' is_end told told' left left' one other;
   written = λ name files bytes result end old new old' new' is_end told told' left left' one other.
       let text = call_text name files bytes result end old new old' new' is_end told told' left left' one other in
-      grew_first (put_answer_of one.events) (pieces_of one.events) text.left (pieces_of other.events) old new text.is
+      written_within (put_answer_of one.events) (pieces_of one.events) (pieces_of other.events) text.left (output_of old)
+      (output_of new) text.is
       (performs_text (debug_image name) result old new one);
   folder = λ files bytes result end old new old' new' is_end told told' left left' one other.
       folder_text files bytes result end old new old' new' is_end told told' left left' one other;

@@ -31,7 +31,7 @@ use Rattle.m36_program.specs.Performs.{Performs}
 use Rattle.m36_program.specs.Program.{wants}
 use Rattle.m36_program.specs.Reader.{reader_result}
 use Rattle.m36_program.specs.MayHappen.{pieces_of}
-use Rattle.m36_program.proofs.ReaderLaws.{reader_pieces, reader_input, reader_outcome, reader_split}
+use Rattle.m36_program.proofs.ReaderLaws.{pieces_both, same_value, reader_pieces, reader_input, reader_outcome, reader_split}
 use Rattle.cmd_folder.specs.Folder.{FolderFields}
 use Rattle.cmd_folder.proofs.OneSystem.{one_system}
 use Rattle.m36_debug.specs.LinesTaken.{IsFirstPart}
@@ -45,7 +45,7 @@ use Rattle.cmd_folder.proofs.FolderReader.{folder_reader}
 use Rattle.cmd_debug.specs.DebugProgram.{on_folder, debug_folder}
 use Rattle.cmd_debug.specs.Held.{super_turning}
 use Rattle.cmd_debug.specs.Sessions.{IsPlainCall}
-use Rattle.cmd_debug.proofs.DebugCalls.{chosen_system, pieces_both}
+use Rattle.cmd_debug.proofs.DebugCalls.{chosen_system}
 
 -- ---- systems that differ in their frames
 
@@ -186,10 +186,6 @@ given_by_files given files shown is says =
     subst (λ (t : Option Files). IfSome t (λ f. reader_result f (folder_given {may = talking} None) ≡ Some (Ok given))) is
     says in at
 
-same_given : (a b : FolderFields) → (let r : Option (Result FolderFields Status) = Some (Ok a) in r) ≡ Some (Ok b)
-    → a ≡ b
-same_given a b is = cc
-
 pub folder_text :
     (files : Files) (bytes : List ℕ) (result end : Result (Unit {0}) Status) (old new old' new' : Seen)
     → IsEnd end → old.files ≡ Some files → old'.files ≡ Some files → old.left ≡ Some bytes → old'.left ≡ Some bytes
@@ -206,7 +202,7 @@ folder_text files bytes result end old new old' new' is_end told told' left left
           let outcome = reader_outcome (folder_given None) files (Ok both.value) old parts.between
           (folder_reader talking None) told tt begins in
           let same : other.given ≡ both.value =
-          same_given other.given both.value (sym (given_by_files other.given files old'.files told' other.read.by_files)
+          same_value other.given both.value (sym (given_by_files other.given files old'.files told' other.read.by_files)
           ∙ outcome) in
           let chosen = chosen_system both.value.lib both.more result both.goes_on in
           let booted : IsBooted both.value.lib other.system = subst (λ (g : FolderFields). IsBooted g.lib other.system)

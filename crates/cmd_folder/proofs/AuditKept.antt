@@ -83,7 +83,7 @@ turns_loaded lib (turn ∷ turns) r last is are =
 
 pub record IsKept (lib : Library) (r : Booted) : Type 0 where
   pub stands : IsLaidOut lib.catalog.frames r.state
-  pub audit_system : IsAudited r.state.memory.core booted_dbr
+  pub audited : IsAudited r.state.memory.core booted_dbr
 
 mid_unloaded :
     (b : Bool) (lib : Library) (turns : List Turn) (mid last : Booted)
@@ -105,7 +105,7 @@ turn_keeps :
 turn_keeps lib before turn after un un' is kept =
     record {
       stands = stood after.loaded lib after un' (turn_law lib before turn after un kept.stands is).stands;
-      audit_system = turn_audit lib before turn after un kept.stands kept.audit_system is un';
+      audited = turn_audit lib before turn after un kept.stands kept.audited is un';
     }
 
 turns_keep :
@@ -122,23 +122,23 @@ turns_keep lib (turn ∷ turns) r last un are un' kept =
 reached_kept :
     (lib : Library) (system : SuperFields) (now : Booted)
     → IsBooted lib system → IsAudited system.core booted_dbr → IsReached lib now → IsKept lib now
-reached_kept lib system now booted audit_system reached =
+reached_kept lib system now booted audited reached =
     let same : system ≡ reached.system = one_system lib system reached.system booted reached.booted in
-    let start : IsKept lib (booted_of system) = record { stands = booted.stands; audit_system = audit_system } in
+    let start : IsKept lib (booted_of system) = record { stands = booted.stands; audited = audited } in
     turns_keep lib reached.turns (booted_of reached.system) now
     (start_unloaded lib reached.system reached.booted) reached.turns_are reached.unloaded
     (subst (λ (s : SuperFields). IsKept lib (booted_of s)) same start)
 
 pub passes_booted :
     (lib : Library) (system : SuperFields) → IsBooted lib system → IsAudited system.core booted_dbr → PassesFolderAudit lib
-passes_booted lib system booted audit_system = record {
-  conditions = λ now reached. (reached_kept lib system now booted audit_system reached).audit_system;
+passes_booted lib system booted audited = record {
+  conditions = λ now reached. (reached_kept lib system now booted audited reached).audited;
   isolates = λ now reached. record {
     isolates = core_isolated now.state.memory.core booted_dbr
-        (reached_kept lib system now booted audit_system reached).audit_system;
+        (reached_kept lib system now booted audited reached).audited;
   };
   flat = λ now reached.
-      let kept = reached_kept lib system now booted audit_system reached in
+      let kept = reached_kept lib system now booted audited reached in
       flat_isolated (flat_of now.state.memory) booted_dbr
-      (flat_audit lib.catalog.frames now.state.memory kept.stands.laid kept.audit_system);
+      (flat_audit lib.catalog.frames now.state.memory kept.stands.laid kept.audited);
 }

@@ -23,7 +23,7 @@ use Rattle.m36_program.proofs.PutLaws.{goes_puts, loses_performs}
 abbrev pub GoesAs : {may : May} {A : Type 0} → Program may A → Program may A → Type 0
 GoesAs {may} {A} p q = (events : List Event) (result : Result A Status) → Goes p events result → Goes q events result
 
-fails_as :
+pub fails_as :
     {A : Type 0} (pieces : List (List ℕ)) (goes goes' : List Event → Type 0) (result : Result A Status)
     → ((events : List Event) → goes events → goes' events) → FailsWith pieces goes result → FailsWith pieces goes' result
 fails_as [] goes goes' result on fails = fails
@@ -94,9 +94,6 @@ performs_unput block p old new fails = loses_performs block p old new (record {
 })
 
 -- ---- pieces are added to a block, and then others
-
-pub gathers_none : (block : List (List ℕ)) (seen : Seen) → Gathers block block [] seen seen
-gathers_none block seen = record { handed = []; is = append-nil block; follow = follow_none seen }
 
 pub gathers_then :
     (old mid new more others : List (List ℕ)) (before between after : Seen)

@@ -42,7 +42,7 @@ use Rattle.cmd_image.specs.Needs.{MayRun}
 use Rattle.cmd_image.proofs.PutEnds.{whole_ends, none_ends, starts_longer, none_starts}
 use Rattle.cmd_folder.specs.FolderLaw.{OneIsPrefix}
 use Rattle.cmd_folder.specs.Needs.{EndsWithDis, RunNeeds, SystemNeeds, FolderNeeds}
-use Rattle.cmd_folder.specs.OnFolder.{audit_and_run, audit_and_run_if, command_after_audit, running, on_folder}
+use Rattle.cmd_folder.specs.OnFolder.{audit_and_run, audit_and_run_if, command_after_audit, run_of_folder, on_folder}
 use Rattle.cmd_folder.specs.IsBootedRun.{FinishesAs, StopsAs}
 use Rattle.cmd_folder.specs.RunProgram.{RunContext, run_from}
 use Rattle.cmd_folder.proofs.FolderFound.{Found, folder_found}
@@ -65,8 +65,8 @@ starved_ends result is end =
 none_by :
     (system : SuperFields) (findings : List (ℕ × ℕ)) (unaudited : Bool) → AreFindings system.core booted_dbr findings
     → MayRun (IsAudited system.core booted_dbr) unaudited → (findings ≡ []) ⊎ (unaudited ≡ true)
-none_by system findings unaudited found (inl audit_system) =
-    inl (findings_law.complete system.core booted_dbr findings audit_system found)
+none_by system findings unaudited found (inl audited) =
+    inl (findings_law.complete system.core booted_dbr findings audited found)
 none_by system findings unaudited found (inr un) = inr un
 
 runs_by :
@@ -112,16 +112,16 @@ run_done :
     (events : List Event)
     (result : Result (Unit {0}) Status)
     → (booted_of system).next_event ≡ Step → AreFindings system.core booted_dbr findings → RunNeeds run given.lib system
-    → Goes (audit_and_run_if (is_run_allowed findings run.unaudited) (running given to) run.steps
+    → Goes (audit_and_run_if (is_run_allowed findings run.unaudited) (run_of_folder given to) run.steps
     (booted_of system) findings) events result
     → IsEnd result → result ≡ Ok tt
 unfolding audit_and_run
 run_done run to given system findings events result next found needs goes end =
-    let ran : Goes (audit_and_run_if true (running given to) run.steps (booted_of system) findings) events result =
-    subst (λ b. Goes (audit_and_run_if b (running given to) run.steps (booted_of system) findings) events result)
+    let ran : Goes (audit_and_run_if true (run_of_folder given to) run.steps (booted_of system) findings) events result =
+    subst (λ b. Goes (audit_and_run_if b (run_of_folder given to) run.steps (booted_of system) findings) events result)
     (runs_by findings run.unaudited (none_by system findings run.unaudited found needs.0)) goes in
-    split_done (running given to) run.steps (booted_of system) findings events result next needs.1
-    (puts_split (audit_pieces findings) (run_from (running given to) 0 run.steps (booted_of system)) events
+    split_done (run_of_folder given to) run.steps (booted_of system) findings events result next needs.1
+    (puts_split (audit_pieces findings) (run_from (run_of_folder given to) 0 run.steps (booted_of system)) events
     result ran) end
 
 command_done :
@@ -188,9 +188,9 @@ command_agrees :
     → Goes (command_after_audit command given first findings) events result → OneIsPrefix (audit_pieces findings) (pieces_of events)
 command_agrees Audit given first findings events result goes = audit_agrees findings events result goes
 command_agrees (Run run) given first findings events result goes =
-    by_agrees (is_run_allowed findings run.unaudited) (running given output.Console) run.steps first findings events result goes
+    by_agrees (is_run_allowed findings run.unaudited) (run_of_folder given output.Console) run.steps first findings events result goes
 command_agrees (Trace run) given first findings events result goes =
-    by_agrees (is_run_allowed findings run.unaudited) (running given output.Trace) run.steps first findings events result goes
+    by_agrees (is_run_allowed findings run.unaudited) (run_of_folder given output.Trace) run.steps first findings events result goes
 
 yes_none :
     (findings : List (ℕ × ℕ)) (pieces : List (List ℕ)) → OneIsPrefix (audit_pieces findings) pieces

@@ -130,9 +130,9 @@ pub passed_goes :
     (result : Result (Unit {0}) Status)
     → IsBooted given.lib system → IsAudited system.core booted_dbr → Goes (on_folder command given) events result
     → GoesBy command given system [] events result
-passed_goes command given system events result booted audit_system goes =
+passed_goes command given system events result booted audited goes =
     same_goes command given system [] events result booted
-    (λ others found. findings_law.complete system.core booted_dbr others audit_system found)
+    (λ others found. findings_law.complete system.core booted_dbr others audited found)
     (folder_found command given events result goes)
 
 some_goes :

@@ -6,8 +6,6 @@ use Rattle.m36_outside.specs.Files.{Files}
 use Rattle.m36_world.specs.Follow.{Follow, outputs}
 use Rattle.m36_world.specs.Seen.{Seen}
 use Rattle.m36_world.specs.declared.event.Event.{Event}
-use Rattle.m36_world.specs.declared.event.Event.TheVariants.{FileRead, FileWrite, Output, OutputFailed, Input}
-use Rattle.m36_world.specs.declared.event.Event.TheVariants.{InputFailed}
 use Rattle.m36_world.proofs.Following.{follow_split}
 use Rattle.m36_model.specs.Audit.{AreFindings, IsAudited}
 use Rattle.m36_model.specs.BootedCore.{booted_dbr}
@@ -34,9 +32,9 @@ use Rattle.m36_program.specs.Reader.{reader_result}
 use Rattle.m36_program.specs.Split.{BothGo, FirstEnds}
 use Rattle.m36_program.specs.MayHappen.{pieces_of}
 use Rattle.m36_program.proofs.AlikeLaws.{alike_wants, alike_then, alike_one, has_one_text}
-use Rattle.m36_program.proofs.PieceLaws.{PutsBy, puts_ended}
+use Rattle.m36_program.proofs.PieceLaws.{PutsBy}
 use Rattle.m36_program.proofs.PutLaws.{goes_puts}
-use Rattle.m36_program.proofs.ReaderLaws.{reader_pieces, reader_outcome, reader_split}
+use Rattle.m36_program.proofs.ReaderLaws.{pieces_both, same_value, ok_err, reader_pieces, reader_outcome, reader_split}
 use Rattle.cmd_image.specs.AuditText.{audit_pieces}
 use Rattle.cmd_image.specs.ImageAudit.{passes, is_run_allowed, audit_status}
 use Rattle.cmd_image.proofs.SomeFindings.{some_findings}
@@ -54,14 +52,14 @@ use Rattle.cmd_folder.specs.Runs as runs
 use Rattle.cmd_folder.proofs.OneSystem.{one_system}
 use Rattle.cmd_folder.proofs.OneRunLaws.{one_run_here}
 use Rattle.cmd_image.specs.ImageEnds.{EndsWith}
-use Rattle.cmd_image.specs.ImageProgram.{audit_may_end, audit_only}
-use Rattle.cmd_image.proofs.PutEnds.{whole_ends, pieces_begin, both_end, puts_end, SomeEnd, early_ends}
+use Rattle.cmd_image.proofs.ImageGoes.{audit_puts, audit_end}
+use Rattle.cmd_image.proofs.PutEnds.{whole_ends, pieces_begin, both_end, SomeEnd, early_ends}
 use Rattle.cmd_image.proofs.TextLaws.{audit_alike}
 use Rattle.cmd_folder.specs.FolderLaw.{run_command, is_unaudited, IsPrefix, OneIsPrefix, ArePlainTurns, plain_pieces, whole_pieces}
 use Rattle.cmd_folder.specs.FolderLaw.{whole_status, HasTextOf, FolderLaw}
 use Rattle.cmd_folder.specs.FolderProgram.{folder_given, folder_program}
 use Rattle.cmd_folder.specs.Needs.{OneEndsWithDis}
-use Rattle.cmd_folder.specs.OnFolder.{AreFolderFindings, audit_and_run, audit_and_run_if, command_after_audit, running, on_system}
+use Rattle.cmd_folder.specs.OnFolder.{AreFolderFindings, audit_and_run, audit_and_run_if, command_after_audit, run_of_folder, on_system}
 use Rattle.cmd_folder.specs.OnFolder.{on_folder}
 use Rattle.cmd_folder.specs.RunProgram.{RunContext, finish_may_end, run_from}
 use Rattle.cmd_folder.proofs.FolderEnds.{unput_ends, starved_ends}
@@ -95,15 +93,6 @@ unfolding folder_program
 audit_program_alike user =
     alike_then (folder_given user) (folder_given user) (on_folder Audit) (on_folder Audit)
     (folder_alike quiet user) booted_alike
-
-audit_puts :
-    (findings : List (ℕ × ℕ)) (events : List Event) (result : Result (Unit {0}) Status)
-    → Goes (audit_only findings) events result → PutsBy (audit_pieces findings)
-    (audit_status (passes findings)) events result
-unfolding audit_only
-audit_puts findings events result goes =
-    puts_ended quiet (audit_pieces findings) (audit_status (passes findings))
-    (audit_may_end (passes findings)) events result goes
 
 -- What `audit` puts on a booted folder, and its status, by the findings.
 record IsAuditBy (given : FolderFields) (events : List Event) (result : Result (Unit {0}) Status) : Type 0 where
@@ -155,10 +144,6 @@ ends_by command given system booted each none =
     none end.events end.result
     (goes_known command given system findings end.events end.result booted found end.goes) end.is_end)
 
-audit_end : (findings : List (ℕ × ℕ)) → SomeEnd (audit_only findings)
-unfolding audit_only
-audit_end findings = puts_end (audit_pieces findings) (audit_status (passes findings)) (audit_may_end (passes findings))
-
 -- If some condition fails, something is found.
 fails_with :
     (system : SuperFields) (findings : List (ℕ × ℕ))
@@ -178,10 +163,10 @@ failed_end :
     (command_after_audit command given (booted_of system) findings)
 failed_end Audit given system findings fails is = audit_end findings
 failed_end (Run run) given system findings fails is =
-    unrun_end (passes findings || run.unaudited) (running given output.Console) run.steps (booted_of system) findings
+    unrun_end (passes findings || run.unaudited) (run_of_folder given output.Console) run.steps (booted_of system) findings
     (ap (λ (b : Bool). b || run.unaudited) fails ∙ is)
 failed_end (Trace run) given system findings fails is =
-    unrun_end (passes findings || run.unaudited) (running given output.Trace) run.steps (booted_of system) findings
+    unrun_end (passes findings || run.unaudited) (run_of_folder given output.Trace) run.steps (booted_of system) findings
     (ap (λ (b : Bool). b || run.unaudited) fails ∙ is)
 
 -- a run that finishes
@@ -209,10 +194,10 @@ command_end :
     → Finishes how given.lib run.steps turns last
     → SomeEnd (command_after_audit (run_command to run) given (booted_of system) findings)
 command_end output.Console run given system findings turns last how next goes finishes =
-    ran_end (is_run_allowed findings run.unaudited) (running given output.Console) run.steps
+    ran_end (is_run_allowed findings run.unaudited) (run_of_folder given output.Console) run.steps
     (booted_of system) findings turns last how next goes finishes
 command_end output.Trace run given system findings turns last how next goes finishes =
-    ran_end (is_run_allowed findings run.unaudited) (running given output.Trace) run.steps
+    ran_end (is_run_allowed findings run.unaudited) (run_of_folder given output.Trace) run.steps
     (booted_of system) findings turns last how next goes finishes
 
 -- ---- the one text of plain turns
@@ -265,7 +250,7 @@ run_goes :
     (events : List Event)
     (result : Result (Unit {0}) Status)
     → Goes (command_after_audit (run_command to run) given first findings) events result
-    → Goes (audit_and_run_if (is_run_allowed findings run.unaudited) (running given to) run.steps first findings) events result
+    → Goes (audit_and_run_if (is_run_allowed findings run.unaudited) (run_of_folder given to) run.steps first findings) events result
 run_goes output.Console run given first findings events result goes = goes
 run_goes output.Trace run given first findings events result goes = goes
 
@@ -278,7 +263,7 @@ plain_by :
     → OneIsPrefix (pieces_of events) (plain_pieces to findings turns)
 plain_by run to given findings turns last events result plain (inl goes) =
     run_by_agrees (is_run_allowed findings run.unaudited)
-    (running given to) run.steps plain.system findings turns last events result plain.booted
+    (run_of_folder given to) run.steps plain.system findings turns last events result plain.booted
     plain.goes plain.plain (run_goes to run given (booted_of plain.system) findings events result goes)
 plain_by run to given findings turns last events result plain (inr none) =
     inl (record {
@@ -374,7 +359,7 @@ text_by :
     → HasTextOf run to given findings turns how events result
 text_by run to given findings turns last how events result plain finishes (inl goes) =
     run_by_text (is_run_allowed findings run.unaudited)
-    (running given to) run.steps plain.system findings turns last how events result plain.booted
+    (run_of_folder given to) run.steps plain.system findings turns last how events result plain.booted
     plain.goes finishes plain.plain (run_goes to run given (booted_of plain.system) findings events result goes)
 text_by run to given findings turns last how events result plain finishes (inr none) =
     let is = is_run_allowed findings run.unaudited in
@@ -396,16 +381,6 @@ plain_text run to given findings turns last how events result plain finishes goe
 
 -- ---- whole calls
 
-pieces_both : (first more : List Event) → pieces_of (first ++ more) ≡ pieces_of first ++ pieces_of more
-pieces_both [] more = refl
-pieces_both (FileRead name answer ∷ first) more = pieces_both first more
-pieces_both (FileWrite name content answer ∷ first) more = pieces_both first more
-pieces_both (Output piece ∷ first) more = ap (λ l. piece ∷ l) (pieces_both first more)
-pieces_both (OutputFailed pieces ∷ first) more =
-    ap (λ l. pieces ++ l) (pieces_both first more) ∙ sym (append_assoc pieces (pieces_of first) (pieces_of more))
-pieces_both (Input piece ∷ first) more = pieces_both first more
-pieces_both (InputFailed ∷ first) more = pieces_both first more
-
 -- The call of a command, over files from which the reader gives the folder: it does on the folder what it puts; or it
 -- puts nothing and does not end.
 record OnGiven (command : FolderCommand) (given : FolderFields) (pieces : List (List ℕ))
@@ -418,14 +393,6 @@ record Unread (pieces : List (List ℕ)) (result : Result (Unit {0}) Status) : T
   pub none : pieces ≡ []
   pub unended : IsEnd result → ⊥
 
-ok_same : (a b : FolderFields) → (let r : Option (Result FolderFields Status) = Some (Ok a) in r) ≡ Some (Ok b) → a ≡ b
-ok_same a b is = cc
-
-ok_err :
-    (a : FolderFields) (s : Status)
-    → (let r : Option (Result FolderFields Status) = Some (Ok a) in r) ≡ Some (Err s) → ⊥
-ok_err a s is = absurd (cc)
-
 folder_of :
     (command : FolderCommand) (user : Option (List ℕ)) (files : Files) (given : FolderFields)
     (result : Result (Unit {0}) Status) (old new : Seen)
@@ -437,7 +404,7 @@ folder_of :
 folder_of command user files given result old new told gives events follow (inl both) =
     let parts = follow_split both.first both.more old new (subst (λ e. Follow e old new) both.is follow) in
     let same : both.value ≡ given =
-    ok_same both.value given
+    same_value both.value given
     (sym (reader_outcome (folder_given user) files (Ok both.value) old parts.between (folder_reader quiet user) told tt
     (record { events = both.first; follow = parts.begins; goes = both.begins })) ∙ gives) in
     inl (record {

@@ -4,7 +4,7 @@ use Rattle.std.specs.Prelude.{unwrap_or}
 use Rattle.m36_model.specs.Fields.{AtFields}
 use Rattle.m36_model.specs.BootedCore.{descriptor_words}
 use Rattle.m36_model.specs.Residence.{flat_of}
-use Rattle.m36_dir.specs.Catalog.{CatalogFields, found}
+use Rattle.m36_dir.specs.Catalog.{CatalogFields, find_segment}
 use Rattle.m36_link.specs.Fields.{KnownFields, SnapFields}
 use Rattle.m36_link.specs.Known.{nothing_known, segment_of}
 use Rattle.m36_link.specs.Search.{find_in_directory, candidates, search_result}
@@ -34,7 +34,7 @@ framed catalog n = record catalog { frames = n }
 same_snap :
     (known : KnownFields) (catalog : CatalogFields) (files : List (List ℕ)) (n : ℕ) (at : AtFields)
     → snap_of known catalog files at ≡ snap_of known (framed catalog n) files at
-unfolding snap_of target_of_link outer_target search_result candidates find_in_directory found segment_of
+unfolding snap_of target_of_link outer_target search_result candidates find_in_directory find_segment segment_of
 same_snap known catalog files n at = refl
 
 alike_by : (next_event : NextEvent) (lib : Library) (n : ℕ) (r : FlatRun) → flat_turn_by next_event lib r ≡ flat_turn_by next_event (with_frames lib n) r
@@ -75,7 +75,7 @@ same_flat catalog files s n =
     }
 
 same_start : (catalog : CatalogFields) (files : List (List ℕ)) (n : ℕ) → start_of catalog files ≡ start_of (framed catalog n) files
-unfolding start_of start_answer start_segment outer_snap outer_target search_result candidates find_in_directory found segment_of
+unfolding start_of start_answer start_segment outer_snap outer_target search_result candidates find_in_directory find_segment segment_of
 same_start catalog files n = refl
 
 started_by : (few : Bool) (gate : Option BootFault) (start : StartAnswer) (s : SnapFields) → (if few then Err fault.U1 else first_or gate start) ≡ Ok s → start ≡ Ok s

@@ -2,7 +2,6 @@
 use Rattle.std.proofs.Common.{◌≡◌, ◌≢◌, ℕ, zero, suc, ◌+◌, List, [], ◌∷◌, ◌++◌, Some, refl, sym, ap, subst, ◌∙◌, inl}
 use Rattle.std.proofs.Common.{inr, arith}
 use Rattle.std.proofs.lemmas.List.{append-nil}
-use Rattle.m36_world.specs.declared.event.Event.TheVariants.{Output}
 use Rattle.m36_world.specs.Follow.{outputs}
 use Rattle.m36_model.specs.Fields.{AtFields}
 use Rattle.m36_model.specs.declared.endings.End.{End}
@@ -18,6 +17,7 @@ use Rattle.m36_super.specs.SuperTurn.{IsNoService}
 use Rattle.m36_program.specs.Early.{result_of_status}
 use Rattle.m36_program.specs.Goes.{Goes}
 use Rattle.m36_program.specs.Program.{quiet, Program, puts_all, some}
+use Rattle.m36_program.proofs.Gathered.{outputs_both}
 use Rattle.m36_program.proofs.Performing.{goes_some, goes_wants}
 use Rattle.m36_program.proofs.ProgramLaws.{goes_ends}
 use Rattle.m36_program.proofs.PutLaws.{goes_puts}
@@ -36,10 +36,6 @@ use Rattle.cmd_folder.proofs.Serving.{ended_pieces, print_over}
 -- The program puts these pieces, and ends with the status of the finish.
 abbrev Writes : Program quiet (Unit {0}) → List (List ℕ) → Finish → Type 0
 Writes rest pieces how = Goes rest (outputs pieces) (result_of_status (finish_status (Some how)))
-
-outputs_both : (first more : List (List ℕ)) → outputs (first ++ more) ≡ outputs first ++ outputs more
-outputs_both [] more = refl
-outputs_both (piece ∷ first) more = ap (λ events. Output piece ∷ events) (outputs_both first more)
 
 writes_first :
     (first more : List (List ℕ)) (rest : Program quiet (Unit {0})) (how : Finish)

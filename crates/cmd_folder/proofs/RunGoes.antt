@@ -68,7 +68,7 @@ pub no_turns :
 unfolding pieces_of_turns turns_step_count
 no_turns run taken how = ap (λ n. end_pieces run.denied how n) (add-zero taken)
 
-stay : (lib : Library) (left : ℕ) (b : Booted) → runs.Goes lib left b [] b
+pub stay : (lib : Library) (left : ℕ) (b : Booted) → runs.Goes lib left b [] b
 unfolding AreTurns turns_step_count
 stay lib left b = record { turns_are = refl; events = tt; few = omega arith }
 
@@ -130,7 +130,7 @@ finishes_on (Some (Over e)) lib left all told turns last is finishes = finishes
 finishes_on (Some Limit) lib left all told turns last is finishes =
     (ap (λ n. turn_step_count told + n) finishes.0 ∙ sym is, finishes.1)
 
-turn_first :
+pub turn_first :
     (lib : Library) (left all : ℕ) (b after last : Booted) (told : Turn) (turns : List Turn)
     → IsTurn lib b told after → IsEvent told → all ≡ turn_step_count told + left → runs.Goes lib left after turns last
     → runs.Goes lib all b (told ∷ turns) last
@@ -265,12 +265,12 @@ print_made false (Ok text) before told after is =
 -- ---- services
 
 -- The program that follows a step or a service goes as a run.
-abbrev StepFollows : RunContext → ℕ → ℕ → Type 0
-StepFollows run taken left =
+abbrev RestGoes : RunContext → ℕ → ℕ → Type 0
+RestGoes run taken left =
     (b : Booted) (events : List Event) (result : Result (Unit {0}) Status)
     → b.next_event ≡ Step → Goes (run_from run taken left b) events result → RunGoes run taken left b events result
 
-over_turn : (lib : Library) (b : Booted) (e : End) → b.next_event ≡ next_event.Over e → IsTurn lib b (turn.Ended e) b
+pub over_turn : (lib : Library) (b : Booted) (e : End) → b.next_event ≡ next_event.Over e → IsTurn lib b (turn.Ended e) b
 unfolding IsTurn
 over_turn lib b e is = subst (λ c. IsTurnBy c lib b (turn.Ended e) b) (sym is) (refl, refl)
 
@@ -278,7 +278,7 @@ over_turn lib b e is = subst (λ c. IsTurnBy c lib b (turn.Ended e) b) (sym is) 
 after_goes :
     (next : NextEvent) (run : RunContext) (taken left : ℕ) (b : Booted) (events : List Event)
     (result : Result (Unit {0}) Status)
-    → StepFollows run taken left → IsNoService next → b.next_event ≡ next
+    → RestGoes run taken left → IsNoService next → b.next_event ≡ next
     → Goes (after_service next run taken (λ b. run_from run taken left b) b) events result
     → RunGoes run taken left b events result
 after_goes Step run taken left b events result on silent is goes = on b events result is goes
@@ -291,7 +291,7 @@ after_goes (next_event.Over e) run taken left b events result on silent is goes 
 service_goes :
     (run : RunContext) (taken left : ℕ) (b after : Booted) (told : Turn) (events : List Event)
     (result : Result (Unit {0}) Status)
-    → StepFollows run taken left → IsTurn run.lib b told after → IsServiceMade told after.next_event
+    → RestGoes run taken left → IsTurn run.lib b told after → IsServiceMade told after.next_event
     → Goes (puts_all (pieces_of_turn run.output taken told) (continue_after_service run taken
     (λ b. run_from run taken left b) after)) events result
     → RunGoes run taken left b events result
@@ -307,7 +307,7 @@ service_goes run taken left b after told events result on is made goes =
 print_goes :
     (run : RunContext) (taken left : ℕ) (b after : Booted) (told : Turn) (events : List Event)
     (result : Result (Unit {0}) Status)
-    → StepFollows run taken left → IsTurn run.lib b told after → PrintMade told after.next_event
+    → RestGoes run taken left → IsTurn run.lib b told after → PrintMade told after.next_event
     → Goes (puts_all (pieces_of_turn run.output taken told) (continue_after_service run taken
     (λ b. run_from run taken left b) after)) events result
     → RunGoes run taken left b events result
@@ -346,7 +346,7 @@ starved_here run taken left b events result waits ends = record {
 link_goes :
     (run : RunContext) (taken left : ℕ) (b : Booted) (at : AtFields) (events : List Event)
     (result : Result (Unit {0}) Status)
-    → StepFollows run taken left → b.next_event ≡ Link at
+    → RestGoes run taken left → b.next_event ≡ Link at
     → Goes (serve_event (Link at) run taken (λ b. run_from run taken left b) b) events result
     → RunGoes run taken left b events result
 unfolding Goes IsTurn
@@ -362,7 +362,7 @@ link_goes run taken left b at events result on is (inr ends) =
 
 print_serves :
     (run : RunContext) (taken left : ℕ) (b : Booted) (events : List Event) (result : Result (Unit {0}) Status)
-    → StepFollows run taken left → b.next_event ≡ Print
+    → RestGoes run taken left → b.next_event ≡ Print
     → Goes (serve_event Print run taken (λ b. run_from run taken left b) b) events result
     → RunGoes run taken left b events result
 unfolding Goes IsTurn
@@ -375,7 +375,7 @@ print_serves run taken left b events result on is goes =
 serves_by :
     (next : NextEvent) (run : RunContext) (taken left : ℕ) (b : Booted) (events : List Event)
     (result : Result (Unit {0}) Status)
-    → StepFollows run taken left → b.next_event ≡ next
+    → RestGoes run taken left → b.next_event ≡ next
     → Goes (serve_event next run taken (λ b. run_from run taken left b) b) events result
     → RunGoes run taken left b events result
 serves_by Step run taken left b events result on is goes = on b events result is goes
@@ -386,7 +386,7 @@ serves_by (next_event.Over e) run taken left b events result on is goes =
 
 serve_goes :
     (run : RunContext) (taken left : ℕ) (b : Booted) (events : List Event) (result : Result (Unit {0}) Status)
-    → StepFollows run taken left → Goes (serve run taken (λ b. run_from run taken left b) b) events result
+    → RestGoes run taken left → Goes (serve run taken (λ b. run_from run taken left b) b) events result
     → RunGoes run taken left b events result
 unfolding serve
 serve_goes run taken left b events result on goes = serves_by b.next_event run taken left b events result on refl goes
@@ -396,7 +396,7 @@ serve_goes run taken left b events result on goes = serves_by b.next_event run t
 step_goes :
     (run : RunContext) (taken left : ℕ) (b after : Booted) (told : Turn) (events : List Event)
     (result : Result (Unit {0}) Status)
-    → StepFollows run (taken + 1) left → b.next_event ≡ Step → IsTurn run.lib b told after
+    → RestGoes run (taken + 1) left → b.next_event ≡ Step → IsTurn run.lib b told after
     → Goes (puts_all (pieces_of_turn run.output taken told) (serve run (taken + 1)
     (λ b. run_from run (taken + 1) left b) after)) events result
     → RunGoes run taken (suc left) b events result
@@ -409,7 +409,7 @@ step_goes run taken left b after told events result on next is goes =
     (λ more goes. serve_goes run (taken + 1) left after more result on goes)
     (puts_split (pieces_of_turn run.output taken told) rest events result goes)
 
-run_goes : (run : RunContext) (left taken : ℕ) → StepFollows run taken left
+run_goes : (run : RunContext) (left taken : ℕ) → RestGoes run taken left
 unfolding Goes run_from turns_step_count
 run_goes run zero taken b events result next goes = ends_here run taken 0 b Limit events result (refl, next) goes
 run_goes run (suc left) taken b events result next goes =

@@ -5,9 +5,8 @@ use Rattle.m36_outside.specs.declared.sink.Put.TheVariants.{Done, Failed}
 use Rattle.m36_world.specs.Answers.{PutDid}
 use Rattle.m36_world.specs.Seen.{Seen}
 use Rattle.m36_program.specs.Gathered.{Gathers, Adds}
-use Rattle.m36_program.proofs.Gathered.{gathers_put, loses_put}
+use Rattle.m36_program.proofs.Gathered.{gathers_none, gathers_put, loses_put}
 use Rattle.cmd_folder.specs.RunText.{console_pieces}
-use Rattle.cmd_folder.proofs.BlockLaws.{gathers_none, adds_then, loses_more}
 use Rattle.std.proofs.Common.{refl}
 
 -- no characters

@@ -10,7 +10,7 @@ use Rattle.m36_super.specs.Library.{Library}
 use Rattle.m36_status.specs.declared.status.Code.TheVariants as code
 use Rattle.m36_status.specs.declared.refusal.Refusal.{Refusal}
 use Rattle.m36_status.specs.declared.refusal.Refusal.TheVariants.{NoMemory}
-use Rattle.m36_status.specs.Refusing.{Early}
+use Rattle.m36_status.specs.Refusing.{RuleResult}
 use Rattle.m36_files.specs.declared.access.Access.{Access}
 use Rattle.m36_files.specs.CatalogRules.{boot_text_refusal}
 
@@ -42,10 +42,10 @@ refusal_of_fault (boot.U4 segment) = boot_text_refusal code.U4 segment
 refusal_of_fault boot.NoMemory = NoMemory
 
 -- the folder if it boots, or the refusal of its fault
-abbrev pub folder_or_refusal : FolderFields → Result SnapFields BootFault → Early FolderFields
+abbrev pub folder_or_refusal : FolderFields → Result SnapFields BootFault → RuleResult FolderFields
 folder_or_refusal given (Ok start) = Ok given
 folder_or_refusal given (Err fault) = Err (refusal_of_fault fault)
 
 -- the folder itself if it boots, otherwise its refusal with a code
-unfoldable pub boot_result : FolderFields → Early FolderFields
+unfoldable pub boot_result : FolderFields → RuleResult FolderFields
 boot_result given = folder_or_refusal given (boot_answer given.lib.catalog given.lib.files)

@@ -45,14 +45,15 @@ audit_and_run_if true run steps first findings = audit_and_run run steps first f
 audit_and_run_if false run steps first findings = audit_only findings
 
 -- a run of the system of a folder, and what is written of it
-abbrev pub running : FolderFields → RunOutput → RunContext
-running given output = record { lib = given.lib; denied = given.denied; output = output }
+abbrev pub run_of_folder : FolderFields → RunOutput → RunContext
+run_of_folder given output = record { lib = given.lib; denied = given.denied; output = output }
 
 -- `run` and `trace` after the audit: the run, or the audit's text alone
 abbrev pub run_after_audit :
     FolderRun → RunOutput → FolderFields → Booted → List (ℕ × ℕ) → Program quiet (Unit {0})
 run_after_audit run output given first findings =
-    audit_and_run_if (is_run_allowed findings run.unaudited) (running given output) run.steps first findings
+    audit_and_run_if (is_run_allowed findings run.unaudited) (run_of_folder given output) run.steps
+    first findings
 
 -- what a command does with a booted system, given the findings of the audit of its core
 abbrev pub command_after_audit :

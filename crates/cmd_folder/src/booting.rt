@@ -2,7 +2,7 @@
 
 ghost use Rattle.std.specs.Prelude.{ℕ, ◌≡◌, ◌≤◌, List, [], ◌∷◌, ◌++◌, Ok, length, IfOk};
 ghost use Rattle.obj36_parts.specs.ObjectSegment.{segment_limit};
-ghost use Rattle.m36_status.specs.Refusing.{Early, IsRuleResult, IsRuleRefusal};
+ghost use Rattle.m36_status.specs.Refusing.{RuleResult, IsRuleResult, IsRuleRefusal};
 ghost use Rattle.cmd_folder.specs.Folder.{folder_with, refusal_of_fault, boot_result};
 ghost use Rattle.cmd_folder.specs.BootedSystems.{IsFresh, folder_result};
 
@@ -29,7 +29,7 @@ pub struct BootedFolder {
 pub fn with_file(mut files: SegmentFiles, words: Words) -> Result<SegmentFiles, Refusal>
     requires { length words ≤ segment_limit }
     ensures gives { IsRuleResult result
-        (let more : Early (List (List ℕ)) = Ok (files ++ words ∷ []) in more) }
+        (let more : RuleResult (List (List ℕ)) = Ok (files ++ words ∷ []) in more) }
     ensures more { IfOk result (λ more. more ≡ files ++ words ∷ []) }
 {
     files.push(words)?;

@@ -2,7 +2,6 @@
 //! the console.
 
 ghost use Rattle.std.specs.Prelude.{◌≡◌, ◌<◌, ◌+◌, [], ◌∷◌, ◌++◌, length, Some};
-ghost use Rattle.m36_outside.specs.Put.{OnFailed};
 ghost use Rattle.m36_text.specs.Lines.{as_line};
 ghost use Rattle.m36_trace.specs.TraceLine.{line_of};
 ghost use Rattle.m36_step.specs.declared.turns.Turn.TheVariants as turn;

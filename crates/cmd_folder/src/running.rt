@@ -187,7 +187,7 @@ pub fn run<W: World>(
         (booted_of system.old)) result (W.seen world.old) (W.seen world.new) }
 {
     let mut block = Block::new();
-    let mut told = system.untold();
+    let mut told = system.empty_record();
     let mut text = TraceText::new();
     let mut taken: u32 = 0;
     let mut left = steps;

@@ -18,7 +18,7 @@ use Rattle.m36_program.specs.Program.{quiet, Program, puts, puts_all}
 use Rattle.m36_program.proofs.PieceLaws.{PutsBy, puts_ended}
 use Rattle.m36_program.proofs.PutLaws.{puts_both, puts_one}
 use Rattle.cmd_image.specs.AuditText.{audit_pieces}
-use Rattle.cmd_image.specs.Machine.{told, after}
+use Rattle.cmd_image.specs.Machine.{step_record, after}
 use Rattle.cmd_image.specs.Output.{pieces_from, run_pieces, status_after}
 use Rattle.cmd_image.specs.ImageAudit.{passes, is_run_allowed, audit_status}
 use Rattle.cmd_image.specs.Run.{run, last_outcome}
@@ -84,13 +84,13 @@ run_is taken zero state =
     ∙ ap (λ l. puts_all l (ends (status_after Next) (own_after Next))) (sym (pieces_none taken))
     ∙ ap (rest_by taken) (sym (run_none state))
 run_is taken (suc left) state =
-    step_is taken (told state) (told state).outcome (run left (after state)) (run_from (taken + 1) left (after state)) refl
+    step_is taken (step_record state) (step_record state).outcome (run left (after state)) (run_from (taken + 1) left (after state)) refl
     (run_is (taken + 1) left (after state))
     ∙ ap (rest_by taken) (sym (run_more left state))
 
 -- ---- what is put, by the findings
 
-audit_puts :
+pub audit_puts :
     (findings : List (ℕ × ℕ)) (events : List Event) (result : Result (Unit {0}) Status)
     → Goes (audit_only findings) events result
     → PutsBy (audit_pieces findings) (audit_status (passes findings)) events result
@@ -138,7 +138,7 @@ found_puts Audit state findings events result goes = audit_puts findings events 
 
 -- ---- some call ends
 
-audit_end : (findings : List (ℕ × ℕ)) → SomeEnd (audit_only findings)
+pub audit_end : (findings : List (ℕ × ℕ)) → SomeEnd (audit_only findings)
 unfolding audit_only
 audit_end findings = puts_end (audit_pieces findings) (audit_status (passes findings)) (audit_may_end (passes findings))
 

@@ -9,7 +9,7 @@ use Rattle.m36_model.specs.declared.outcome.Outcome.TheVariants.{Next}
 use Rattle.m36_model.specs.declared.record.StepRecord.{StepRecord}
 use Rattle.m36_trace.specs.EndLine.{end_line_of}
 use Rattle.m36_trace.specs.TraceLine.{line_of}
-use Rattle.cmd_image.specs.Machine.{told, after}
+use Rattle.cmd_image.specs.Machine.{step_record, after}
 use Rattle.cmd_image.specs.Run.{run, last_outcome}
 use Rattle.cmd_image.specs.Output.{trace_pieces, pieces_from}
 
@@ -21,10 +21,10 @@ told_only_if true steps = refl
 told_only_if false steps = refl
 
 pub run_more :
-    (left : ℕ) (s : State (List ℕ)) → run (suc left) s ≡ told s ∷ only_if (is_next (told s).outcome) (run left (after s))
+    (left : ℕ) (s : State (List ℕ)) → run (suc left) s ≡ step_record s ∷ only_if (is_next (step_record s).outcome) (run left (after s))
 unfolding run run_steps
 run_more left s =
-    ap (λ steps. told s ∷ steps) (told_only_if (is_next (told s).outcome) (run_steps core_store left (after s)))
+    ap (λ steps. step_record s ∷ steps) (told_only_if (is_next (step_record s).outcome) (run_steps core_store left (after s)))
 
 pub run_none : (s : State (List ℕ)) → run 0 s ≡ []
 unfolding run run_steps

@@ -20,7 +20,7 @@ use Rattle.m36_program.specs.Program.{quiet, Program, puts, puts_all}
 use Rattle.m36_program.proofs.LeadLaws.{leads_start, leads_as, leads_adds, leads_ends, leads_lost_one, leads_finished, leads_empty}
 use Rattle.m36_program.proofs.ProgramLaws.{goes_ends}
 use Rattle.m36_program.proofs.PutLaws.{puts_one}
-use Rattle.cmd_image.specs.Machine.{told, after}
+use Rattle.cmd_image.specs.Machine.{step_record, after}
 use Rattle.cmd_image.specs.Output.{status_after}
 use Rattle.cmd_image.specs.ImageProgram.{run_may_end, run_status, put_run_end, after_step, run_from}
 use Rattle.cmd_image.specs.Running.{StepAdded, LastStepAdded}
@@ -68,14 +68,14 @@ pub ruleset ending = (end_put, end_lost)
 run_more :
     (taken left : ℕ) (state : State (List ℕ)) → 0 < left
     → run_from taken left state
-    ≡ puts (as_line (line_of (taken + 1) (told state)))
-    (after_step (taken + 1) (told state).outcome (run_from (taken + 1) (left - 1) (after state)))
+    ≡ puts (as_line (line_of (taken + 1) (step_record state)))
+    (after_step (taken + 1) (step_record state).outcome (run_from (taken + 1) (left - 1) (after state)))
 unfolding run_from
 run_more taken zero state more = absurd (omega arith)
 run_more taken (suc left) state more =
     let e : left ≡ suc left - 1 = omega arith in
-    ap (λ n. puts (as_line (line_of (taken + 1) (told state)))
-    (after_step (taken + 1) (told state).outcome (run_from (taken + 1) n (after state)))) e
+    ap (λ n. puts (as_line (line_of (taken + 1) (step_record state)))
+    (after_step (taken + 1) (step_record state).outcome (run_from (taken + 1) n (after state)))) e
 
 run_none : (taken left : ℕ) (state : State (List ℕ)) → left ≡ 0 → run_from taken left state ≡ put_run_end taken Next
 unfolding run_from
@@ -102,7 +102,7 @@ pub run_next :
     → StepAdded (taken + 1) Next state block block' between new → state' ≡ after state
     → Leads (puts_all block' (run_from (taken + 1) (left - 1) state')) first old new
 run_next first block block' taken left state state' old between new so_far more stepped moved =
-    let line = as_line (line_of (taken + 1) (told state)) in
+    let line = as_line (line_of (taken + 1) (step_record state)) in
     let rest = run_from (taken + 1) (left - 1) (after state) in
     subst (λ s. Leads (puts_all block' (run_from (taken + 1) (left - 1) s)) first old new) (sym moved)
     (leads_adds block block' line rest first old between new
@@ -119,7 +119,7 @@ pub run_last :
     → Performs (puts_all block' (put_run_end (taken + 1) last)) result now new
     → Performs first result old new
 run_last first block block' taken left state last result old between now new so_far more ending performs =
-    let line = as_line (line_of (taken + 1) (told state)) in
+    let line = as_line (line_of (taken + 1) (step_record state)) in
     let rest = run_from (taken + 1) (left - 1) (after state) in
     leads_ends (puts_all block' (put_run_end (taken + 1) last)) first result old now new
     (leads_adds block block' line (put_run_end (taken + 1) last) first old between now
@@ -133,10 +133,10 @@ run_last first block block' taken left state last result old between now new so_
 pub run_lost :
     (first : Program quiet (Unit {0})) (block : List (List ℕ)) (taken left : ℕ) (state : State (List ℕ)) (old between new : Seen)
     → Leads (puts_all block (run_from taken left state)) first old between → 0 < left
-    → Loses (block ++ as_line (line_of (taken + 1) (told state)) ∷ []) between new
+    → Loses (block ++ as_line (line_of (taken + 1) (step_record state)) ∷ []) between new
     → Performs first (Err WriteFault) old new
 run_lost first block taken left state old between new so_far more lost =
-    leads_lost_one block (as_line (line_of (taken + 1) (told state))) _ first old between new
+    leads_lost_one block (as_line (line_of (taken + 1) (step_record state))) _ first old between new
     (leads_as (puts_all block (run_from taken left state)) _ first old between (ap (puts_all block) (run_more taken left state more)) so_far)
     lost
 

@@ -15,7 +15,7 @@ use Rattle.m36_program.specs.Program.{quiet, Program, some}
 use Rattle.m36_program.specs.Readers.{refuses, file_bytes}
 use Rattle.m36_program.proofs.AlikeLaws.{alike_wants, alike_then, alike_puts, alike_one, bytes_alike, has_one_text}
 use Rattle.cmd_image.specs.AuditText.{audit_pieces}
-use Rattle.cmd_image.specs.Machine.{told, after}
+use Rattle.cmd_image.specs.Machine.{step_record, after}
 use Rattle.cmd_image.specs.Output.{status_after}
 use Rattle.cmd_image.specs.ImageAudit.{passes, is_run_allowed, audit_status}
 use Rattle.cmd_image.specs.declared.command.ImageCommand.{ImageCommand}
@@ -63,7 +63,7 @@ run_alike : (taken left : ℕ) (state : State (List ℕ)) → Alike (run_from ta
 unfolding Alike run_from
 run_alike taken zero state = run_ends_alike taken Next
 run_alike taken (suc left) state =
-    (refl, after_alike (taken + 1) (told state).outcome (run_from (taken + 1) left (after state)) (run_alike (taken + 1) left (after state)))
+    (refl, after_alike (taken + 1) (step_record state).outcome (run_from (taken + 1) left (after state)) (run_alike (taken + 1) left (after state)))
 
 pub audit_alike : (findings : List (ℕ × ℕ)) → Alike (audit_only findings) (audit_only findings)
 unfolding audit_only

@@ -22,7 +22,7 @@ use Rattle.m36_program.specs.Readers.{bad_file, refuses, file_bytes}
 use Rattle.cmd_image.specs.declared.command.ImageCommand.{ImageCommand}
 use Rattle.cmd_image.specs.declared.command.ImageCommand.TheVariants.{Bare, Audit}
 use Rattle.cmd_image.specs.AuditText.{audit_pieces}
-use Rattle.cmd_image.specs.Machine.{told, after}
+use Rattle.cmd_image.specs.Machine.{step_record, after}
 use Rattle.cmd_image.specs.Output.{end_status, end_or_limit_status, status_after}
 use Rattle.cmd_image.specs.ImageAudit.{code_of, passes, is_run_allowed, audit_status, IsIsolated}
 
@@ -81,8 +81,8 @@ after_step taken (Stopped stop) rest = put_run_end taken (Stopped stop)
 unfoldable pub run_from : ℕ → ℕ → State (List ℕ) → Program quiet (Unit {0})
 run_from taken zero state = put_run_end taken Next
 run_from taken (suc left) state =
-    puts (as_line (line_of (taken + 1) (told state)))
-    (after_step (taken + 1) (told state).outcome (run_from (taken + 1) left (after state)))
+    puts (as_line (line_of (taken + 1) (step_record state)))
+    (after_step (taken + 1) (step_record state).outcome (run_from (taken + 1) left (after state)))
 
 -- ---- the audit
 

@@ -6,8 +6,8 @@ use Rattle.m36_model.specs.Step.{record_of, state_after}
 use Rattle.m36_model.specs.declared.record.StepRecord.{StepRecord}
 
 -- the record of the step that is taken in this state
-abbrev pub told : State (List ℕ) → StepRecord
-told state = record_of core_store state
+abbrev pub step_record : State (List ℕ) → StepRecord
+step_record state = record_of core_store state
 
 -- the state after the step that is taken in this state
 abbrev pub after : State (List ℕ) → State (List ℕ)

@@ -1,6 +1,6 @@
 //! The audit of an image, its machine, and the status of a run.
 
-ghost use Rattle.std.specs.Prelude.{◌≡◌, [], None, Ok, IfOk};
+ghost use Rattle.std.specs.Prelude.{◌≡◌, [], None, IfOk};
 ghost use Rattle.m36_model.specs.Audit.{AreFindings};
 ghost use Rattle.m36_audit.specs.Findings.{finding_pairs};
 ghost use Rattle.cmd_image.specs.Output.{end_status, status_after};

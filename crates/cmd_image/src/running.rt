@@ -2,7 +2,6 @@
 
 ghost use Rattle.std.specs.Prelude.{◌≡◌, ◌<◌, ◌+◌, [], ◌∷◌, ◌++◌, length};
 ghost use Rattle.m36_text.specs.Lines.{as_line};
-ghost use Rattle.m36_trace.specs.EndLine.{end_line_of};
 ghost use Rattle.m36_trace.specs.TraceLine.{shown_line};
 ghost use Rattle.cmd_image.specs.Machine.{after};
 ghost use Rattle.m36_program.specs.Gathered.{Adds, Puts};

@@ -5,7 +5,7 @@ use Rattle.m36_gen.specs.Folder.{sources_of, fixed_files}
 use Rattle.m36_status.specs.declared.refusal.Refusal.{Refusal}
 use Rattle.m36_status.specs.declared.refusal.Refusal.TheVariants.{BadFile, NoMemory}
 use Rattle.m36_status.specs.declared.setting.Set.{Set}
-use Rattle.m36_status.specs.Refusing.{Early, IsRuleResult}
+use Rattle.m36_status.specs.Refusing.{RuleResult, IsRuleResult}
 use Rattle.m36_text.specs.Results.{and_then}
 use Rattle.cmd_make.specs.Making.{set_of, with_objects, with_other_files, files_of_seed}
 
@@ -28,7 +28,7 @@ made_all seed sources first objects all draw_of copied is others =
     ∙ ap (λ (l : List Set). Ok l) (sym others)
 
 refused_all :
-    (r : Refusal) (objects : Early (List Set)) → IsRuleResult {A = List Set} (Err r) objects
+    (r : Refusal) (objects : RuleResult (List Set)) → IsRuleResult {A = List Set} (Err r) objects
     → IsRuleResult {A = List Set} (Err r) (and_then objects with_other_files)
 refused_all (BadFile bad) objects gives = ap (λ o. and_then o with_other_files) gives
 refused_all NoMemory objects gives = tt

@@ -22,7 +22,7 @@ use Rattle.m36_status.specs.declared.refusal.Refusal.TheVariants.{BadFile, NoMem
 use Rattle.m36_status.specs.declared.setting.Set.{Set}
 use Rattle.m36_status.specs.declared.status.Status.{Status}
 use Rattle.m36_status.specs.declared.status.Status.TheVariants as status
-use Rattle.m36_status.specs.Refusing.{status_of, Early}
+use Rattle.m36_status.specs.Refusing.{status_of, RuleResult}
 use Rattle.m36_program.specs.Alike.{IsEnd}
 use Rattle.m36_program.specs.Early.{result_of_status, MayEnd, ends}
 use Rattle.m36_program.specs.Ended.{HasEnd}
@@ -404,7 +404,7 @@ unmade_by :
 unfolding make_program
 unmade_by seed refusal events result is goes =
     unmade_rule refusal events result goes.is_end
-    (subst (λ (rule : Early (List Set)). Goes {may = may_write_files} (then_with (rule_program rule) write_and_boot) events result)
+    (subst (λ (rule : RuleResult (List Set)). Goes {may = may_write_files} (then_with (rule_program rule) write_and_boot) events result)
     is goes.goes)
 
 made_end :

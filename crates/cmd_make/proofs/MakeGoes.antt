@@ -10,7 +10,7 @@ use Rattle.m36_super.specs.BootResult.{IsBooted}
 use Rattle.m36_status.specs.declared.setting.Set.{Set}
 use Rattle.m36_status.specs.declared.status.Status.{Status}
 use Rattle.m36_status.specs.declared.status.Status.TheVariants.{WriteFault, NoMemory}
-use Rattle.m36_status.specs.Refusing.{Early}
+use Rattle.m36_status.specs.Refusing.{RuleResult}
 use Rattle.m36_program.specs.Alike.{IsEnd}
 use Rattle.m36_program.specs.Goes.{Ends, AfterWrite, Goes}
 use Rattle.m36_program.specs.Program.{quiet, Program, then_with}
@@ -45,7 +45,7 @@ pub made_goes :
     → Goes (write_and_boot sets) events result ⊎ Ends (Err NoMemory) events result
 unfolding Goes then_with rule_program make_program
 made_goes seed sets events result is goes =
-    subst (λ (rule : Early (List Set)). Goes {may = may_write_files} (then_with (rule_program rule) write_and_boot) events result) is
+    subst (λ (rule : RuleResult (List Set)). Goes {may = may_write_files} (then_with (rule_program rule) write_and_boot) events result) is
     goes
 
 pub made_then :
@@ -53,7 +53,7 @@ pub made_then :
     → files_of_seed seed ≡ Ok sets → Goes (write_and_boot sets) events result → Goes (make_program seed) events result
 unfolding Goes then_with rule_program make_program
 made_then seed sets events result is goes =
-    subst (λ (rule : Early (List Set)). Goes {may = may_write_files} (then_with (rule_program rule) write_and_boot) events result)
+    subst (λ (rule : RuleResult (List Set)). Goes {may = may_write_files} (then_with (rule_program rule) write_and_boot) events result)
     (sym is) (inl goes)
 
 -- ---- writing

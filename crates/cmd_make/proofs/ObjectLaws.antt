@@ -12,7 +12,7 @@ use Rattle.m36_gen.specs.declared.files.File.{File}
 use Rattle.m36_status.specs.declared.refusal.Refusal.{Refusal}
 use Rattle.m36_status.specs.declared.refusal.Refusal.TheVariants.{BadFile, NoMemory}
 use Rattle.m36_status.specs.declared.setting.Set.{Set}
-use Rattle.m36_status.specs.Refusing.{Early}
+use Rattle.m36_status.specs.Refusing.{RuleResult}
 use Rattle.m36_status.specs.Refusing as refusing
 use Rattle.m36_status.proofs.GivesLaws.{gives_by, memory_given}
 use Rattle.cmd_tools.specs.Assemblies.{Assembly, with_parts, assembly_of_parsed, assembly_of, object_bytes, IsMadeOf}
@@ -104,7 +104,7 @@ left_objects sources i source now inside at =
     ∙ ap (λ s. with_objects now (s ∷ drop (i + 1) sources)) (sym at) ∙ first_object now source (drop (i + 1) sources)
 
 pub object_more :
-    (sources : List File) (i : ℕ) (source : File) (object : Set) (now next : List Set) (whole : Early (List Set))
+    (sources : List File) (i : ℕ) (source : File) (object : Set) (now next : List Set) (whole : RuleResult (List Set))
     → i < length sources → source ≡ get_or sources i source → object_of source ≡ Ok object → next ≡ now ++ object ∷ []
     → with_objects now (drop i sources) ≡ whole → with_objects next (drop (i + 1) sources) ≡ whole
 object_more sources i source object now next whole inside at is added so_far =
@@ -113,13 +113,13 @@ object_more sources i source object now next whole inside at is added so_far =
     ∙ sym (left_objects sources i source now inside at) ∙ so_far
 
 stopped :
-    (r : Refusal) (given : Early Set) (next : Set → Early (List Set)) → refusing.IsRuleResult {A = Set} (Err r) given
+    (r : Refusal) (given : RuleResult Set) (next : Set → RuleResult (List Set)) → refusing.IsRuleResult {A = Set} (Err r) given
     → refusing.IsRuleResult {A = List Set} (Err r) (and_then given next)
 stopped (BadFile bad) given next gives = ap (λ g. and_then g next) gives
 stopped NoMemory given next gives = tt
 
 pub object_stop :
-    (sources : List File) (i : ℕ) (source : File) (r : Refusal) (now : List Set) (whole : Early (List Set))
+    (sources : List File) (i : ℕ) (source : File) (r : Refusal) (now : List Set) (whole : RuleResult (List Set))
     → i < length sources → source ≡ get_or sources i source → refusing.IsRuleResult {A = Set} (Err r) (object_of source)
     → with_objects now (drop i sources) ≡ whole → refusing.IsRuleResult {A = List Set} (Err r) whole
 object_stop sources i source r now whole inside at gives so_far =
@@ -127,7 +127,7 @@ object_stop sources i source r now whole inside at gives so_far =
     (stopped r (object_of source) (λ object. with_objects (now ++ object ∷ []) (drop (i + 1) sources)) gives)
 
 pub objects_end :
-    (sources : List File) (i : ℕ) (now : List Set) (whole : Early (List Set))
+    (sources : List File) (i : ℕ) (now : List Set) (whole : RuleResult (List Set))
     → length sources ≤ i → with_objects now (drop i sources) ≡ whole → refusing.IsRuleResult (Ok now) whole
 objects_end sources i now whole past so_far =
     sym so_far ∙ ap (with_objects now) (at_drop_all (λ (l : List File). l) sources i past) ∙ no_object now

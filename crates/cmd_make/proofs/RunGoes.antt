@@ -6,16 +6,15 @@ use Rattle.m36_model.specs.Fields.{AtFields}
 use Rattle.m36_model.specs.declared.endings.End.{End}
 use Rattle.m36_model.specs.declared.endings.End.TheVariants as end
 use Rattle.m36_model.specs.declared.outcome.Fault.{Fault}
-use Rattle.m36_link.specs.Fields.{SnapFields}
-use Rattle.m36_link.specs.Snap.{RefusedFields, snap_of}
+use Rattle.m36_link.specs.Snap.{snap_of}
 use Rattle.m36_step.specs.declared.turns.Turn.{Turn}
 use Rattle.m36_step.specs.declared.turns.Turn.TheVariants as turn
 use Rattle.m36_super.specs.Library.{Library}
 use Rattle.m36_super.specs.declared.next_event.NextEvent.{NextEvent}
 use Rattle.m36_super.specs.declared.next_event.NextEvent.TheVariants.{Step, Link, Print}
 use Rattle.m36_super.specs.declared.next_event.NextEvent.TheVariants as next_event
-use Rattle.m36_super.specs.BootedRun.{Booted, IsLinkTurn, IsConsoleTurn, IsTurnBy, IsTurn, AreTurns}
-use Rattle.m36_super.specs.SuperTurn.{IsNoService, link_quiet}
+use Rattle.m36_super.specs.BootedRun.{Booted, IsConsoleTurn, IsTurnBy, IsTurn}
+use Rattle.m36_super.specs.SuperTurn.{IsNoService}
 use Rattle.m36_status.specs.declared.status.Status.{Status}
 use Rattle.m36_status.specs.declared.status.Status.TheVariants.{NoMemory}
 use Rattle.m36_program.specs.Goes.{Ends, Goes}
@@ -25,7 +24,9 @@ use Rattle.cmd_folder.specs.declared.finish.Finish.TheVariants.{Over, Limit}
 use Rattle.cmd_folder.specs.RunText.{turn_step_count, turns_step_count}
 use Rattle.cmd_folder.specs.Runs.{IsEvent, Finishes}
 use Rattle.cmd_folder.specs.Runs as runs
-use Rattle.cmd_folder.proofs.TurnLaws.{IsStep, IsLink, step_is, ended_leaves}
+use Rattle.cmd_folder.proofs.RunGoes.{stay, turn_first, is_step, step_event, step_counts, IsServiceMade, linked_made, PrintEnded}
+use Rattle.cmd_folder.proofs.RunGoes.{over_turn}
+use Rattle.cmd_folder.proofs.TurnLaws.{ended_leaves}
 use Rattle.cmd_make.specs.QuietRun.{RunSummary, summary_of_run, after_service, serve_event, serve, run_from}
 
 -- The run ended, after these turns.
@@ -50,10 +51,6 @@ pub record RunGoes (lib : Library) (taken left : ℕ) (b : Booted) (events : Lis
 
 -- ---- no turn
 
-none_made : (lib : Library) (left : ℕ) (b : Booted) → runs.Goes lib left b [] b
-unfolding AreTurns turns_step_count
-none_made lib left b = record { turns_are = refl; events = tt; few = omega arith }
-
 -- a run that ends here
 ends_here :
     (lib : Library) (taken left : ℕ) (b later : Booted) (how : Finish) (events : List Event)
@@ -66,7 +63,7 @@ ends_here lib taken left b later how events result finishes regs goes = record {
   run = subst (λ r. RunBy lib taken left b r) (sym goes.result_is) (record {
     turns = [];
     last = b;
-    made = none_made lib left b;
+    made = stay lib left b;
     finishes = finishes;
     steps = sym (add-zero taken);
     regs = regs;
@@ -83,18 +80,6 @@ finishes_on (Over e) lib left all told turns last is finishes = finishes
 finishes_on Limit lib left all told turns last is finishes =
     (ap (λ n. turn_step_count told + n) finishes.0 ∙ sym is, finishes.1)
 
-made_first :
-    (lib : Library) (left all : ℕ) (b after : Booted) (told : Turn) (turns : List Turn) (last : Booted)
-    → IsTurn lib b told after → IsEvent told → all ≡ turn_step_count told + left → runs.Goes lib left after turns last
-    → runs.Goes lib all b (told ∷ turns) last
-unfolding AreTurns turns_step_count
-made_first lib left all b after told turns last is event all_is rest =
-    let few = rest.few in record {
-      turns_are = (after, is, rest.turns_are);
-      events = (event, rest.events);
-      few = omega (arith, all_is, few);
-    }
-
 run_first :
     (lib : Library) (taken now left all : ℕ) (b after : Booted) (told : Turn) (result : Result RunSummary Status)
     → IsTurn lib b told after → IsEvent told → all ≡ turn_step_count told + left → now ≡ taken + turn_step_count told
@@ -106,7 +91,7 @@ run_first lib taken now left all b after told (Ok r) is event all_is now_is run 
     record {
       turns = told ∷ run.turns;
       last = run.last;
-      made = made_first lib left all b after told run.turns run.last is event all_is run.made;
+      made = turn_first lib left all b after run.last told run.turns is event all_is run.made;
       finishes = finishes_on r.how lib left all told run.turns run.last all_is run.finishes;
       steps = run.steps ∙ count;
       regs = run.regs;
@@ -123,60 +108,9 @@ turn_goes lib taken now left all b after told events result is event all_is now_
   run = run_first lib taken now left all b after told result is event all_is now_is goes.run;
 }
 
--- ---- which turns there are
-
-pub is_step : (lib : Library) (b after : Booted) (told : Turn) → b.next_event ≡ Step → IsTurn lib b told after → IsStep told
-unfolding IsTurn
-is_step lib b after told is turns =
-    let so : IsTurnBy Step lib b told after = subst (λ c. IsTurnBy c lib b told after) is turns in
-    step_is b.loaded lib.catalog.frames b told after so
-
-step_event : (told : Turn) → IsStep told → IsEvent told
-step_event (turn.Stepped told) is = tt
-step_event (turn.Linked note) is = absurd is
-step_event (turn.Console text) is = absurd is
-step_event (turn.Ended e) is = absurd is
-step_event turn.Full is = absurd is
-step_event turn.NoMemory is = absurd is
-
-pub step_counts : (told : Turn) → IsStep told → turn_step_count told ≡ 1
-step_counts (turn.Stepped told) is = refl
-step_counts (turn.Linked note) is = absurd is
-step_counts (turn.Console text) is = absurd is
-step_counts (turn.Ended e) is = absurd is
-step_counts turn.Full is = absurd is
-step_counts turn.NoMemory is = absurd is
-
--- A service was performed, and the run continues or ends.
-pub record IsServiceMade (told : Turn) (next : NextEvent) : Type 0 where
-  pub event : IsEvent told
-  pub counts : turn_step_count told ≡ 0
-  pub silent : IsNoService next
-
-pub linked_made :
-    (answer : Result SnapFields RefusedFields) (frames : ℕ) (at : AtFields) (before : Booted) (told : Turn)
-    (after : Booted)
-    → IsLinkTurn answer frames at before told after → told ≢ turn.NoMemory → IsServiceMade told after.next_event
-linked_made (Ok s) frames at before (turn.Linked note) after is found =
-    record { event = tt; counts = refl; silent = link_quiet (Ok s) frames at before (turn.Linked note) after is tt }
-linked_made (Ok s) frames at before turn.NoMemory after is found = absurd (found refl)
-linked_made (Ok s) frames at before (turn.Stepped told) after is found = absurd (subst IsLink (sym is.told) tt)
-linked_made (Ok s) frames at before (turn.Console text) after is found = absurd (subst IsLink (sym is.told) tt)
-linked_made (Ok s) frames at before (turn.Ended e) after is found = absurd (subst IsLink (sym is.told) tt)
-linked_made (Ok s) frames at before turn.Full after is found = absurd (subst IsLink (sym is.told) tt)
-linked_made (Err why) frames at before (turn.Linked note) after is found =
-    record { event = tt; counts = refl; silent = link_quiet (Err why) frames at before (turn.Linked note) after is tt }
-linked_made (Err why) frames at before turn.NoMemory after is found = absurd (found refl)
-linked_made (Err why) frames at before (turn.Stepped told) after is found = absurd (subst IsLink (sym is.0) tt)
-linked_made (Err why) frames at before (turn.Console text) after is found = absurd (subst IsLink (sym is.0) tt)
-linked_made (Err why) frames at before (turn.Ended e) after is found = absurd (subst IsLink (sym is.0) tt)
-linked_made (Err why) frames at before turn.Full after is found = absurd (subst IsLink (sym is.0) tt)
+-- ---- services
 
 -- A console service was made and a step follows, or the run has ended.
-pub record PrintEnded (e : End) (told : Turn) (next : NextEvent) : Type 0 where
-  pub told_is : told ≡ turn.Ended e
-  pub next_is : next ≡ next_event.Over e
-
 abbrev pub PrintMade : Turn → NextEvent → Type 0
 PrintMade told next = IsServiceMade told next ⊎ ((e : End) × PrintEnded e told next)
 
@@ -185,7 +119,7 @@ printed :
 printed text told next told_is next_is = record {
   event = subst IsEvent (sym told_is) tt;
   counts = ap turn_step_count told_is;
-  silent = subst IsNoService (sym next_is) tt;
+  quiet = subst IsNoService (sym next_is) tt;
 }
 
 pub print_made :
@@ -198,28 +132,22 @@ print_made false (Err f) before told after is =
 print_made false (Ok text) before told after is =
     inl (printed text told after.next_event is.0 (ap (λ (r : Booted). r.next_event) is.1))
 
--- ---- services
-
 -- The program that follows a step or a service goes as a run.
-abbrev GoesOn : Library → ℕ → ℕ → Type 0
-GoesOn lib taken left =
+abbrev RestGoes : Library → ℕ → ℕ → Type 0
+RestGoes lib taken left =
     (b : Booted) (events : List Event) (result : Result RunSummary Status)
     → b.next_event ≡ Step → Goes (run_from lib taken left b) events result → RunGoes lib taken left b events result
 
-abbrev then_by : NextEvent → Library → ℕ → ℕ → Booted → Program quiet RunSummary
+abbrev pub then_by : NextEvent → Library → ℕ → ℕ → Booted → Program quiet RunSummary
 then_by next lib taken left b = after_service next taken (λ b. run_from lib taken left b) b
 
-abbrev served_by : NextEvent → Library → ℕ → ℕ → Booted → Program quiet RunSummary
+abbrev pub served_by : NextEvent → Library → ℕ → ℕ → Booted → Program quiet RunSummary
 served_by next lib taken left b = serve_event next lib taken (λ b. run_from lib taken left b) b
-
-over_turn : (lib : Library) (b : Booted) (e : End) → b.next_event ≡ next_event.Over e → IsTurn lib b (turn.Ended e) b
-unfolding IsTurn
-over_turn lib b e is = subst (λ c. IsTurnBy c lib b (turn.Ended e) b) (sym is) (refl, refl)
 
 -- what follows a service
 after_goes :
     (next : NextEvent) (lib : Library) (taken left : ℕ) (b : Booted) (events : List Event) (result : Result RunSummary Status)
-    → GoesOn lib taken left → IsNoService next → b.next_event ≡ next
+    → RestGoes lib taken left → IsNoService next → b.next_event ≡ next
     → Goes (then_by next lib taken left b) events result → RunGoes lib taken left b events result
 unfolding Goes
 after_goes Step lib taken left b events result on silent is goes = on b events result is goes
@@ -231,17 +159,17 @@ after_goes (next_event.Over e) lib taken left b events result on silent is goes 
 -- a service was made
 service_goes :
     (lib : Library) (taken left : ℕ) (b after : Booted) (told : Turn) (events : List Event) (result : Result RunSummary Status)
-    → GoesOn lib taken left → IsTurn lib b told after → IsServiceMade told after.next_event
+    → RestGoes lib taken left → IsTurn lib b told after → IsServiceMade told after.next_event
     → Goes (then_by after.next_event lib taken left after) events result → RunGoes lib taken left b events result
 service_goes lib taken left b after told events result on is made goes =
     let none = made.counts in
     turn_goes lib taken taken left left b after told events result is made.event (omega (arith, none))
     (omega (arith, none))
-    (after_goes after.next_event lib taken left after events result on made.silent refl goes)
+    (after_goes after.next_event lib taken left after events result on made.quiet refl goes)
 
 print_goes :
     (lib : Library) (taken left : ℕ) (b after : Booted) (told : Turn) (events : List Event) (result : Result RunSummary Status)
-    → GoesOn lib taken left → IsTurn lib b told after → PrintMade told after.next_event
+    → RestGoes lib taken left → IsTurn lib b told after → PrintMade told after.next_event
     → Goes (then_by after.next_event lib taken left after) events result → RunGoes lib taken left b events result
 unfolding Goes
 print_goes lib taken left b after told events result on is (inl made) goes =
@@ -264,7 +192,7 @@ no_memory_here lib taken left b events result ends = record {
 
 link_goes :
     (lib : Library) (taken left : ℕ) (b : Booted) (at : AtFields) (events : List Event) (result : Result RunSummary Status)
-    → GoesOn lib taken left → b.next_event ≡ Link at
+    → RestGoes lib taken left → b.next_event ≡ Link at
     → Goes (served_by (Link at) lib taken left b) events result → RunGoes lib taken left b events result
 unfolding Goes IsTurn
 link_goes lib taken left b at events result on is (inl goes) =
@@ -279,7 +207,7 @@ link_goes lib taken left b at events result on is (inr ends) =
 
 print_serves :
     (lib : Library) (taken left : ℕ) (b : Booted) (events : List Event) (result : Result RunSummary Status)
-    → GoesOn lib taken left → b.next_event ≡ Print
+    → RestGoes lib taken left → b.next_event ≡ Print
     → Goes (served_by Print lib taken left b) events result → RunGoes lib taken left b events result
 unfolding Goes IsTurn
 print_serves lib taken left b events result on is goes =
@@ -290,7 +218,7 @@ print_serves lib taken left b events result on is goes =
 
 serves_by :
     (next : NextEvent) (lib : Library) (taken left : ℕ) (b : Booted) (events : List Event) (result : Result RunSummary Status)
-    → GoesOn lib taken left → b.next_event ≡ next
+    → RestGoes lib taken left → b.next_event ≡ next
     → Goes (served_by next lib taken left b) events result → RunGoes lib taken left b events result
 unfolding Goes
 serves_by Step lib taken left b events result on is goes = on b events result is goes
@@ -301,7 +229,7 @@ serves_by (next_event.Over e) lib taken left b events result on is goes =
 
 serve_goes :
     (lib : Library) (taken left : ℕ) (b : Booted) (events : List Event) (result : Result RunSummary Status)
-    → GoesOn lib taken left → Goes (serve lib taken (λ b. run_from lib taken left b) b) events result
+    → RestGoes lib taken left → Goes (serve lib taken (λ b. run_from lib taken left b) b) events result
     → RunGoes lib taken left b events result
 unfolding serve
 serve_goes lib taken left b events result on goes = serves_by b.next_event lib taken left b events result on refl goes
@@ -310,7 +238,7 @@ serve_goes lib taken left b events result on goes = serves_by b.next_event lib t
 
 step_goes :
     (lib : Library) (taken left : ℕ) (b after : Booted) (told : Turn) (events : List Event) (result : Result RunSummary Status)
-    → GoesOn lib (taken + 1) left → b.next_event ≡ Step → IsTurn lib b told after
+    → RestGoes lib (taken + 1) left → b.next_event ≡ Step → IsTurn lib b told after
     → Goes (serve lib (taken + 1) (λ b. run_from lib (taken + 1) left b) after) events result
     → RunGoes lib taken (suc left) b events result
 step_goes lib taken left b after told events result on next is goes =
@@ -320,7 +248,7 @@ step_goes lib taken left b after told events result on next is goes =
     (omega (arith, one)) (omega (arith, one))
     (serve_goes lib (taken + 1) left after events result on goes)
 
-pub run_goes : (lib : Library) (left taken : ℕ) → GoesOn lib taken left
+pub run_goes : (lib : Library) (left taken : ℕ) → RestGoes lib taken left
 unfolding Goes run_from turns_step_count
 run_goes lib zero taken b events result next goes = ends_here lib taken 0 b b Limit events result (refl, next) refl goes
 run_goes lib (suc left) taken b events result next goes =

@@ -20,8 +20,9 @@ use Rattle.cmd_folder.specs.declared.finish.Finish.TheVariants.{Over, Limit}
 use Rattle.cmd_folder.specs.RunText.{turn_step_count, turns_step_count}
 use Rattle.cmd_folder.specs.Runs.{IsEvent, Finishes}
 use Rattle.cmd_folder.proofs.TurnLaws.{link_is}
-use Rattle.cmd_make.specs.QuietRun.{RunSummary, summary_of_run, after_service, serve_event, serve, run_from}
-use Rattle.cmd_make.proofs.RunGoes.{is_step, step_counts, IsServiceMade, linked_made, PrintMade, print_made}
+use Rattle.cmd_make.specs.QuietRun.{RunSummary, summary_of_run, serve, run_from}
+use Rattle.cmd_folder.proofs.RunGoes.{is_step, step_counts, IsServiceMade, linked_made}
+use Rattle.cmd_make.proofs.RunGoes.{PrintMade, print_made, then_by, served_by}
 
 -- The program ends with a value, without an event.
 abbrev pub Gone : Program quiet RunSummary → Type 0
@@ -84,12 +85,6 @@ unfolding AreTurns
 none_left how lib left b last runs = subst (λ l. Finishes how lib left [] l) runs.are runs.finishes
 
 -- ---- after a service
-
-abbrev then_by : NextEvent → Library → ℕ → ℕ → Booted → Program quiet RunSummary
-then_by next lib taken left b = after_service next taken (λ b. run_from lib taken left b) b
-
-abbrev served_by : NextEvent → Library → ℕ → ℕ → Booted → Program quiet RunSummary
-served_by next lib taken left b = serve_event next lib taken (λ b. run_from lib taken left b) b
 
 after_gone :
     (next : NextEvent) (how : Finish) (lib : Library) (taken left : ℕ) (b : Booted) (turns : List Turn) (last : Booted)
@@ -156,7 +151,7 @@ link_gone how lib taken left b (told ∷ turns) last at on is runs =
     (subst (λ c. IsTurnBy c lib b told first.mid) is first.is) (λ e. subst IsEvent e first.event) in
     let none = made.counts in
     link_chosen lib taken left b first.mid told at first.is first.event
-    (after_gone first.mid.next_event how lib taken left first.mid turns last on made.silent refl
+    (after_gone first.mid.next_event how lib taken left first.mid turns last on made.quiet refl
     (first.on left (omega (arith, none))))
 
 print_made_by :
@@ -172,7 +167,7 @@ print_first :
     → Gone (then_by first.mid.next_event lib taken left first.mid)
 print_first how lib taken left b told turns last on first (inl made) =
     let none = made.counts in
-    after_gone first.mid.next_event how lib taken left first.mid turns last on made.silent refl
+    after_gone first.mid.next_event how lib taken left first.mid turns last on made.quiet refl
     (first.on left (omega (arith, none)))
 print_first how lib taken left b told turns last on first (inr over) =
     over_gone lib taken left first.mid over.0 over.1.next_is

@@ -11,7 +11,7 @@ use Rattle.m36_program.specs.Program.{quiet, Program, done}
 use Rattle.m36_program.proofs.Performing.{goes_done}
 use Rattle.cmd_folder.specs.declared.finish.Finish.TheVariants.{Over, Limit}
 use Rattle.cmd_make.specs.QuietRun.{RunSummary, summary_of_run, run_from}
-use Rattle.cmd_make.specs.RunSays.{IsRestOf, rest_from_step, GoesOn, RunIsOver, RunsOutOfMemory}
+use Rattle.cmd_make.specs.RunSays.{IsRestOf, rest_from_step, StepFollows, RunIsOver, RunsOutOfMemory}
 
 -- what is left of a run
 abbrev pub Left : Library → ℕ → ℕ → SuperFields → Program quiet RunSummary → Type 0
@@ -41,10 +41,10 @@ step_gone lib taken left now first result so_far more goes =
 pub run_next :
     (lib : Library) (taken left : ℕ) (now later : SuperFields) (first : Program quiet RunSummary)
     → Left lib taken left now first → 0 < left → now.lib ≡ lib
-    → GoesOn now.lib (rest_from_step now.lib (booted_of now)) later
+    → StepFollows now.lib (rest_from_step now.lib (booted_of now)) later
     → Left lib (taken + 1) (left - 1) later first
 run_next lib taken left now later first so_far more same goes result rest =
-    let on = subst (λ l. GoesOn l (rest_from_step l (booted_of now)) later) same goes in
+    let on = subst (λ l. StepFollows l (rest_from_step l (booted_of now)) later) same goes in
     step_gone lib taken left now first result so_far more (on.leads (taken + 1) (left - 1) result rest)
 
 pub run_over :

@@ -1,8 +1,7 @@
 -- What the program puts of a system if it ends by itself: the lines of a run, or those of findings.
-use Rattle.std.proofs.Common.{◌≡◌, ℕ, false, List, [], ◌∷◌, ◌++◌, Some, Result, Ok, Err, refl, sym, ap, subst, ◌∙◌, inl}
+use Rattle.std.proofs.Common.{◌≡◌, ℕ, false, List, [], ◌∷◌, ◌++◌, Some, Result, Ok, Err, sym, ap, subst, ◌∙◌, inl}
 use Rattle.std.proofs.Common.{inr, zero-add}
 use Rattle.m36_world.specs.declared.event.Event.{Event}
-use Rattle.m36_world.specs.declared.event.Event.TheVariants.{Output}
 use Rattle.m36_world.specs.Follow.{outputs}
 use Rattle.m36_step.specs.declared.turns.Turn.{Turn}
 use Rattle.m36_super.specs.Library.{Library}
@@ -16,6 +15,7 @@ use Rattle.m36_program.specs.Early.{MayEnd, ends}
 use Rattle.m36_program.specs.Goes.{Goes}
 use Rattle.m36_program.specs.Program.{May, quiet, Program, puts_all}
 use Rattle.m36_program.specs.Split.{Split}
+use Rattle.m36_program.proofs.Gathered.{outputs_both}
 use Rattle.m36_program.proofs.GoesLaws.{goes_failed}
 use Rattle.m36_program.proofs.PieceLaws.{ThenGoes, puts_gone, PutsWhole, puts_ended}
 use Rattle.m36_program.proofs.SplitLaws.{goes_split}
@@ -123,10 +123,6 @@ run_puts lib limit first events result next ended goes =
     (goes_split (run_from lib 0 limit first) put_summary events result goes)
 
 -- ---- by the findings
-
-outputs_both : (first more : List (List ℕ)) → outputs (first ++ more) ≡ outputs first ++ outputs more
-outputs_both [] more = refl
-outputs_both (piece ∷ first) more = ap (λ events. Output piece ∷ events) (outputs_both first more)
 
 -- What is put after the files for these findings: the lines without findings and those of a run, or the lines of the
 -- findings.

@@ -104,38 +104,38 @@ sum_unput text regs how s old new is put = line_unput text (sum_line regs) (ende
 pub ruleset summing = (sum_put, sum_unput)
 
 summed_is :
-    (summary_of_run : RunSummary) → put_summary summary_of_run ≡ puts (as_line (finish_line summary_of_run.how summary_of_run.steps))
-    (puts (as_line (sum_line summary_of_run.regs)) (ended summary_of_run.how))
+    (ran : RunSummary) → put_summary ran ≡ puts (as_line (finish_line ran.how ran.steps))
+    (puts (as_line (sum_line ran.regs)) (ended ran.how))
 unfolding put_summary puts_all
-summed_is summary_of_run = refl
+summed_is ran = refl
 
 pub end_put :
-    (text : List ℕ) (summary_of_run : RunSummary) (result : Result (Unit {0}) Status) (old between new : Seen)
-    → text ≡ finish_line summary_of_run.how summary_of_run.steps → Performs {may = quiet} (put_one (as_line text)) (Ok tt) old between
-    → Performs (puts (as_line (sum_line summary_of_run.regs)) (ended summary_of_run.how)) result between new
-    → Performs (put_summary summary_of_run) result old new
-end_put text summary_of_run result old between new is put performs =
-    subst (λ p. Performs p result old new) (sym (summed_is summary_of_run))
-    (line_put text (finish_line summary_of_run.how summary_of_run.steps) _ result old between new is put performs)
+    (text : List ℕ) (ran : RunSummary) (result : Result (Unit {0}) Status) (old between new : Seen)
+    → text ≡ finish_line ran.how ran.steps → Performs {may = quiet} (put_one (as_line text)) (Ok tt) old between
+    → Performs (puts (as_line (sum_line ran.regs)) (ended ran.how)) result between new
+    → Performs (put_summary ran) result old new
+end_put text ran result old between new is put performs =
+    subst (λ p. Performs p result old new) (sym (summed_is ran))
+    (line_put text (finish_line ran.how ran.steps) _ result old between new is put performs)
 
 pub end_unput :
-    (text : List ℕ) (summary_of_run : RunSummary) (s : Status) (old new : Seen)
-    → text ≡ finish_line summary_of_run.how summary_of_run.steps → Performs {may = quiet} (put_one (as_line text)) (Err s) old new
-    → Performs (put_summary summary_of_run) (Err s) old new
-end_unput text summary_of_run s old new is put =
-    subst (λ p. Performs p (Err s) old new) (sym (summed_is summary_of_run))
-    (line_unput text (finish_line summary_of_run.how summary_of_run.steps) _ s old new is put)
+    (text : List ℕ) (ran : RunSummary) (s : Status) (old new : Seen)
+    → text ≡ finish_line ran.how ran.steps → Performs {may = quiet} (put_one (as_line text)) (Err s) old new
+    → Performs (put_summary ran) (Err s) old new
+end_unput text ran s old new is put =
+    subst (λ p. Performs p (Err s) old new) (sym (summed_is ran))
+    (line_unput text (finish_line ran.how ran.steps) _ s old new is put)
 
 -- ---- the run
 
 run_then :
-    (lib : Library) (steps : ℕ) (first : Booted) (summary_of_run : RunSummary) (result : Result (Unit {0}) Status) (old new : Seen)
-    → Goes (run_from lib 0 steps first) [] (Ok summary_of_run) → Performs (put_summary summary_of_run) result old new
+    (lib : Library) (steps : ℕ) (first : Booted) (ran : RunSummary) (result : Result (Unit {0}) Status) (old new : Seen)
+    → Goes (run_from lib 0 steps first) [] (Ok ran) → Performs (put_summary ran) result old new
     → Performs (run_and_summarise lib steps first) result old new
 unfolding run_and_summarise
-run_then lib steps first summary_of_run result old new goes performs =
-    performs_then (run_from lib 0 steps first) put_summary summary_of_run result old old new
-    (performs_none (run_from lib 0 steps first) (Ok summary_of_run) old goes) performs
+run_then lib steps first ran result old new goes performs =
+    performs_then (run_from lib 0 steps first) put_summary ran result old old new
+    (performs_none (run_from lib 0 steps first) (Ok ran) old goes) performs
 
 -- a run that has left these registers
 abbrev left_with : Finish → ℕ → RegsFields → RunSummary

@@ -1,14 +1,14 @@
 -- A program has the same events and results, whatever else its type may do.
-use Rattle.std.proofs.Common.{ℕ, List, [], ◌∷◌, Result, inl, inr}
+use Rattle.std.proofs.Common.{List, [], ◌∷◌, Result, inl, inr}
 use Rattle.m36_outside.specs.declared.folder.ReadAnswer.{ReadAnswer}
 use Rattle.m36_outside.specs.declared.folder.ReadAnswer.TheVariants as read
 use Rattle.m36_world.specs.declared.event.Event.{Event}
-use Rattle.m36_world.specs.declared.event.Event.TheVariants.{OutputFailed}
 use Rattle.m36_world.specs.Seen.{Seen}
 use Rattle.m36_status.specs.declared.status.Status.{Status}
-use Rattle.m36_program.specs.Goes.{AfterRead, FailsWith, Goes}
+use Rattle.m36_program.specs.Goes.{AfterRead, Goes}
 use Rattle.m36_program.specs.Performs.{Performs}
 use Rattle.m36_program.specs.Program.{Found, May, quiet, Program, done, stops, reads, writes, puts, takes, some, wants}
+use Rattle.cmd_folder.proofs.BlockLaws.{fails_as}
 use Rattle.cmd_make.specs.Within.{widen}
 
 read_as :
@@ -21,13 +21,6 @@ read_as read.Absent goes goes' more result on after = on _ after
 read_as read.TooLarge goes goes' more result on after = on _ after
 read_as read.Failed goes goes' more result on after = after
 read_as read.NoMemory goes goes' more result on after = after
-
-fails_as :
-    {A : Type 0} (pieces : List (List ℕ)) (goes goes' : List Event → Type 0) (result : Result A Status)
-    → ((events : List Event) → goes events → goes' events) → FailsWith pieces goes result
-    → FailsWith pieces goes' result
-fails_as [] goes goes' result on fails = fails
-fails_as (piece ∷ pieces) goes goes' result on fails = on (OutputFailed (piece ∷ pieces) ∷ []) fails
 
 pub goes_within :
     (may : May) {A : Type 0} (p : Program quiet A) (events : List Event) (result : Result A Status)

@@ -11,7 +11,7 @@ use Rattle.m36_gen.specs.declared.files.File.{File}
 use Rattle.m36_gen.specs.Folder.{sources_of, fixed_files}
 use Rattle.m36_status.specs.declared.setting.Set.{Set}
 use Rattle.m36_status.specs.declared.status.Code.TheVariants as code
-use Rattle.m36_status.specs.Refusing.{Early}
+use Rattle.m36_status.specs.Refusing.{RuleResult}
 use Rattle.m36_status.specs.Rules.{file_refusal}
 use Rattle.cmd_tools.specs.Assemblies.{Assembly, assembly_of, object_bytes, object_set, IsMadeOrFault}
 use Rattle.cmd_tools.specs.PrintAndAlm.{source_refused}
@@ -27,24 +27,24 @@ unfoldable pub object_name : List ℕ → List ℕ
 object_name source = object_of_source source
 
 -- the file of the object that the source of this name assembles to, or the refusal of the source
-abbrev pub object_set_or_refusal : List ℕ → Result Assembly AlmFault → Early Set
+abbrev pub object_set_or_refusal : List ℕ → Result Assembly AlmFault → RuleResult Set
 object_set_or_refusal source (Ok a) = Ok (object_set (object_name source) a.parts)
 object_set_or_refusal source (Err fault) = Err (source_refused source fault)
 
 -- the bytes of a source, or F2 if there are more than a file may have
-abbrev pub source_bytes : File → Early (List ℕ)
+abbrev pub source_bytes : File → RuleResult (List ℕ)
 source_bytes source =
     if nat_lt file_limit (length source.content) then Err (file_refusal source.name code.F2 0)
     else Ok source.content
 
 -- what `alm` makes of a source, or why the source is refused
-unfoldable pub object_of : File → Early Set
+unfoldable pub object_of : File → RuleResult Set
 object_of source =
     and_then (source_bytes source) (λ bytes. object_set_or_refusal source.name (assembly_of bytes))
 
 -- the files with the objects of the sources appended, or the refusal of the first source that is
 -- refused
-unfoldable pub with_objects : List Set → List File → Early (List Set)
+unfoldable pub with_objects : List Set → List File → RuleResult (List Set)
 with_objects sets [] = Ok sets
 with_objects sets (source ∷ sources) =
     and_then (object_of source) (λ object. with_objects (sets ++ object ∷ []) sources)
@@ -52,11 +52,11 @@ with_objects sets (source ∷ sources) =
 -- ---- all files
 
 -- these files, and after them the data and the boot text
-abbrev pub with_other_files : List Set → Early (List Set)
+abbrev pub with_other_files : List Set → RuleResult (List Set)
 with_other_files sets = Ok (sets ++ map set_of fixed_files)
 
 -- all files of a seed, or the refusal of a source
-unfoldable pub files_of_seed : ℕ → Early (List Set)
+unfoldable pub files_of_seed : ℕ → RuleResult (List Set)
 files_of_seed seed =
     and_then (with_objects (map set_of (sources_of seed)) (sources_of seed)) with_other_files
 

@@ -37,7 +37,7 @@ abbrev pub rest_from_service : Library → Booted → RestOfRun
 rest_from_service lib b taken left = serve lib taken (λ b. run_from lib taken left b) b
 
 -- A step follows, over the same library.
-pub record GoesOn (lib : Library) (first : RestOfRun) (after : SuperFields) : Type 0 where
+pub record StepFollows (lib : Library) (first : RestOfRun) (after : SuperFields) : Type 0 where
   pub leads :
       (taken left : ℕ) → IsRestOf (run_from lib taken left (booted_of after)) (first taken left)
   pub next : after.next_event ≡ Step
@@ -54,7 +54,7 @@ pub record RunsOutOfMemory (first : RestOfRun) : Type 0 where
 
 -- what the result of a turn implies for the program that is left
 abbrev pub TurnResult : AfterTurn → Library → RestOfRun → SuperFields → Type 0
-TurnResult turn.Next lib first after = GoesOn lib first after
+TurnResult turn.Next lib first after = StepFollows lib first after
 TurnResult (turn.Ended e) lib first after = RunIsOver e first after
 TurnResult turn.NoMemory lib first after = RunsOutOfMemory first
 

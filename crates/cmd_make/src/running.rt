@@ -103,7 +103,7 @@ pub fn run_quietly(system: &mut Super, steps: u32) -> Result<RunEnd, Status>
     ensures { Goes (run_from system.old.lib 0 steps (booted_of system.old)) []
         (summary_in_result result system.new) }
 {
-    let mut told = system.untold();
+    let mut told = system.empty_record();
     let mut taken: u32 = 0;
     let mut left = steps;
     'steps: while left > 0 {

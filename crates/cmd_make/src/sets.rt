@@ -53,7 +53,7 @@ impl Sets {
 }
 
 // Copies a file of the generator. Fails only with `NoMemory`.
-fn copied(alloc: Global, file: &File) -> Result<Set, NoMemory>
+fn copy_file(alloc: Global, file: &File) -> Result<Set, NoMemory>
     ensures { IfOk result (λ set. set ≡ set_of file.now) }
 {
     Ok(Set {
@@ -68,7 +68,7 @@ pub fn with_copies(alloc: Global, mut sets: Sets, files: &[File]) -> Result<Sets
     ensures { IfOk result (λ more. more ≡ sets ++ map set_of files.now) }
 {
     for file in files {
-        sets.push(copied(alloc, file)?)?;
+        sets.push(copy_file(alloc, file)?)?;
     }
     Ok(sets)
 }

@@ -8,7 +8,7 @@ use Rattle.m36_outside.specs.Passing.{joined}
 use Rattle.m36_text.specs.Lines.{as_line}
 use Rattle.m36_desc.specs.Fields.{DbrFields}
 use Rattle.m36_model.specs.JointAudit.{JointFindingFields, IsJointTable, IsJointSegment, IsJointlyAudited, AreJointFindings}
-use Rattle.m36_model.specs.JointAudit.{AreFindingsFrom, findings_of_process, between}
+use Rattle.m36_model.specs.JointAudit.{AreFindingsFrom, findings_of_process, joint_finding}
 use Rattle.m36_isol.proofs.JointFindings.{joint_findings_law}
 use Rattle.m36_isol.proofs.Schedules.{jointly_isolated}
 use Rattle.m36_procs.specs.ProcsFields.{ProcsFields}
@@ -145,7 +145,7 @@ some_joint core dbrs none =
     some_from 0 core dbrs (λ own finds_own.
     some_find (IsJointTable core dbrs) (λ second finds_second.
     some_find (IsJointSegment core dbrs) (λ third finds_third.
-    none (own ++ between 2 second ++ between 3 third) (record {
+    none (own ++ joint_finding 2 second ++ joint_finding 3 third) (record {
       own = own;
       finds_own = finds_own;
       second = second;

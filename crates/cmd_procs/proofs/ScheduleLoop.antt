@@ -3,7 +3,7 @@ use Rattle.std.proofs.Common.{◌≡◌, ℕ, suc, ◌+◌, ◌<◌, ◌≤◌, 
 use Rattle.std.specs.Prelude.{slice_get}
 use Rattle.std.proofs.Math.ListN.{drop_of_length-le}
 use Rattle.m36_model.specs.Core.{core_store}
-use Rattle.m36_model.specs.Schedule.{Processes, process_of, stepped}
+use Rattle.m36_model.specs.Schedule.{Processes, process_of, processes_after}
 use Rattle.m36_model.specs.Step.{record_of}
 use Rattle.m36_model.specs.declared.record.StepRecord.{StepRecord}
 use Rattle.m36_procs.specs.EventResult.{EventResult, IsEvent}
@@ -54,8 +54,8 @@ event_left schedule n i s new step at inside says =
     let next : suc n ≡ n + 1 = omega arith in
     ap (λ l. puts_all (pieces_from total (n + 1) l s) run_done) (drop_at schedule n i at ∙ ap (λ m. i ∷ drop m schedule) next)
     ∙ ap (λ l. puts_all l run_done) (pieces_first total (n + 1) i rest s own.0 own.1)
-    ∙ put_more (event_line (n + 1) i (record_of core_store (process_of s own.0))) (pieces_from total (n + 1 + 1) rest (stepped core_store s i own.0))
-    ∙ ap (λ r. puts (event_line (n + 1) i r) (puts_all (pieces_from total (n + 1 + 1) rest (stepped core_store s i own.0)) run_done)) (sym is.told_is)
+    ∙ put_more (event_line (n + 1) i (record_of core_store (process_of s own.0))) (pieces_from total (n + 1 + 1) rest (processes_after core_store s i own.0))
+    ∙ ap (λ r. puts (event_line (n + 1) i r) (puts_all (pieces_from total (n + 1 + 1) rest (processes_after core_store s i own.0)) run_done)) (sym is.told_is)
     ∙ ap (λ t. puts (event_line (n + 1) i step) (puts_all (pieces_from total (n + 1 + 1) rest t) run_done)) (sym is.state)
 
 -- an event was made, and its line was added

@@ -1,6 +1,6 @@
 //! Runs a schedule: a line for each of its events, and the last line.
 
-ghost use Rattle.std.specs.Prelude.{◌≡◌, ◌<◌, ◌++◌, ◌∷◌, [], length};
+ghost use Rattle.std.specs.Prelude.{◌≡◌, ◌<◌, ◌++◌, ◌∷◌, []};
 ghost use Rattle.m36_procs.specs.ScheduleText.{event_line, end_line};
 ghost use Rattle.m36_program.specs.Gathered.{Adds, Puts};
 ghost use Rattle.m36_program.specs.Performs.{Performs};

@@ -5,7 +5,7 @@ use Rattle.m36_bindfile.specs.declared.fault.BindFault.{BindFault}
 use Rattle.m36_bindfile.specs.declared.fault.BindFault.TheVariants as bind
 use Rattle.m36_bindfile.specs.BindFile.{IsBindRefusal}
 use Rattle.m36_status.specs.declared.refusal.Refusal.{Refusal}
-use Rattle.m36_status.specs.Refusing.{Early}
+use Rattle.m36_status.specs.Refusing.{RuleResult}
 use Rattle.m36_status.specs.Refusing as refusing
 use Rattle.m36_status.proofs.GivesLaws.{gives_by, memory_given}
 use Rattle.cmd_tools.specs.declared.bind_files.BindFiles.{BindFiles}
@@ -16,14 +16,14 @@ use Rattle.cmd_tools.specs.Binding.{bind_refused, names_or_refusal, report_of_bo
 
 -- a definition that passes on the refusal of the bind file
 refused_by :
-    (A B : Type 0) (make : Result A BindFault → Early B) (file lent : List ℕ) (given : Result A BindFault) (f : BindFault) (r : Refusal)
+    (A B : Type 0) (make : Result A BindFault → RuleResult B) (file lent : List ℕ) (given : Result A BindFault) (f : BindFault) (r : Refusal)
     → make (Err f) ≡ Err (bind_refused file f) → lent ≡ file → given ≡ Err f → refusing.IsRuleRefusal r (bind_refused lent f) → refusing.IsRuleResult (Err r) (make given)
 refused_by A B make file lent given f r made is given_is refuses =
     gives_by B r (bind_refused file f) (make given) (ap make given_is ∙ made)
     (subst (λ (n : List ℕ). refusing.IsRuleRefusal r (bind_refused n f)) is refuses)
 
 handed :
-    (A B : Type 0) (make : Result A BindFault → Early B) (file lent : List ℕ) (given : Result A BindFault) (f : BindFault) (r : Refusal)
+    (A B : Type 0) (make : Result A BindFault → RuleResult B) (file lent : List ℕ) (given : Result A BindFault) (f : BindFault) (r : Refusal)
     → ((f : BindFault) → make (Err f) ≡ Err (bind_refused file f)) → lent ≡ file → IsBindRefusal f given → refusing.IsRuleRefusal r (bind_refused lent f)
     → refusing.IsRuleResult (Err r) (make given)
 handed A B make file lent given (bind.B1 line) r made is refused refuses = refused_by A B make file lent given (bind.B1 line) r (made (bind.B1 line)) is refused refuses

@@ -8,7 +8,7 @@ use Rattle.m36_list.specs.Listing.{listing_of}
 use Rattle.m36_status.specs.declared.status.Code.TheVariants as code
 use Rattle.m36_status.specs.declared.refusal.Refusal.{Refusal}
 use Rattle.m36_status.specs.declared.refusal.Refusal.TheVariants.{NoMemory}
-use Rattle.m36_status.specs.Refusing.{Early}
+use Rattle.m36_status.specs.Refusing.{RuleResult}
 use Rattle.m36_status.specs.Rules.{file_refusal_at}
 use Rattle.cmd_tools.specs.declared.alm_files.AlmFiles.{AlmFiles}
 use Rattle.cmd_tools.specs.Reports.{ReportFields}
@@ -40,7 +40,7 @@ report_of_assembly name a =
     record { sets = object_set name a.parts ∷ []; text = listing_of name a.source a.parts }
 
 -- the report of an assembled source, or the refusal of the source
-abbrev pub alm_report_or_refusal : AlmFiles → Result Assembly AlmFault → Early ReportFields
+abbrev pub alm_report_or_refusal : AlmFiles → Result Assembly AlmFault → RuleResult ReportFields
 alm_report_or_refusal files (Ok a) = Ok (report_of_assembly files.object a)
 alm_report_or_refusal files (Err fault) = Err (source_refused files.source fault)
 

@@ -26,7 +26,12 @@ use obj36::Object;
 use std::alloc::Global;
 
 // The report of an assembled object: the object under its name, and the listing of its lines.
-fn listed(alloc: Global, name: &Name, lines: &Lines36, object: &Object) -> Result<Report, AlmFault>
+fn report_with_listing(
+    alloc: Global,
+    name: &Name,
+    lines: &Lines36,
+    object: &Object,
+) -> Result<Report, AlmFault>
     ensures { IsReportOrFault name.now result (Ok (record { source = lines.now; parts = object.now })) }
 {
     let content = object_bytes(alloc, object)?;
@@ -42,7 +47,7 @@ fn assemble_lines(alloc: Global, name: &Name, lines: &Lines36) -> Result<Report,
 {
     match assemble(alloc, lines) {
         Ok(object) => {
-            let report = listed(alloc, name, lines, &object);
+            let report = report_with_listing(alloc, name, lines, &object);
             // Dropped by a call, so that the drop is proved once for its type.
             drop(object);
             report

@@ -1,6 +1,6 @@
 //! Performs the command `bind NAME` over any world.
 
-ghost use Rattle.std.specs.Prelude.{◌≡◌, ◌≤◌, ◌∷◌, ◌++◌, [], length, OnOk, IfOk, Ok};
+ghost use Rattle.std.specs.Prelude.{◌≡◌, ◌≤◌, ◌∷◌, ◌++◌, [], length, OnOk, Ok};
 ghost use Rattle.m36_outside.specs.ReadAnswer.{file_limit};
 ghost use Rattle.m36_bindfile.specs.BindFile.{bind_lines, names_or_fault, BindResult};
 ghost use Rattle.m36_bind.specs.Bound.{bound_object_of};
@@ -16,7 +16,7 @@ use crate::bind_files::BindFiles;
 use crate::objects::object_bytes;
 use crate::report::{Report, report_file};
 use crate::reporting::write_report;
-use m36_bind::{BindFault, bind, components};
+use m36_bind::{BindFault, bind, component_names_of};
 use m36_files::{read_object, refusal_as_status};
 use m36_list::print;
 use m36_program::read_bytes;
@@ -89,7 +89,7 @@ fn names_in(alloc: Global, file: &[u8], text: &[u8]) -> Result<Names, Refusal>
     requires { length text.now ≤ file_limit }
     ensures { IsRuleResult result (names_or_refusal file.now (names_or_fault (bind_lines text.now))) }
 {
-    match components(alloc, text) {
+    match component_names_of(alloc, text) {
         Ok(names) => Ok(names),
         Err(fault) => Err(refuse_bind(alloc, file, fault)),
     }
@@ -104,7 +104,7 @@ fn append_object(mut objects: Objects, object: Object) -> Result<Objects, Refusa
 }
 
 // Reads the object of a component, and appends it.
-fn read_one<W: World>(
+fn read_component<W: World>(
     alloc: Global,
     objects: Objects,
     name: &Name,
@@ -126,7 +126,7 @@ fn read_objects<W: World>(alloc: Global, names: &[Name], world: &mut W) -> Resul
 {
     let mut objects = Objects::new(alloc);
     for name in names {
-        match read_one(alloc, objects, name, world) {
+        match read_component(alloc, objects, name, world) {
             Ok(more) => objects = more,
             Err(status) => return Err(status),
         }
@@ -202,7 +202,7 @@ fn read_and_bind<W: World>(
 }
 
 // Parses the bind file for the names of the components, reads these, and binds them.
-fn read_text<W: World>(
+fn parse_and_bind<W: World>(
     alloc: Global,
     files: &BindFiles,
     text: &[u8],
@@ -229,7 +229,7 @@ fn read_bind<W: World>(alloc: Global, files: &BindFiles, world: &mut W) -> Resul
 {
     match read_bytes(alloc, files.bindfile.bytes(), world) {
         Ok(text) => {
-            let report = read_text(alloc, files, text.bytes(), world);
+            let report = parse_and_bind(alloc, files, text.bytes(), world);
             drop(text);
             report
         }

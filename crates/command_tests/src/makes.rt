@@ -62,9 +62,9 @@ fn makes(
 ) -> Result<bool, NoMemory> {
     let mut out = MemSink::new(alloc, 1000, failing)?;
     let number = make(alloc, folder, &mut out);
-    let has_form_of = out.bytes() == written;
+    let is_written = out.bytes() == written;
     drop(out);
-    Ok(number? == due && has_form_of)
+    Ok(number? == due && is_written)
 }
 
 // The folder that `make 1` leaves when no write of it fails. A write after the last one would fail.

@@ -42,8 +42,8 @@ fn put(core: &mut Core, words: &[(u32, u64)]) {
 }
 
 /// Whether the joint audit has exactly these findings: process, condition and place.
-fn are_found(joint_audit: &JointVerdict, expected: &[(Option<u8>, u8, u32)]) -> bool {
-    for (finding, (process, condition, place)) in joint_audit.findings.iter().zip(expected) {
+fn are_found(joint: &JointVerdict, expected: &[(Option<u8>, u8, u32)]) -> bool {
+    for (finding, (process, condition, place)) in joint.findings.iter().zip(expected) {
         if finding.process != *process
             || finding.condition != *condition
             || finding.place != *place
@@ -51,7 +51,7 @@ fn are_found(joint_audit: &JointVerdict, expected: &[(Option<u8>, u8, u32)]) -> 
             return false;
         }
     }
-    joint_audit.findings.len() == expected.len() && joint_audit.yes() == expected.is_empty()
+    joint.findings.len() == expected.len() && joint.yes() == expected.is_empty()
 }
 
 /// Whether the joint audit of an image has the expected findings.
@@ -60,8 +60,8 @@ fn finds(alloc: Global, image: &Image) -> Result<bool, NoMemory> {
     let mut core = Core::new(alloc, 2)?;
     put(&mut core, &LOCK);
     put(&mut core, words);
-    let joint_audit = joint_audit(alloc, &core, &[dbr(0), dbr(*second)])?;
-    Ok(are_found(&joint_audit, expected))
+    let joint = joint_audit(alloc, &core, &[dbr(0), dbr(*second)])?;
+    Ok(are_found(&joint, expected))
 }
 
 const IMAGES: &[Image] = &[

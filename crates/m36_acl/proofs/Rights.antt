@@ -9,7 +9,7 @@ use Rattle.m36_dir.specs.Fields.{SegmentFields}
 use Rattle.m36_dir.specs.Catalog.{CatalogFields}
 use Rattle.m36_acl.specs.Fields.{AclSegmentFields}
 use Rattle.m36_acl.specs.AccessLists.{Lists}
-use Rattle.m36_acl.specs.Granted.{names, granted_segment, granted_catalog, GrantsOne}
+use Rattle.m36_acl.specs.Granted.{is_list_for, granted_segment, granted_catalog, GrantsOne}
 use Rattle.m36_acl.proofs.Places.{at_place}
 
 -- the element at an index, and those after it
@@ -20,29 +20,29 @@ drop_at {X} xs i x e =
 -- ---- a segment that a line names
 
 known_at : (catalog : CatalogFields) (given : AclSegmentFields) (i : ℕ) (s : SegmentFields) → slice_get catalog.segments i ≡ Some s
-    → list_any (names catalog given) (drop i catalog.segments)
-    ≡ (names catalog given s || list_any (names catalog given) (drop (i + 1) catalog.segments))
-known_at catalog given i s e = ap (λ (ss : List SegmentFields). list_any (names catalog given) ss) (drop_at catalog.segments i s e)
+    → list_any (is_list_for catalog given) (drop i catalog.segments)
+    ≡ (is_list_for catalog given s || list_any (is_list_for catalog given) (drop (i + 1) catalog.segments))
+known_at catalog given i s e = ap (λ (ss : List SegmentFields). list_any (is_list_for catalog given) ss) (drop_at catalog.segments i s e)
 
 pub known_here : (catalog : CatalogFields) (given : AclSegmentFields) (i : ℕ) (s : SegmentFields) (total : Bool)
-    → slice_get catalog.segments i ≡ Some s → true ≡ names catalog given s
-    → list_any (names catalog given) (drop i catalog.segments) ≡ total → true ≡ total
+    → slice_get catalog.segments i ≡ Some s → true ≡ is_list_for catalog given s
+    → list_any (is_list_for catalog given) (drop i catalog.segments) ≡ total → true ≡ total
 known_here catalog given i s total e here so_far =
-    ap (λ (b : Bool). (b || list_any (names catalog given) (drop (i + 1) catalog.segments))) here
+    ap (λ (b : Bool). (b || list_any (is_list_for catalog given) (drop (i + 1) catalog.segments))) here
     ∙ sym (known_at catalog given i s e) ∙ so_far
 
 pub known_later : (catalog : CatalogFields) (given : AclSegmentFields) (i : ℕ) (s : SegmentFields) (total : Bool)
-    → slice_get catalog.segments i ≡ Some s → false ≡ names catalog given s
-    → list_any (names catalog given) (drop i catalog.segments) ≡ total
-    → list_any (names catalog given) (drop (i + 1) catalog.segments) ≡ total
+    → slice_get catalog.segments i ≡ Some s → false ≡ is_list_for catalog given s
+    → list_any (is_list_for catalog given) (drop i catalog.segments) ≡ total
+    → list_any (is_list_for catalog given) (drop (i + 1) catalog.segments) ≡ total
 known_later catalog given i s total e other so_far =
-    ap (λ (b : Bool). (b || list_any (names catalog given) (drop (i + 1) catalog.segments))) other
+    ap (λ (b : Bool). (b || list_any (is_list_for catalog given) (drop (i + 1) catalog.segments))) other
     ∙ sym (known_at catalog given i s e) ∙ so_far
 
 pub known_never : (catalog : CatalogFields) (given : AclSegmentFields) (i : ℕ) (total : Bool) → length catalog.segments ≤ i
-    → list_any (names catalog given) (drop i catalog.segments) ≡ total → false ≡ total
+    → list_any (is_list_for catalog given) (drop i catalog.segments) ≡ total → false ≡ total
 known_never catalog given i total le so_far =
-    sym (at_drop_all (λ (ss : List SegmentFields). list_any (names catalog given) ss) catalog.segments i le) ∙ so_far
+    sym (at_drop_all (λ (ss : List SegmentFields). list_any (is_list_for catalog given) ss) catalog.segments i le) ∙ so_far
 
 -- ---- rights, segment after segment
 

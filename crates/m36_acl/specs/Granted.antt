@@ -19,13 +19,13 @@ first_name_of s = unwrap_or (slice_get s.names 0) []
 -- ---- C3: a `segment` line that names no segment of the catalog
 
 -- whether an access list is that of this segment of the catalog
-abbrev pub names : CatalogFields → AclSegmentFields → SegmentFields → Bool
-names catalog given s =
+abbrev pub is_list_for : CatalogFields → AclSegmentFields → SegmentFields → Bool
+is_list_for catalog given s =
     is_same_entry (entry given.dir given.name) (entry (directory_in catalog.directories s) (first_name_of s))
 
 -- whether the list is that of a segment of the catalog
 abbrev pub is_in_catalog : CatalogFields → AclSegmentFields → Bool
-is_in_catalog catalog given = list_any (names catalog given) catalog.segments
+is_in_catalog catalog given = list_any (is_list_for catalog given) catalog.segments
 
 -- the first `segment` line that names no segment of the catalog
 unfoldable pub first_unknown : CatalogFields → Lists → Option ℕ

@@ -83,7 +83,7 @@ impl SegmentKey {
 }
 
 // Adds a segment; the vector has room for it.
-fn put(segments: &mut Vec<AclSegment>, segment: AclSegment)
+fn push_within_capacity(segments: &mut Vec<AclSegment>, segment: AclSegment)
     requires { vec_len segments.old < vec_capacity segments.old }
     ensures { segments.new.items ≡ segments.old.items ++ segment ∷ [] }
 {
@@ -132,7 +132,7 @@ impl SegmentsAbove {
     {
         self.segments.reserve(1)?;
         self.places.insert(place)?;
-        put(&mut self.segments, segment);
+        push_within_capacity(&mut self.segments, segment);
         Ok(())
     }
 

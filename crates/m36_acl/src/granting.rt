@@ -2,7 +2,7 @@
 
 ghost use Rattle.std.specs.Prelude.{◌≡◌, ◌<◌, length};
 ghost use Rattle.m36_dir.specs.IsCatalog.{IsSegment};
-ghost use Rattle.m36_acl.specs.Granted.{first_name_of, names, is_in_catalog, first_unknown, decision_on, GrantsOne, granted_catalog};
+ghost use Rattle.m36_acl.specs.Granted.{first_name_of, is_list_for, is_in_catalog, first_unknown, decision_on, GrantsOne, granted_catalog};
 
 use crate::acl::Acl;
 use crate::policy::Decision;
@@ -21,9 +21,9 @@ pub(crate) fn first_name_of(segment: &Segment) -> &[u8]
 }
 
 // Whether a `segment` line names this segment of a catalog.
-fn names(catalog: &Catalog, given: &AclSegment, segment: &Segment) -> bool
+fn is_list_for(catalog: &Catalog, given: &AclSegment, segment: &Segment) -> bool
     requires { IsSegment (length catalog.now.directories) segment.now }
-    ensures { result ≡ names catalog.now given.now segment.now }
+    ensures { result ≡ is_list_for catalog.now given.now segment.now }
 {
     catalog.directory(segment.dir) == given.dir.bytes()
         && first_name_of(segment) == given.name.bytes()
@@ -35,7 +35,7 @@ fn is_in_catalog(catalog: &Catalog, given: &AclSegment) -> bool
     ensures { result ≡ is_in_catalog catalog.now given.now }
 {
     for i in 0..catalog.count() {
-        if names(catalog, given, catalog.segment(i)) {
+        if is_list_for(catalog, given, catalog.segment(i)) {
             return true;
         }
     }

@@ -3,7 +3,7 @@
 //! A number below 2 * half represents a signed number in two's complement. The biased number is
 //! this number plus half, modulo 2 * half. Biased numbers have the order of the signed numbers.
 
-ghost use Rattle.std.specs.Prelude.{ℕ, ◌≡◌, ◌+◌, ◌*◌, ◌^◌, ◌<◌, ◌≤◌, not, ◌&&◌, nat_lt, nat_le};
+ghost use Rattle.std.specs.Prelude.{◌≡◌, ◌+◌, ◌*◌, ◌^◌, ◌<◌, ◌≤◌, not, ◌&&◌, nat_lt, nat_le};
 ghost use Rattle.m36_word.specs.Bits.{of_bit};
 ghost use Rattle.m36_model.specs.Arithmetic.{sum_overflow, difference_overflow, is_less};
 

@@ -6,7 +6,7 @@ ghost use Rattle.m36_model.specs.Shifts.{plain_right_shift, rotation};
 
 /// A shift to the left; zeros enter at the right.
 #[tactic(auto, unfolding(m36_model::specs::Shifts::left_shift))]
-pub fn left(v: u128, n: u32) -> u128
+pub fn shift_left(v: u128, n: u32) -> u128
     requires number { v < 2 ^ 72 }
     requires count { n < 128 }
     ensures value { result ≡ left_shift 72 v n }
@@ -60,7 +60,7 @@ pub fn shift_right_with_zeros(v: u128, n: u32) -> u128
 /// A shift to the right that copies the sign. A negative number is complemented before and after a
 /// shift with zeros.
 #[tactic(auto, using(crate::proofs::ShiftRules::copied_zeros_wide, crate::proofs::ShiftRules::copied_ones_wide))]
-pub fn right(v: u128, n: u32) -> u128
+pub fn shift_right(v: u128, n: u32) -> u128
     requires number { v < 2 ^ 72 }
     requires count { n < 128 }
     ensures value { result ≡ copying_right_shift 72 v n }

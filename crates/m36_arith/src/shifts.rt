@@ -31,8 +31,8 @@ fn shifted_word(op: Shift, v: u64, n: u32) -> u64
     ensures bound { result < 2 ^ 36 }
 {
     match op {
-        Shift::Left => word_shifts::left(v, n),
-        Shift::Right => word_shifts::right(v, n),
+        Shift::Left => word_shifts::shift_left(v, n),
+        Shift::Right => word_shifts::shift_right(v, n),
         Shift::RightZero => word_shifts::shift_right_with_zeros(v, n),
         Shift::Rotate => word_shifts::rotate_left(v, n),
     }
@@ -75,8 +75,8 @@ fn shifted_pair(op: Shift, v: u128, n: u32) -> u128
     ensures bound { result < 2 ^ 72 }
 {
     match op {
-        Shift::Left => pair_shifts::left(v, n),
-        Shift::Right => pair_shifts::right(v, n),
+        Shift::Left => pair_shifts::shift_left(v, n),
+        Shift::Right => pair_shifts::shift_right(v, n),
         Shift::RightZero => pair_shifts::shift_right_with_zeros(v, n),
         Shift::Rotate => pair_shifts::rotate_left(v, n),
     }

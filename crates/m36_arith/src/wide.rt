@@ -1,7 +1,7 @@
 //! Numbers of 72 bits: pairs with a given number, and overflow and order of signed numbers, as
 //! `narrow` has them for fewer bits.
 
-ghost use Rattle.std.specs.Prelude.{ℕ, ◌≡◌, ◌+◌, ◌*◌, ◌^◌, ◌<◌, ◌≤◌, not, ◌&&◌, nat_lt, nat_le};
+ghost use Rattle.std.specs.Prelude.{◌≡◌, ◌+◌, ◌*◌, ◌^◌, ◌<◌, ◌≤◌, not, ◌&&◌, nat_lt, nat_le};
 ghost use Rattle.m36_word.specs.Bits.{of_bit};
 ghost use Rattle.m36_word.specs.Pairs.{number_of};
 ghost use Rattle.m36_model.specs.Arithmetic.{sum_overflow, difference_overflow, is_less};

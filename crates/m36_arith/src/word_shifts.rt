@@ -6,7 +6,7 @@ ghost use Rattle.m36_model.specs.Shifts.{plain_right_shift, rotation};
 
 /// A shift to the left; zeros enter at the right.
 #[tactic(auto, unfolding(m36_model::specs::Shifts::left_shift), using(crate::proofs::ShiftRules::shifted_out))]
-pub fn left(v: u64, n: u32) -> u64
+pub fn shift_left(v: u64, n: u32) -> u64
     requires number { v < 2 ^ 36 }
     requires count { n < 128 }
     ensures value { result ≡ left_shift 36 v n }
@@ -71,7 +71,7 @@ pub fn shift_right_with_zeros(v: u64, n: u32) -> u64
 /// A shift to the right that copies the sign. A negative number is complemented before and after a
 /// shift with zeros.
 #[tactic(auto, using(crate::proofs::ShiftRules::copied_zeros, crate::proofs::ShiftRules::copied_ones))]
-pub fn right(v: u64, n: u32) -> u64
+pub fn shift_right(v: u64, n: u32) -> u64
     requires number { v < 2 ^ 36 }
     requires count { n < 128 }
     ensures value { result ≡ copying_right_shift 36 v n }

@@ -4,7 +4,7 @@ use Rattle.std.proofs.lemmas.Bool.{le-ltb}
 use Rattle.m36_desc.specs.Fields.{SdwFields, DbrFields}
 use Rattle.m36_desc.specs.Access.{first_violation, has_ordered_brackets, read_rows, write_rows, fetch_rows}
 use Rattle.m36_model.specs.Place.{wrapped_address}
-use Rattle.m36_associative.specs.Right.{MayRead, MayWrite, MayFetch, MayTransferTo, IsPage, IsFetching, Answers}
+use Rattle.m36_associative.specs.Right.{MayRead, MayWrite, MayFetch, MayTransferTo, DescribesPage, IsFetching, Answers}
 use Rattle.m36_associative.specs.declared.front.Page.{Page}
 use Rattle.m36_associative.specs.declared.front.Fetching.{Fetching}
 use Rattle.m36_associative.proofs.Found.{marks_of}
@@ -39,7 +39,7 @@ may_go d ring h = go_by (has_ordered_brackets d) (nat_lt ring d.r1) (nat_lt d.r2
 
 module _ (core : List ℕ) (dbr : DbrFields) (words tables : List ℕ) (p : Page) (seg word : ℕ) where
   -- a page in front answers
-  answers : (Rights : SdwFields → Type 0) (write : Bool) (count : ℕ) (k : IsPage core dbr words tables p seg (word / 1024)) → (write ≡ true → 0 < p.write_below) → 1 ≤ count → word % 1024 + count ≤ p.end → Rights k.sdw → Answers core dbr Rights write seg word count (p.base + word % 1024)
+  answers : (Rights : SdwFields → Type 0) (write : Bool) (count : ℕ) (k : DescribesPage core dbr words tables p seg (word / 1024)) → (write ≡ true → 0 < p.write_below) → 1 ≤ count → word % 1024 + count ≤ p.end → Rights k.sdw → Answers core dbr Rights write seg word count (p.base + word % 1024)
   answers Rights write count k m s e r =
       let small : length core ≤ 2 ^ 24 = k.page_rights.small in
       let inside : p.base + p.end ≤ length core = k.page_rights.inside (omega arith) in
@@ -55,30 +55,30 @@ module _ (core : List ℕ) (dbr : DbrFields) (words tables : List ℕ) (p : Page
         marked = marks_of core dbr words tables p seg word write m k;
       }
 
-  pub answers_read : (ring count : ℕ) → IsPage core dbr words tables p seg (word / 1024) → 1 ≤ count → word % 1024 + count ≤ p.end → ring < p.read_below → Answers core dbr (λ d. MayRead ring d × (p.r1 ≡ d.r1)) false seg word count (p.base + word % 1024)
+  pub answers_read : (ring count : ℕ) → DescribesPage core dbr words tables p seg (word / 1024) → 1 ≤ count → word % 1024 + count ≤ p.end → ring < p.read_below → Answers core dbr (λ d. MayRead ring d × (p.r1 ≡ d.r1)) false seg word count (p.base + word % 1024)
   answers_read ring count k s e r = answers (λ d. MayRead ring d × (p.r1 ≡ d.r1)) false count k (λ w. absurd (cc)) s e (k.page_rights.reads ring r, k.page_rights.ring)
 
-  pub answers_read_alone : (ring count : ℕ) → IsPage core dbr words tables p seg (word / 1024) → 1 ≤ count → word % 1024 + count ≤ p.end → ring < p.read_below → Answers core dbr (MayRead ring) false seg word count (p.base + word % 1024)
+  pub answers_read_alone : (ring count : ℕ) → DescribesPage core dbr words tables p seg (word / 1024) → 1 ≤ count → word % 1024 + count ≤ p.end → ring < p.read_below → Answers core dbr (MayRead ring) false seg word count (p.base + word % 1024)
   answers_read_alone ring count k s e r = answers (MayRead ring) false count k (λ w. absurd (cc)) s e (k.page_rights.reads ring r)
 
-  pub answers_write : (ring count : ℕ) → IsPage core dbr words tables p seg (word / 1024) → 1 ≤ count → word % 1024 + count ≤ p.end → ring < p.write_below → Answers core dbr (MayWrite ring) true seg word count (p.base + word % 1024)
+  pub answers_write : (ring count : ℕ) → DescribesPage core dbr words tables p seg (word / 1024) → 1 ≤ count → word % 1024 + count ≤ p.end → ring < p.write_below → Answers core dbr (MayWrite ring) true seg word count (p.base + word % 1024)
   answers_write ring count k s e r = answers (MayWrite ring) true count k (λ w. omega arith) s e (k.page_rights.writes ring r)
 
-  pub answers_fetch : (ring count : ℕ) → IsPage core dbr words tables p seg (word / 1024) → 1 ≤ count → word % 1024 + count ≤ p.end → p.r1 ≤ ring → ring < p.fetch_below → Answers core dbr (λ d. MayFetch ring d × (p.privileged ≡ d.privileged)) false seg word count (p.base + word % 1024)
+  pub answers_fetch : (ring count : ℕ) → DescribesPage core dbr words tables p seg (word / 1024) → 1 ≤ count → word % 1024 + count ≤ p.end → p.r1 ≤ ring → ring < p.fetch_below → Answers core dbr (λ d. MayFetch ring d × (p.privileged ≡ d.privileged)) false seg word count (p.base + word % 1024)
   answers_fetch ring count k s e a r = answers (λ d. MayFetch ring d × (p.privileged ≡ d.privileged)) false count k (λ w. absurd (cc)) s e (k.page_rights.fetches ring a r, k.page_rights.privileged)
 
-  pub answers_go : (ring count : ℕ) → IsPage core dbr words tables p seg (word / 1024) → 1 ≤ count → word % 1024 + count ≤ p.end → p.r1 ≤ ring → ring < p.fetch_below → Answers core dbr (MayTransferTo ring) false seg word count (p.base + word % 1024)
+  pub answers_go : (ring count : ℕ) → DescribesPage core dbr words tables p seg (word / 1024) → 1 ≤ count → word % 1024 + count ≤ p.end → p.r1 ≤ ring → ring < p.fetch_below → Answers core dbr (MayTransferTo ring) false seg word count (p.base + word % 1024)
   answers_go ring count k s e a r = answers (MayTransferTo ring) false count k (λ w. absurd (cc)) s e (may_go k.sdw ring (k.page_rights.fetches ring a r))
 
 -- the page that is fetched from answers a fetch, and a transfer
 module _ (core : List ℕ) (dbr : DbrFields) (words tables : List ℕ) (f : Fetching) (k : IsFetching core dbr words tables f) (word : ℕ) where
-  fetched_page : f.first ≤ word → word < f.first + f.len → IsPage core dbr words tables k.page f.seg (word / 1024)
+  fetched_page : f.first ≤ word → word < f.first + f.len → DescribesPage core dbr words tables k.page f.seg (word / 1024)
   fetched_page a b =
       let most : k.page.end ≤ 1024 = k.is.page_rights.most in
       let len : f.len ≤ k.page.end = k.len in
       let whole : f.first % 1024 ≡ 0 = k.first in
       let same : f.first / 1024 ≡ word / 1024 = omega arith in
-      subst (λ (n : ℕ). IsPage core dbr words tables k.page f.seg n) same k.is
+      subst (λ (n : ℕ). DescribesPage core dbr words tables k.page f.seg n) same k.is
 
   pub answers_fetched : f.first ≤ word → word < f.first + f.len → Answers core dbr (λ d. MayFetch f.ring d × (f.privileged ≡ d.privileged)) false f.seg word 1 (f.base + (word - f.first))
   answers_fetched a b =

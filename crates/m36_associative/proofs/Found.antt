@@ -1,12 +1,12 @@
 -- What the memories and the pages in front find.
-use Rattle.std.proofs.Common.{ℕ, ◌≡◌, ◌+◌, ◌*◌, ◌/◌, ◌%◌, ◌<◌, ◌^◌, ◌++◌, Bool, true, false, if◌then◌else◌, List, [], ◌∷◌, length, Option, Some, None, IfSome, OnSome, option_map, Ok, slice_get, slice_set, slice_index, nat_eq, refl, sym, ap, ◌∙◌, arith}
+use Rattle.std.proofs.Common.{ℕ, ◌≡◌, ◌+◌, ◌*◌, ◌/◌, ◌%◌, ◌<◌, ◌^◌, ◌++◌, Bool, true, false, if◌then◌else◌, List, [], ◌∷◌, length, Option, Some, None, option_map, Ok, slice_get, slice_set, slice_index, refl, sym, ap, ◌∙◌, arith}
 use Rattle.std.proofs.lemmas.List.{set-get_or}
 use Rattle.std.proofs.lemmas.Option.{slice_get_within}
 use Rattle.m36_desc.specs.Fields.{SdwFields, PtwFields, DbrFields}
 use Rattle.m36_desc.specs.Descriptors.{ptw_of}
-use Rattle.m36_model.specs.Place.{wrapped_address, frame_at, address_in_frame, address_in_frame_by, ptw_at, directory_at, page_at, has_descriptor_in_bounds, sdw_place_by, sdw_at, core_sdw, marked_word, with_mark, with_marks, marks_by}
+use Rattle.m36_model.specs.Place.{wrapped_address, frame_at, address_in_frame, address_in_frame_by, directory_at, page_at, has_descriptor_in_bounds, sdw_place_by, sdw_at, core_sdw, marked_word, with_mark, with_marks, marks_by}
 use Rattle.m36_tables.specs.Tables.{TableWordIsInCore}
-use Rattle.m36_associative.specs.Right.{IsMarked, IsPageRights, IsPage, IsDescriptor, IsTableWord}
+use Rattle.m36_associative.specs.Right.{IsMarked, IsPageRights, DescribesPage, IsKeptDescriptor, IsKeptTableWord}
 use Rattle.m36_associative.specs.declared.front.Page.{Page}
 use Rattle.m36_associative.specs.declared.memories.Memories.{Memories}
 
@@ -35,7 +35,7 @@ marks_stand core a b write false false h k =
     ap (λ (l : List ℕ). with_mark l (record { address = b; modified = write })) (no_change core a false (h refl)) ∙ no_change core b write (k refl)
 
 -- the marks of a page in front are set
-pub marks_of : (core : List ℕ) (dbr : DbrFields) (words tables : List ℕ) (p : Page) (seg word : ℕ) (write : Bool) → (write ≡ true → 0 < p.write_below) → (k : IsPage core dbr words tables p seg (word / 1024)) → with_marks core (marks_by dbr seg write word (Ok k.sdw)) ≡ core
+pub marks_of : (core : List ℕ) (dbr : DbrFields) (words tables : List ℕ) (p : Page) (seg word : ℕ) (write : Bool) → (write ≡ true → 0 < p.write_below) → (k : DescribesPage core dbr words tables p seg (word / 1024)) → with_marks core (marks_by dbr seg write word (Ok k.sdw)) ≡ core
 marks_of core dbr words tables p seg word write h k = marks_stand core (directory_at dbr seg) (page_at k.sdw (word / 1024)) write dbr.unpaged k.sdw.unpaged k.passed (stands write h)
   where
     stands : (write : Bool) → (write ≡ true → 0 < p.write_below) → k.sdw.unpaged ≡ false → IsMarked core (page_at k.sdw (word / 1024)) write
@@ -48,7 +48,7 @@ module _ (core : List ℕ) (dbr : DbrFields) (m : Memories) (p : Page) (seg word
     whole_place : (w : ℕ) → w / 1024 ≡ word / 1024 → p.base ≡ wrapped_address (d.addr + word / 1024 * 1024) → wrapped_address (d.addr + w) ≡ wrapped_address (p.base + w % 1024)
     whole_place w e b = omega arith
 
-    pub page_unpaged : IsDescriptor core dbr m.words m.tables seg d → d.unpaged ≡ true → (dbr.unpaged ≡ false → IsMarked core (directory_at dbr seg) false) → p.base ≡ wrapped_address (d.addr + word / 1024 * 1024) → p.base < 2 ^ 24 → IsPage core dbr m.words m.tables p seg (word / 1024)
+    pub page_unpaged : IsKeptDescriptor core dbr m.words m.tables seg d → d.unpaged ≡ true → (dbr.unpaged ≡ false → IsMarked core (directory_at dbr seg) false) → p.base ≡ wrapped_address (d.addr + word / 1024 * 1024) → p.base < 2 ^ 24 → DescribesPage core dbr m.words m.tables p seg (word / 1024)
     page_unpaged k u q b l =
         record {
           sdw = d;
@@ -70,8 +70,8 @@ module _ (core : List ℕ) (dbr : DbrFields) (m : Memories) (p : Page) (seg word
     in_frame_on : (t : PtwFields) (w : ℕ) → t.f ≡ true → p.base ≡ wrapped_address (t.addr / 16 * 1024) → address_in_frame (Some t) (w % 1024) ≡ Ok (wrapped_address (p.base + w % 1024))
     in_frame_on t w f b = ap (λ (x : Bool). address_in_frame_by x t (w % 1024)) f ∙ ap Ok (frame_place t w b)
 
-    pub page_paged : (t : PtwFields) → IsDescriptor core dbr m.words m.tables seg d → d.unpaged ≡ false → (dbr.unpaged ≡ false → IsMarked core (directory_at dbr seg) false) → IsTableWord core dbr m.words m.tables (page_at d (word / 1024)) t → t.f ≡ true → p.base ≡ wrapped_address (t.addr / 16 * 1024) → p.base < 2 ^ 24
-        → IsMarked core (page_at d (word / 1024)) false → (0 < p.write_below → IsMarked core (page_at d (word / 1024)) true) → IsPage core dbr m.words m.tables p seg (word / 1024)
+    pub page_paged : (t : PtwFields) → IsKeptDescriptor core dbr m.words m.tables seg d → d.unpaged ≡ false → (dbr.unpaged ≡ false → IsMarked core (directory_at dbr seg) false) → IsKeptTableWord core dbr m.words m.tables (page_at d (word / 1024)) t → t.f ≡ true → p.base ≡ wrapped_address (t.addr / 16 * 1024) → p.base < 2 ^ 24
+        → IsMarked core (page_at d (word / 1024)) false → (0 < p.write_below → IsMarked core (page_at d (word / 1024)) true) → DescribesPage core dbr m.words m.tables p seg (word / 1024)
     page_paged t k u q x f b l i j =
         record {
           sdw = d;

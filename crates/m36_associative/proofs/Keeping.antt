@@ -2,7 +2,7 @@
 use Rattle.std.proofs.Common.{ℕ, zero, suc, ◌≡◌, ◌+◌, ◌*◌, ◌/◌, ◌<◌, ◌⊎◌, true, List, [], ◌∷◌, length, Contains, refl, sym, ap, ◌∙◌, subst, inl, inr, arith, set, get_or}
 use Rattle.m36_desc.specs.Fields.{SdwFields, PtwFields, DbrFields}
 use Rattle.m36_associative.specs.Watched.{is_watched}
-use Rattle.m36_associative.specs.Right.{IsWatched, IsDescriptor, IsTableWord, IsPage, IsPageInFront, IsFetching, AreCoherent}
+use Rattle.m36_associative.specs.Right.{IsWatched, IsKeptDescriptor, IsKeptTableWord, DescribesPage, IsPageInFront, IsFetching, AreCoherent}
 use Rattle.m36_associative.specs.declared.front.Fetching.{Fetching}
 use Rattle.m36_associative.specs.declared.front.Page.{Page}
 use Rattle.m36_associative.specs.declared.kept.SdwEntry.{SdwEntry}
@@ -17,13 +17,13 @@ module _ (core : List ℕ) (dbr : DbrFields) (words tables words' tables' : List
   pub watches_on : (seg : ℕ) → IsWatched core dbr words tables seg → IsWatched core dbr words' tables' seg
   watches_on seg h = record { even = λ a e. w a (h.even a e); odd = λ a e. w _ (h.odd a e); directory = λ e. t _ (h.directory e) }
 
-  descriptor_on : (seg : ℕ) (d : SdwFields) → IsDescriptor core dbr words tables seg d → IsDescriptor core dbr words' tables' seg d
+  descriptor_on : (seg : ℕ) (d : SdwFields) → IsKeptDescriptor core dbr words tables seg d → IsKeptDescriptor core dbr words' tables' seg d
   descriptor_on seg d h = record { found = h.found; watches = watches_on seg h.watches }
 
-  table_word_on : (a : ℕ) (p : PtwFields) → IsTableWord core dbr words tables a p → IsTableWord core dbr words' tables' a p
+  table_word_on : (a : ℕ) (p : PtwFields) → IsKeptTableWord core dbr words tables a p → IsKeptTableWord core dbr words' tables' a p
   table_word_on a p h = record { inside = h.inside; finds = h.finds; watches = t a h.watches }
 
-  page_on : (p : Page) (seg page : ℕ) → IsPage core dbr words tables p seg page → IsPage core dbr words' tables' p seg page
+  page_on : (p : Page) (seg page : ℕ) → DescribesPage core dbr words tables p seg page → DescribesPage core dbr words' tables' p seg page
   page_on p seg page k =
       record { sdw = k.sdw; found = k.found; watches = watches_on seg k.watches; table = λ u. t _ (k.table u); low = k.low; place = k.place; passed = k.passed; used = k.used; modified = k.modified; page_rights = k.page_rights }
 
@@ -33,8 +33,8 @@ module _ (core : List ℕ) (dbr : DbrFields) (words tables words' tables' : List
 
 -- each entry was kept before, or is right
 pub kept_on : (core : List ℕ) (dbr : DbrFields) (m m' : Memories) → AreCoherent core dbr m → WatchesMore m.words m'.words → WatchesMore m.tables m'.tables
-    → ((e : SdwEntry) → Contains m'.sdws e → Contains m.sdws e ⊎ ((seg : ℕ) → e.key ≡ seg + 1 → IsDescriptor core dbr m'.words m'.tables seg e.sdw))
-    → ((e : PtwEntry) → Contains m'.ptws e → Contains m.ptws e ⊎ ((a : ℕ) → e.key ≡ a + 1 → IsTableWord core dbr m'.words m'.tables a e.ptw))
+    → ((e : SdwEntry) → Contains m'.sdws e → Contains m.sdws e ⊎ ((seg : ℕ) → e.key ≡ seg + 1 → IsKeptDescriptor core dbr m'.words m'.tables seg e.sdw))
+    → ((e : PtwEntry) → Contains m'.ptws e → Contains m.ptws e ⊎ ((a : ℕ) → e.key ≡ a + 1 → IsKeptTableWord core dbr m'.words m'.tables a e.ptw))
     → ((p : Page) → Contains m'.pages p → Contains m.pages p ⊎ IsPageInFront core dbr m'.words m'.tables p)
     → (0 < m'.fetching.len → IsFetching core dbr m.words m.tables m'.fetching)
     → AreCoherent core dbr m'
@@ -75,9 +75,6 @@ pub no_key : (core : List ℕ) (dbr : DbrFields) (words tables : List ℕ) (p : 
 no_key core dbr words tables p e seg page b k = absurd (omega arith)
 
 -- nothing is kept
-nothing_in : {X : Type 0} (x : X) → Contains [] x → ⊥
-nothing_in x c = let within = c.1 in omega arith
-
 pub nothing_kept : (core : List ℕ) (dbr : DbrFields) (m : Memories) → ((e : SdwEntry) → Contains m.sdws e → e.key ≡ 0) → ((e : PtwEntry) → Contains m.ptws e → e.key ≡ 0) → ((p : Page) → Contains m.pages p → p.key ≡ 0) → m.fetching.len ≡ 0 → AreCoherent core dbr m
 nothing_kept core dbr m s t g z =
     record {
@@ -146,34 +143,34 @@ with_page core dbr m m' i y h r j e f g k z =
     (no_fetching core dbr m.words m.tables m'.fetching z)
 
 -- a descriptor is kept
-pub with_descriptor : (core : List ℕ) (dbr : DbrFields) (m m' : Memories) (i seg : ℕ) (y : SdwEntry) → AreCoherent core dbr m → y.key ≡ seg + 1 → IsDescriptor core dbr m.words m.tables seg y.sdw → m'.sdws ≡ set m.sdws i y → m'.words ≡ m.words → m'.tables ≡ m.tables → m'.ptws ≡ m.ptws → m'.pages ≡ m.pages → m'.fetching ≡ m.fetching → AreCoherent core dbr m'
+pub with_descriptor : (core : List ℕ) (dbr : DbrFields) (m m' : Memories) (i seg : ℕ) (y : SdwEntry) → AreCoherent core dbr m → y.key ≡ seg + 1 → IsKeptDescriptor core dbr m.words m.tables seg y.sdw → m'.sdws ≡ set m.sdws i y → m'.words ≡ m.words → m'.tables ≡ m.tables → m'.ptws ≡ m.ptws → m'.pages ≡ m.pages → m'.fetching ≡ m.fetching → AreCoherent core dbr m'
 with_descriptor core dbr m m' i seg y h n r g e f k j z =
-    let r' : IsDescriptor core dbr m'.words m'.tables seg y.sdw = rw (e, f) r in
+    let r' : IsKeptDescriptor core dbr m'.words m'.tables seg y.sdw = rw (e, f) r in
     kept_on core dbr m m' h (λ b c. rw e c) (λ b c. rw f c)
     (λ s c. elim (contains_set m.sdws i y s (subst (λ (x : List SdwEntry). Contains x s) g c)) [
       | inl d ↦ inl d
-      | inr same ↦ inr (λ q l. subst (λ (v : SdwEntry). v.key ≡ q + 1 → IsDescriptor core dbr m'.words m'.tables q v.sdw) (sym same) (λ o. let there : seg ≡ q = omega arith in subst (λ (u : ℕ). IsDescriptor core dbr m'.words m'.tables u y.sdw) there r') l)
+      | inr same ↦ inr (λ q l. subst (λ (v : SdwEntry). v.key ≡ q + 1 → IsKeptDescriptor core dbr m'.words m'.tables q v.sdw) (sym same) (λ o. let there : seg ≡ q = omega arith in subst (λ (u : ℕ). IsKeptDescriptor core dbr m'.words m'.tables u y.sdw) there r') l)
     ])
     (λ a c. inl (subst (λ (x : List PtwEntry). Contains x a) k c))
     (λ p c. inl (subst (λ (x : List Page). Contains x p) j c))
     (same_fetching core dbr m m' h z)
 
 -- a PTW is kept
-pub with_table_word : (core : List ℕ) (dbr : DbrFields) (m m' : Memories) (i a : ℕ) (y : PtwEntry) → AreCoherent core dbr m → y.key ≡ a + 1 → IsTableWord core dbr m.words m.tables a y.ptw → m'.ptws ≡ set m.ptws i y → m'.words ≡ m.words → m'.tables ≡ m.tables → m'.sdws ≡ m.sdws → m'.pages ≡ m.pages → m'.fetching ≡ m.fetching → AreCoherent core dbr m'
+pub with_table_word : (core : List ℕ) (dbr : DbrFields) (m m' : Memories) (i a : ℕ) (y : PtwEntry) → AreCoherent core dbr m → y.key ≡ a + 1 → IsKeptTableWord core dbr m.words m.tables a y.ptw → m'.ptws ≡ set m.ptws i y → m'.words ≡ m.words → m'.tables ≡ m.tables → m'.sdws ≡ m.sdws → m'.pages ≡ m.pages → m'.fetching ≡ m.fetching → AreCoherent core dbr m'
 with_table_word core dbr m m' i a y h n r g e f k j z =
-    let r' : IsTableWord core dbr m'.words m'.tables a y.ptw = rw (e, f) r in
+    let r' : IsKeptTableWord core dbr m'.words m'.tables a y.ptw = rw (e, f) r in
     kept_on core dbr m m' h (λ b c. rw e c) (λ b c. rw f c)
     (λ s c. inl (subst (λ (x : List SdwEntry). Contains x s) k c))
     (λ s c. elim (contains_set m.ptws i y s (subst (λ (x : List PtwEntry). Contains x s) g c)) [
       | inl d ↦ inl d
-      | inr same ↦ inr (λ q l. subst (λ (v : PtwEntry). v.key ≡ q + 1 → IsTableWord core dbr m'.words m'.tables q v.ptw) (sym same) (λ o. let there : a ≡ q = omega arith in subst (λ (u : ℕ). IsTableWord core dbr m'.words m'.tables u y.ptw) there r') l)
+      | inr same ↦ inr (λ q l. subst (λ (v : PtwEntry). v.key ≡ q + 1 → IsKeptTableWord core dbr m'.words m'.tables q v.ptw) (sym same) (λ o. let there : a ≡ q = omega arith in subst (λ (u : ℕ). IsKeptTableWord core dbr m'.words m'.tables u y.ptw) there r') l)
     ])
     (λ p c. inl (subst (λ (x : List Page). Contains x p) j c))
     (same_fetching core dbr m m' h z)
 
 -- a key belongs to only one page
-pub only_page : (core : List ℕ) (dbr : DbrFields) (words tables : List ℕ) (p : Page) (seg page : ℕ) → page < 256 → p.key ≡ seg * 256 + page + 1 → IsPage core dbr words tables p seg page → IsPageInFront core dbr words tables p
+pub only_page : (core : List ℕ) (dbr : DbrFields) (words tables : List ℕ) (p : Page) (seg page : ℕ) → page < 256 → p.key ≡ seg * 256 + page + 1 → DescribesPage core dbr words tables p seg page → IsPageInFront core dbr words tables p
 only_page core dbr words tables p seg page b e h s q c f =
     let same_seg : seg ≡ s = omega arith in
     let same_page : page ≡ q = omega arith in
-    subst (λ (x : ℕ). IsPage core dbr words tables p s x) same_page (subst (λ (x : ℕ). IsPage core dbr words tables p x page) same_seg h)
+    subst (λ (x : ℕ). DescribesPage core dbr words tables p s x) same_page (subst (λ (x : ℕ). DescribesPage core dbr words tables p x page) same_seg h)

@@ -2,12 +2,13 @@
 use Rattle.std.proofs.Common.{ℕ, zero, suc, ◌≡◌, ◌≢◌, ◌+◌, ◌*◌, ◌/◌, ◌%◌, ◌^◌, Bool, true, false, List, [], ◌∷◌, length, slice_get, slice_set, slice_index, Option, Some, None, option_map, Result, Ok, Err, ◌==◌, Contains, refl, sym, ap, subst, ◌∙◌, arith, length-set, eqb-true}
 use Rattle.std.proofs.lemmas.Bool.{eqb-false}
 use Rattle.std.proofs.lemmas.List.{get_or-set_other}
+use Rattle.m36_word.proofs.Lists.{set_same, get_set_past, index_of_get}
 use Rattle.m36_desc.specs.Fields.{SdwFields, PtwFields, DbrFields}
 use Rattle.m36_desc.specs.Descriptors.{ptw_of}
 use Rattle.m36_model.specs.Place.{wrapped_address, address_in_frame, address_in_frame_by, ptw_at, directory_at, page_at, has_descriptor_in_bounds, sdw_place, sdw_place_by, sdw_at, core_sdw, word_place_by, with_used, with_modified, marked_word, with_mark}
 use Rattle.m36_model.specs.declared.outcome.Refusal.{Refusal}
 use Rattle.m36_associative.specs.Watched.{is_watched}
-use Rattle.m36_associative.specs.Right.{IsMarked, IsWatched, IsDescriptor, IsTableWord, IsPage, IsFetching, AreCoherent}
+use Rattle.m36_associative.specs.Right.{IsMarked, IsWatched, IsKeptDescriptor, IsKeptTableWord, DescribesPage, IsFetching, AreCoherent}
 use Rattle.m36_associative.specs.declared.front.Fetching.{Fetching}
 use Rattle.m36_associative.specs.declared.front.Page.{Page}
 use Rattle.m36_associative.specs.declared.memories.Memories.{Memories}
@@ -42,10 +43,10 @@ module _ (core now words tables : List ℕ) (dbr : DbrFields) (alike : AreAlike 
   still_watched : (seg : ℕ) → IsWatched core dbr words tables seg → IsWatched now dbr words tables seg
   still_watched seg h = record { even = λ a e. h.even a (sym (same_place seg h) ∙ e); odd = λ a e. h.odd a (sym (same_place seg h) ∙ e); directory = h.directory }
 
-  pub descriptor_alike : (seg : ℕ) (d : SdwFields) → IsDescriptor core dbr words tables seg d → IsDescriptor now dbr words tables seg d
+  pub descriptor_alike : (seg : ℕ) (d : SdwFields) → IsKeptDescriptor core dbr words tables seg d → IsKeptDescriptor now dbr words tables seg d
   descriptor_alike seg d h = record { found = same_sdw seg h.watches ∙ h.found; watches = still_watched seg h.watches }
 
-  pub table_word_alike : (a : ℕ) (p : PtwFields) → IsTableWord core dbr words tables a p → IsTableWord now dbr words tables a p
+  pub table_word_alike : (a : ℕ) (p : PtwFields) → IsKeptTableWord core dbr words tables a p → IsKeptTableWord now dbr words tables a p
   table_word_alike a p h = record { inside = rw alike.size h.inside; finds = λ o. alike.frame a h.watches o ∙ h.finds o; watches = h.watches }
 
   word_place_alike : (d : SdwFields) (w a : ℕ) (u : Bool) → d.unpaged ≡ u → (d.unpaged ≡ false → is_watched tables a ≡ true) → word_place_by u d w (ptw_at now a) ≡ word_place_by u d w (ptw_at core a)
@@ -56,7 +57,7 @@ module _ (core now words tables : List ℕ) (dbr : DbrFields) (alike : AreAlike 
   mark_alike same b m w h = subst (λ (x : ℕ). marked_word m x ≡ x) (sym (same b w)) h
 
   module _ (same : (b : ℕ) → is_watched tables b ≡ true → slice_index now b ≡ slice_index core b) where
-    pub page_alike : (p : Page) (seg page : ℕ) → IsPage core dbr words tables p seg page → IsPage now dbr words tables p seg page
+    pub page_alike : (p : Page) (seg page : ℕ) → DescribesPage core dbr words tables p seg page → DescribesPage now dbr words tables p seg page
     page_alike p seg page k =
         record {
           sdw = k.sdw;
@@ -148,21 +149,6 @@ frame_marked m w offset =
     let u = marked_word m w in
     frame_by (ptw_of u).f (ptw_of u) (ptw_of w) offset (same_addr u w (marked_high m w)) (same_fc u w (marked_low m w)) ∙ ap (λ (b : Bool). address_in_frame_by b (ptw_of w) offset) (same_f u w (marked_low m w))
 
-get_set_same : (xs : List ℕ) (i v x : ℕ) → slice_get xs i ≡ Some x → slice_get (slice_set xs i v) i ≡ Some v
-get_set_same [] i v x h = cc
-get_set_same (y ∷ xs) zero v x h = refl
-get_set_same (y ∷ xs) (suc i) v x h = get_set_same xs i v x h
-
-get_set_past : (xs : List ℕ) (i v : ℕ) → slice_get xs i ≡ None → slice_set xs i v ≡ xs
-get_set_past [] i v h = refl
-get_set_past (x ∷ xs) zero v h = cc
-get_set_past (x ∷ xs) (suc i) v h = ap (λ (l : List ℕ). x ∷ l) (get_set_past xs i v h)
-
-index_of_get : (xs : List ℕ) (i x : ℕ) → slice_get xs i ≡ Some x → slice_index xs i ≡ x
-index_of_get [] i x h = cc
-index_of_get (y ∷ xs) zero x h = cc
-index_of_get (y ∷ xs) (suc i) x h = index_of_get xs i x h
-
 module _ (core : List ℕ) (a : ℕ) (m : Bool) (offset : ℕ) where
   abbrev marked : List ℕ
   marked = with_mark core (record { address = a; modified = m })
@@ -171,7 +157,7 @@ module _ (core : List ℕ) (a : ℕ) (m : Bool) (offset : ℕ) where
   frame_here None e = ap (λ (l : List ℕ). address_in_frame (ptw_at l a) offset) (get_set_past core a (marked_word m (slice_index core a)) e)
   frame_here (Some x) e =
       let at : slice_index core a ≡ x = index_of_get core a x e in
-      let new : slice_get marked a ≡ Some (marked_word m x) = get_set_same core a (marked_word m (slice_index core a)) x e ∙ ap (λ (n : ℕ). Some (marked_word m n)) at in
+      let new : slice_get marked a ≡ Some (marked_word m x) = set_same core a (marked_word m (slice_index core a)) x e ∙ ap (λ (n : ℕ). Some (marked_word m n)) at in
       ap (λ (o : Option ℕ). address_in_frame (option_map ptw_of o) offset) new ∙ frame_marked m x offset ∙ ap (λ (o : Option ℕ). address_in_frame (option_map ptw_of o) offset) (sym e)
 
   frame_at_by : (b : ℕ) (t : Bool) → (b == a) ≡ t → address_in_frame (ptw_at marked b) offset ≡ address_in_frame (ptw_at core b) offset

@@ -62,20 +62,20 @@ module _ (core : List ℕ) (dbr : DbrFields) (words tables : List ℕ) where
 
   -- A descriptor may be kept for this segment: it is the one that core has, and the words through
   -- which it is found are watched.
-  pub record IsDescriptor (seg : ℕ) (d : SdwFields) : Type 0 where
+  pub record IsKeptDescriptor (seg : ℕ) (d : SdwFields) : Type 0 where
     pub found : core_sdw core dbr seg ≡ Ok d
     pub watches : IsWatched seg
 
   -- A PTW may be kept for this address: it finds the words of its page as the one in core does (its
   -- marks may differ), and the address is watched.
-  pub record IsTableWord (a : ℕ) (p : PtwFields) : Type 0 where
+  pub record IsKeptTableWord (a : ℕ) (p : PtwFields) : Type 0 where
     pub inside : a < length core
     pub finds : (offset : ℕ) → address_in_frame (ptw_at core a) offset ≡ address_in_frame (Some p) offset
     pub watches : is_watched tables a ≡ true
 
   -- A page in front: the descriptor of its segment, where its words are in core, that its marks are
   -- set, and what it answers.
-  pub record IsPage (p : Page) (seg page : ℕ) : Type 0 where
+  pub record DescribesPage (p : Page) (seg page : ℕ) : Type 0 where
     pub sdw : SdwFields
     pub found : core_sdw core dbr seg ≡ Ok sdw
     pub watches : IsWatched seg
@@ -93,12 +93,12 @@ module _ (core : List ℕ) (dbr : DbrFields) (words tables : List ℕ) where
 
   -- a page in front by its key, which determines segment and page; key 0 is that of no page
   abbrev pub IsPageInFront : Page → Type 0
-  IsPageInFront p = (seg page : ℕ) → page < 256 → p.key ≡ page_key seg page → IsPage p seg page
+  IsPageInFront p = (seg page : ℕ) → page < 256 → p.key ≡ page_key seg page → DescribesPage p seg page
 
   -- the page that is fetched from: a page in front, in one ring
   pub record IsFetching (f : Fetching) : Type 0 where
     pub page : Page
-    pub is : IsPage page f.seg (f.first / 1024)
+    pub is : DescribesPage page f.seg (f.first / 1024)
     pub first : f.first % 1024 ≡ 0
     pub low : f.first < 2 ^ 18
     pub base : f.base ≡ page.base
@@ -112,10 +112,10 @@ module _ (core : List ℕ) (dbr : DbrFields) (words tables : List ℕ) where
 pub record AreCoherent (core : List ℕ) (dbr : DbrFields) (m : Memories) : Type 0 where
   pub descriptors :
       (e : SdwEntry) (seg : ℕ) → Contains m.sdws e → e.key ≡ seg + 1
-      → IsDescriptor core dbr m.words m.tables seg e.sdw
+      → IsKeptDescriptor core dbr m.words m.tables seg e.sdw
   pub table_words :
       (e : PtwEntry) (a : ℕ) → Contains m.ptws e → e.key ≡ a + 1
-      → IsTableWord core dbr m.words m.tables a e.ptw
+      → IsKeptTableWord core dbr m.words m.tables a e.ptw
   pub pages : (p : Page) → Contains m.pages p → IsPageInFront core dbr m.words m.tables p
   pub fetching : 0 < m.fetching.len → IsFetching core dbr m.words m.tables m.fetching
 

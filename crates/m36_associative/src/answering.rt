@@ -4,7 +4,7 @@
 //! then makes the reference by the tables, which also decide why it is refused, if it is.
 
 ghost use Rattle.std.specs.Prelude.{ℕ, ◌≡◌, ◌+◌, ◌/◌, ◌≤◌, ◌%◌, ◌<◌, ◌^◌, true, false, IfSome, IsTrue};
-ghost use Rattle.m36_associative.specs.Right.{AreCoherent, IsPage, Answers, MayRead, MayWrite, MayFetch, MayTransferTo};
+ghost use Rattle.m36_associative.specs.Right.{AreCoherent, DescribesPage, Answers, MayRead, MayWrite, MayFetch, MayTransferTo};
 
 use crate::front::{Page, key_of, slot_of};
 use crate::memories::Memories;
@@ -26,7 +26,7 @@ fn page_with<'a>(
     requires word { word < 2 ^ 18 }
     requires count { count ≤ 16 }
     requires right { AreCoherent _core.now _dbr memories.now }
-    ensures page { IfSome result (λ p. IsPage _core.now _dbr memories.now.words
+    ensures page { IfSome result (λ p. DescribesPage _core.now _dbr memories.now.words
         memories.now.tables p.now seg (word / 1024)) }
     ensures end { IfSome result (λ p. word % 1024 + count ≤ p.now.end) }
 {
@@ -140,7 +140,7 @@ pub fn place_to_change(
 
 /// Whether a ring may fetch from a page in front.
 #[inline(always)]
-fn fetches(page: &Page, ring: u8) -> bool
+fn may_fetch_from(page: &Page, ring: u8) -> bool
     ensures { IsTrue result → (page.now.r1 ≤ ring) × (ring < page.now.fetch_below) }
 {
     page.r1 <= ring && ring < page.fetch_below
@@ -216,7 +216,7 @@ pub fn place_to_fetch_elsewhere(
     ensures right { AreCoherent core.now dbr memories.new }
 {
     let page = *page_with(core, dbr, memories, seg, word, 1)?;
-    if !fetches(&page, ring) {
+    if !may_fetch_from(&page, ring) {
         return None;
     }
     let place = place_in(&page, word);
@@ -244,7 +244,7 @@ pub fn may_transfer_to(
         return true;
     }
     match page_with(core, dbr, memories, seg, word, 1) {
-        Some(page) => fetches(page, ring),
+        Some(page) => may_fetch_from(page, ring),
         None => false,
     }
 }

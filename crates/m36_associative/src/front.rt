@@ -1,6 +1,6 @@
 //! The pages in front.
 
-ghost use Rattle.std.specs.Prelude.{ℕ, Contains, ◌≡◌, ◌/◌, ◌<◌, ◌^◌};
+ghost use Rattle.std.specs.Prelude.{Contains, ◌≡◌, ◌/◌, ◌<◌, ◌^◌};
 ghost use Rattle.m36_associative.specs.Right.{page_key};
 ghost use Rattle.m36_associative.specs.declared.front.Page.{Page};
 

@@ -2,7 +2,7 @@
 
 ghost use Rattle.std.specs.Prelude.{ℕ, ◌≡◌, ◌+◌, ◌/◌, ◌<◌, ◌≤◌, ◌^◌, List, Contains};
 ghost use Rattle.m36_desc.specs.Fields.{DbrFields};
-ghost use Rattle.m36_associative.specs.Right.{AreCoherent, IsPage, IsPageInFront, IsDescriptor, IsTableWord};
+ghost use Rattle.m36_associative.specs.Right.{AreCoherent, DescribesPage, IsPageInFront, IsKeptDescriptor, IsKeptTableWord};
 ghost use Rattle.m36_associative.specs.declared.front.Page.{Page};
 
 use crate::front::{Fetching, PAGES, Page, no_fetching, no_page, no_pages, slot_of};
@@ -123,7 +123,7 @@ impl Memories {
         requires above { page.now.r1 ≤ ring }
         requires below { ring < page.now.fetch_below }
         ensures { (core : List ℕ) (dbr : DbrFields) → AreCoherent core dbr self.old
-            → IsPage core dbr self.old.words self.old.tables page.now seg (word / 1024)
+            → DescribesPage core dbr self.old.words self.old.tables page.now seg (word / 1024)
             → AreCoherent core dbr self.new }
     {
         self.uses.note_fetch(&self.fetching);
@@ -148,7 +148,7 @@ impl Memories {
             → AreCoherent core dbr self.new }
     {
         self.uses.note_fetch(&self.fetching);
-        self.uses.leave(i);
+        self.uses.remove_from_front(i);
         self.fetching = no_fetching();
         self.pages[i] = page;
     }
@@ -163,7 +163,7 @@ impl Memories {
     }
 
     /// Removes a page from the front.
-    fn leave(&mut self, i: usize)
+    fn remove_from_front(&mut self, i: usize)
         requires { i < 16 }
         ensures { (core : List ℕ) (dbr : DbrFields) → AreCoherent core dbr self.old
             → AreCoherent core dbr self.new }
@@ -184,7 +184,7 @@ impl Memories {
             }
             let i = left.trailing_zeros() as usize % PAGES;
             left &= left - 1;
-            self.leave(i);
+            self.remove_from_front(i);
         }
     }
 
@@ -219,7 +219,7 @@ impl Memories {
     pub(crate) fn put_sdw(&mut self, e: usize, seg: u16, sdw: &Sdw)
         requires { e < 16 }
         ensures { (core : List ℕ) (dbr : DbrFields) → AreCoherent core dbr self.old
-            → IsDescriptor core dbr self.old.words self.old.tables seg sdw.now
+            → IsKeptDescriptor core dbr self.old.words self.old.tables seg sdw.now
             → AreCoherent core dbr self.new }
     {
         self.sdws[e] = SdwEntry {
@@ -234,7 +234,7 @@ impl Memories {
         requires place { e < 16 }
         requires address { a < 2 ^ 24 }
         ensures { (core : List ℕ) (dbr : DbrFields) → AreCoherent core dbr self.old
-            → IsTableWord core dbr self.old.words self.old.tables a ptw.now
+            → IsKeptTableWord core dbr self.old.words self.old.tables a ptw.now
             → AreCoherent core dbr self.new }
     {
         self.ptws[e] = PtwEntry {

@@ -20,9 +20,9 @@ fn end_of(size: u32, sdw: &Sdw, page: u32, base: u32) -> u16
     ensures bound { (w : ℕ) → w / 1024 ≡ page → w % 1024 < result → is_within_bound sdw.now w ≡ true }
 {
     let bound = 16 * (sdw.bound as u32 + 1);
-    let is_within_bound = bound.saturating_sub(1024 * page);
+    let within = bound.saturating_sub(1024 * page);
     let inside = size.saturating_sub(base);
-    is_within_bound.min(inside).min(1024) as u16
+    within.min(inside).min(1024) as u16
 }
 
 /// The ring below which rings may read, whatever segment executes; 0 if none may.

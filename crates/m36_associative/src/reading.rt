@@ -1,10 +1,9 @@
 //! Lookups: in the memories first, and in core only if nothing is kept.
 
-ghost use Rattle.std.specs.Prelude.{ℕ, ◌≡◌, ◌+◌, ◌/◌, ◌%◌, ◌<◌, ◌^◌, List, Some, Ok, true, false, IfOk, IfSome, OnOk, OnSome, IsTrue, length};
-ghost use Rattle.m36_desc.specs.Fields.{DbrFields};
-ghost use Rattle.m36_model.specs.Place.{wrapped_address, address_in_frame, ptw_at, directory_at, page_at, sdw_place, core_sdw, word_place, marks_by, with_marks};
+ghost use Rattle.std.specs.Prelude.{ℕ, ◌≡◌, ◌+◌, ◌/◌, ◌%◌, ◌<◌, ◌^◌, Some, Ok, true, false, IfOk, IfSome, OnOk, OnSome, IsTrue, length};
+ghost use Rattle.m36_model.specs.Place.{wrapped_address, address_in_frame, ptw_at, directory_at, page_at, sdw_place, core_sdw, word_place};
 ghost use Rattle.m36_tables.specs.Tables.{TableWordIsInCore};
-ghost use Rattle.m36_associative.specs.Right.{AreCoherent, IsWatched, IsDescriptor, IsTableWord, IsPage, IsMarked, page_key};
+ghost use Rattle.m36_associative.specs.Right.{AreCoherent, IsWatched, IsKeptDescriptor, IsKeptTableWord, DescribesPage, IsMarked, page_key};
 ghost use Rattle.m36_associative.specs.Watched.{is_watched};
 
 use crate::front::{Page, slot_of};
@@ -23,7 +22,7 @@ use m36_tables::{address_in_frame, directory_at, page_at, page_table_word, wrapp
 fn sdw_of_entry(_core: &Core, _dbr: Dbr, memories: &Memories, e: usize, seg: u16) -> Option<Sdw>
     requires entry { e < 16 }
     requires right { AreCoherent _core.now _dbr memories.now }
-    ensures { IfSome result (λ d. IsDescriptor _core.now _dbr memories.now.words
+    ensures { IfSome result (λ d. IsKeptDescriptor _core.now _dbr memories.now.words
         memories.now.tables seg d) }
 {
     let kept = &memories.sdws[e];
@@ -37,7 +36,7 @@ fn sdw_of_entry(_core: &Core, _dbr: Dbr, memories: &Memories, e: usize, seg: u16
 fn kept_sdw(core: &Core, dbr: Dbr, memories: &Memories, seg: u16) -> Option<(usize, Sdw)>
     requires { AreCoherent core.now dbr memories.now }
     ensures entry { IfSome result (λ r. r.0 < 16) }
-    ensures kept { IfSome result (λ r. IsDescriptor core.now dbr memories.now.words
+    ensures kept { IfSome result (λ r. IsKeptDescriptor core.now dbr memories.now.words
         memories.now.tables seg r.1) }
 {
     let last = memories.uses.sdws.last as usize % ENTRIES;
@@ -58,7 +57,7 @@ fn ptw_of_entry(_core: &Core, _dbr: Dbr, memories: &Memories, e: usize, a: u32) 
     requires entry { e < 16 }
     requires address { a < 2 ^ 24 }
     requires right { AreCoherent _core.now _dbr memories.now }
-    ensures { IfSome result (λ p. IsTableWord _core.now _dbr memories.now.words
+    ensures { IfSome result (λ p. IsKeptTableWord _core.now _dbr memories.now.words
         memories.now.tables a p) }
 {
     let kept = &memories.ptws[e];
@@ -74,7 +73,7 @@ fn kept_ptw(core: &Core, dbr: Dbr, memories: &Memories, a: u32) -> Option<(usize
     requires address { a < 2 ^ 24 }
     requires right { AreCoherent core.now dbr memories.now }
     ensures entry { IfSome result (λ r. r.0 < 16) }
-    ensures kept { IfSome result (λ r. IsTableWord core.now dbr memories.now.words
+    ensures kept { IfSome result (λ r. IsKeptTableWord core.now dbr memories.now.words
         memories.now.tables a r.1) }
 {
     let last = memories.uses.ptws.last as usize % ENTRIES;
@@ -297,7 +296,7 @@ fn found_page(
     requires seg { seg < 2 ^ 15 }
     requires word { word < 2 ^ 18 }
     requires right { AreCoherent core.now dbr memories.now }
-    ensures page { IfSome result (λ r. IsPage core.now dbr memories.now.words memories.now.tables
+    ensures page { IfSome result (λ r. DescribesPage core.now dbr memories.now.words memories.now.tables
         r.0 seg (word / 1024)) }
     ensures key { IfSome result (λ r. r.0.key ≡ page_key seg (word / 1024)) }
 {

@@ -39,7 +39,7 @@ pub(crate) struct Uses {
 }
 
 /// The index of the least of these times.
-fn least(times: &[u64; 16]) -> usize
+fn index_of_least(times: &[u64; 16]) -> usize
     ensures { result < 16 }
 {
     let mut at = 0;
@@ -74,7 +74,7 @@ impl Entries {
 
     /// Records that the page at place `i` leaves the front: it no longer belongs to its entry. The
     /// entry gets the time of the page's last use if that is later than its own.
-    fn leave(&mut self, i: usize, time: u64)
+    fn remove_from_front(&mut self, i: usize, time: u64)
         requires { i < 16 }
     {
         let e = self.of[i] as usize;
@@ -123,12 +123,12 @@ impl Entries {
         ensures { result < 16 }
     {
         for _ in 0..ENTRIES {
-            let e = least(&self.times);
+            let e = index_of_least(&self.times);
             if !self.update_entry_time(e, pages) {
                 return e;
             }
         }
-        least(&self.times)
+        index_of_least(&self.times)
     }
 }
 
@@ -225,19 +225,19 @@ impl Uses {
     }
 
     /// Records that the page at place `i` leaves the front, and passes its time on to its entries.
-    pub(crate) fn leave(&mut self, i: usize)
+    pub(crate) fn remove_from_front(&mut self, i: usize)
         requires { i < 16 }
     {
         let time = self.pages[i];
         self.pages[i] = 0;
-        self.sdws.leave(i, time);
-        self.ptws.leave(i, time);
+        self.sdws.remove_from_front(i, time);
+        self.ptws.remove_from_front(i, time);
     }
 
     /// Records that all pages leave the front.
     pub(crate) fn remove_all_from_front(&mut self) {
         for i in 0..PAGES {
-            self.leave(i);
+            self.remove_from_front(i);
         }
     }
 

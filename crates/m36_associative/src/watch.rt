@@ -68,13 +68,13 @@ impl Watch {
         if self.high < a {
             return false;
         }
-        self.listed(a)
+        self.is_listed(a)
     }
 
     /// As `has`, by a search of the list.
     #[inline(never)]
     #[tactic(auto, unfolding(crate::specs::Watched::is_watched))]
-    fn listed(&self, a: u32) -> bool
+    fn is_listed(&self, a: u32) -> bool
         ensures { result ≡ is_watched self.now a }
     {
         self.places.as_slice().contains(&a)

@@ -1,6 +1,6 @@
 //! Writes to core. If something that is kept depends on the word, everything is emptied.
 
-ghost use Rattle.std.specs.Prelude.{ℕ, ◌≡◌, ◌<◌, List, Bool, true, false, IsFalse, length, slice_set};
+ghost use Rattle.std.specs.Prelude.{ℕ, ◌≡◌, ◌<◌, Bool, true, false, IsFalse, length, slice_set};
 ghost use Rattle.m36_model.specs.Place.{marked_word, with_mark};
 ghost use Rattle.m36_associative.specs.Right.{AreCoherent};
 ghost use Rattle.m36_associative.specs.Watched.{is_watched};

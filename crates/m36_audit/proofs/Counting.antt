@@ -3,7 +3,7 @@ use Rattle.std.proofs.Common.{◌≡◌, ◌≢◌, ℕ, zero, suc, ◌+◌, ◌
 use Rattle.std.specs.Prelude.{◌⊎◌, Bool, true, false}
 use Rattle.std.proofs.lemmas.Bool.{cases_eq}
 use Rattle.m36_word.specs.Bits.{of_bit}
-use Rattle.m36_desc.proofs.RoundTrips.{bit_small}
+use Rattle.m36_word.proofs.BitLaws.{bit_small}
 use Rattle.m36_audit.specs.Runs.{count_below}
 
 pub count_most : (test : ℕ → Bool) (n : ℕ) → count_below test n ≤ n

@@ -1,13 +1,13 @@
 -- The findings of processes in order, and what is recorded for core words after one more process.
 use Rattle.std.proofs.Common.{◌≡◌, ℕ, zero, suc, ◌+◌, ◌≤◌, ◌<◌, length, refl, sym, ◌∙◌, ap, subst, inl, inr, arith, get_or}
-use Rattle.std.specs.Prelude.{◌⊎◌, List, [], ◌∷◌, ◌++◌, ◌↔◌, drop, slice_get, slice_index, replicate, Option, Some, None}
+use Rattle.std.specs.Prelude.{◌⊎◌, List, [], ◌∷◌, ◌++◌, ◌↔◌, drop, slice_get, slice_index, replicate, Some, None}
 use Rattle.std.proofs.lemmas.Bool.{cases_lt}
 use Rattle.std.proofs.lemmas.List.{append_assoc, append-nil, length-replicate}
 use Rattle.std.proofs.Math.ListN.{drop_of_length-le}
 use Rattle.std.proofs.lemmas.Option.{slice_get_cases}
 use Rattle.m36_desc.specs.Fields.{DbrFields}
 use Rattle.m36_model.specs.Audit.{AreFindings}
-use Rattle.m36_model.specs.JointAudit.{JointFindingFields, findings_of_process, between, AreFindingsFrom, AreJointFindings, IsJointlyAudited}
+use Rattle.m36_model.specs.JointAudit.{JointFindingFields, findings_of_process, AreFindingsFrom, AreJointFindings, IsJointlyAudited}
 use Rattle.m36_isol.specs.Findings.{JointFindingsLaw}
 use Rattle.m36_audit.specs.declared.joint_verdict.JointFinding.{JointFinding}
 use Rattle.m36_audit.specs.RecordedNumbers.{AreRecorded}
@@ -27,14 +27,14 @@ found_none core dbrs findings e =
 
 -- the findings of one more process
 pub found_next : (core : List ℕ) (dbrs : List DbrFields) (n : ℕ) (dbr : DbrFields) (findings after : List JointFinding) (own : List (ℕ × ℕ)) → slice_get dbrs n ≡ Some dbr → AreFindings core dbr own → all_found after ≡ all_found findings ++ findings_of_process n own → AreFindingsOfFirst core dbrs n findings → AreFindingsOfFirst core dbrs (n + 1) after
-found_next core dbrs n dbr findings after own process findings_from_marks listed before =
+found_next core dbrs n dbr findings after own process found listed before =
     record { whole = whole }
   where
     whole : (rest : List JointFindingFields) → AreFindingsFrom (n + 1) core (drop (n + 1) dbrs) rest → AreFindingsFrom 0 core dbrs (all_found after ++ rest)
     whole rest f =
         let next : n + 1 ≡ suc n = omega arith in
         let there : drop n dbrs ≡ dbr ∷ drop (n + 1) dbrs = drop_at dbrs n dbr process ∙ ap (λ (m : ℕ). dbr ∷ drop m dbrs) (sym next) in
-        let here : AreFindingsFrom n core (dbr ∷ drop (n + 1) dbrs) (findings_of_process n own ++ rest) = (own, findings_from_marks, (rest, f, refl)) in
+        let here : AreFindingsFrom n core (dbr ∷ drop (n + 1) dbrs) (findings_of_process n own ++ rest) = (own, found, (rest, f, refl)) in
         let all = before.whole (findings_of_process n own ++ rest) (subst (λ (l : List DbrFields). AreFindingsFrom n core l (findings_of_process n own ++ rest)) (sym there) here) in
         let same : all_found findings ++ (findings_of_process n own ++ rest) ≡ all_found after ++ rest = sym (append_assoc (all_found findings) (findings_of_process n own) rest) ∙ ap (λ (l : List JointFindingFields). l ++ rest) (sym listed) in
         subst (AreFindingsFrom 0 core dbrs) same all
@@ -56,10 +56,6 @@ nothing_joint law core dbrs findings f = (
   λ none. law.sound core dbrs (subst (λ (l : List JointFindingFields). AreJointFindings core dbrs l) (ap all_found none) f),
   λ audited. no_findings findings (law.complete core dbrs (all_found findings) audited f),
 )
-
--- two more findings after those of the processes
-pub joined_findings : (core : List ℕ) (dbrs : List DbrFields) (own second_noted third_noted : List JointFinding) (second third : Option ℕ) → all_found second_noted ≡ all_found own ++ between 2 second → all_found third_noted ≡ all_found second_noted ++ between 3 third → all_found third_noted ≡ all_found own ++ between 2 second ++ between 3 third
-joined_findings core dbrs own second_noted third_noted second third e f = f ∙ ap (λ (l : List JointFindingFields). l ++ between 3 third) e
 
 none_told : (Has : ℕ → ℕ → ℕ → Type 0) (size : ℕ) (values : List ℕ) → values ≡ replicate size 0 → AreRecorded (IsOfProcessBelow Has 0) size values
 none_told Has size values e =
@@ -88,10 +84,10 @@ pub zeros_len : (size : ℕ) (values : List ℕ) (n : ℕ) → values ≡ replic
 zeros_len size values n e f = ap length e ∙ length-replicate {A = ℕ} size 0 ∙ f
 
 pub found_step : (core : List ℕ) (dbrs : List DbrFields) (n : ℕ) (findings after : List JointFinding) (own : List (ℕ × ℕ)) → n < length dbrs → ((dbr : DbrFields) → slice_get dbrs n ≡ Some dbr → AreFindings core dbr own) → all_found after ≡ all_found findings ++ findings_of_process n own → AreFindingsOfFirst core dbrs n findings → AreFindingsOfFirst core dbrs (n + 1) after
-found_step core dbrs n findings after own lt findings_from_marks listed before = at (slice_get_cases dbrs n).1
+found_step core dbrs n findings after own lt found listed before = at (slice_get_cases dbrs n).1
   where
     at : ((x : DbrFields) × (n < length dbrs) × (slice_get dbrs n ≡ Some x) × (get_or dbrs n x ≡ x)) ⊎ ((length dbrs ≤ n) × (slice_get dbrs n ≡ None)) → AreFindingsOfFirst core dbrs (n + 1) after
-    at (inl h) = found_next core dbrs n h.0 findings after own h.2 (findings_from_marks h.0 h.2) listed before
+    at (inl h) = found_next core dbrs n h.0 findings after own h.2 (found h.0 h.2) listed before
     at (inr h) = let past = h.0 in absurd (omega arith)
 
 pub one_dbr : (dbrs : List DbrFields) (k : ℕ) (dbr other : DbrFields) → slice_get dbrs k ≡ Some dbr → slice_get dbrs k ≡ Some other → dbr ≡ other

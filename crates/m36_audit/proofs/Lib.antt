@@ -3,7 +3,6 @@ pub mod Bounds
 pub mod Segments
 pub mod Marking
 pub mod TableWords
-pub mod ZerosAfter
 pub mod Counting
 pub mod Covering
 pub mod RunWords

@@ -7,12 +7,12 @@ use Rattle.m36_model.specs.Audit.{Table, Sdws, Directory, Pages, IsInTwo, Finds}
 use Rattle.m36_audit.specs.TableMarks.{table_number, tables_by, tables_marked, lesser, least_by, least_marked, HasTableNumber, AreMarked}
 
 -- equivalent conditions have the same finding
-pub finds_same : (A B : ℕ → Type 0) (findings_from_marks : Option ℕ) → ((a : ℕ) → A a → B a) → ((a : ℕ) → B a → A a) → Finds A findings_from_marks → Finds B findings_from_marks
+pub finds_same : (A B : ℕ → Type 0) (found : Option ℕ) → ((a : ℕ) → A a → B a) → ((a : ℕ) → B a → A a) → Finds A found → Finds B found
 finds_same A B None there back f = λ p h. f p (back p h)
 finds_same A B (Some p) there back f = (there p f.0, λ q h. f.1 q (back q h))
 
 -- a condition with one more place that breaks it
-also_by : (A B : ℕ → Type 0) (findings_from_marks : Option ℕ) (p : ℕ) → ((a : ℕ) → A a → B a) → ((a : ℕ) → B a → A a ⊎ (a ≡ p)) → B p → Finds A findings_from_marks → Finds B (lesser findings_from_marks p)
+also_by : (A B : ℕ → Type 0) (found : Option ℕ) (p : ℕ) → ((a : ℕ) → A a → B a) → ((a : ℕ) → B a → A a ⊎ (a ≡ p)) → B p → Finds A found → Finds B (lesser found p)
 also_by A B None p there back here f =
     (here, λ q h. at q (back q h))
   where
@@ -128,8 +128,8 @@ module _ (V W : Table → ℕ → Type 0) (t0 : Table) (a0 : ℕ) (old : (t : Ta
     taken_none a inside e t w =
         m.none a inside e t (was t a (λ same. taken (ap (λ (n : ℕ). slice_index tables n) (sym same) ∙ e)) w)
 
-    taken_marked : (findings_from_marks : Option ℕ) → Finds (IsInTwo W size) findings_from_marks → AreMarked W size tables findings_from_marks
-    taken_marked findings_from_marks f =
+    taken_marked : (found : Option ℕ) → Finds (IsInTwo W size) found → AreMarked W size tables found
+    taken_marked found f =
         record { len = m.len; none = taken_none; some = λ a some. still_has a _ (m.some a some); least_two = f }
 
     -- by the same table

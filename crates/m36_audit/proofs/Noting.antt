@@ -62,10 +62,10 @@ module _ (core : List ℕ) (dbrs : List DbrFields) (few : length dbrs ≤ 8) whe
 
     module _ (x : ℕ) (here : KeyAt core dbrs n x) where
       found_noted : (f : ℕ) → places x ≡ Some f → ((q : ℕ) → new q ≡ places q) → after ≡ slice_set firsts n f → AreDescriptorsRecorded core dbrs (n + 1) new after
-      found_noted f findings_from_marks kept put =
+      found_noted f found kept put =
           record {
             len = ap length put ∙ length-set firsts n f ∙ s.len;
-            below = λ i. let lt = s.earlier x f findings_from_marks in subst (λ (l : List ℕ). slice_index l i < 2 ^ 18) (sym put) (put_below f (omega arith) i);
+            below = λ i. let lt = s.earlier x f found in subst (λ (l : List ℕ). slice_index l i < 2 ^ 18) (sym put) (put_below f (omega arith) i);
             listed = λ i key lt h. at i key h (put_at f i (last i lt) after put);
             known = λ key g h. s.known key g (sym (kept key) ∙ h);
             earlier = λ key g h. let lt = s.earlier key g (sym (kept key) ∙ h) in omega arith;
@@ -76,7 +76,7 @@ module _ (core : List ℕ) (dbrs : List DbrFields) (few : length dbrs ≤ 8) whe
           at i key h (inl k) = kept key ∙ s.listed i key k.0 h ∙ ap (λ (m : ℕ). Some m) (sym k.1)
           at i key h (inr k) =
               let same : key ≡ x = keys_same core dbrs n key x (subst (λ (m : ℕ). KeyAt core dbrs m key) k.0 h) here in
-              kept key ∙ ap places same ∙ findings_from_marks ∙ ap (λ (m : ℕ). Some m) (sym k.1)
+              kept key ∙ ap places same ∙ found ∙ ap (λ (m : ℕ). Some m) (sym k.1)
 
       new_noted : places x ≡ None → ((q : ℕ) → new q ≡ cond (x == q) (Some n) (places q)) → after ≡ slice_set firsts n n → AreDescriptorsRecorded core dbrs (n + 1) new after
       new_noted absent kept put =
@@ -150,7 +150,7 @@ module _ (core : List ℕ) (dbrs : List DbrFields) (few : length dbrs ≤ 8) whe
         let e : i ≡ 2 ^ 15 * k + (i - 2 ^ 15 * k) = omega arith in
         let small : i - 2 ^ 15 * k < 2 ^ 15 = omega arith in
         let mine = key_taken (i - 2 ^ 15 * k) key small (subst (λ (j : ℕ). KeyAt core dbrs j key) e h) in
-        let lt = ltb-true (i - 2 ^ 15 * k) n (sym (bounds (i - 2 ^ 15 * k)) ∙ sdw_place_in_bounds core dbr (i - 2 ^ 15 * k) mine.at mine.findings_from_marks) in
+        let lt = ltb-true (i - 2 ^ 15 * k) n (sym (bounds (i - 2 ^ 15 * k)) ∙ sdw_place_in_bounds core dbr (i - 2 ^ 15 * k) mine.at mine.found) in
         omega arith
 
   pub nothing_noted : (places : ℕ → Option ℕ) (firsts : List ℕ) → ((q : ℕ) → places q ≡ None) → firsts ≡ replicate (2 ^ 15 * length dbrs) 0 → AreDescriptorsRecorded core dbrs 0 places firsts

@@ -103,11 +103,6 @@ owned_far : (b : Bool) (values : List ℕ) (a q table_number : ℕ) → q ≢ a 
 owned_far true values a q table_number far = get_or-set_other values a q (with_number (slice_index values a) table_number) 0 far
 owned_far false values a q table_number far = refl
 
--- no word is recorded yet
-pub owned_none : (test : ℕ → Bool) (table_number : ℕ) (old : List ℕ) → AreOwned test table_number 0 old old
-owned_none test table_number old =
-    record { len = refl; before = λ q lt. absurd (omega arith); after = λ q le. refl }
-
 -- one more word
 pub owned_next : (test : ℕ → Bool) (table_number a : ℕ) (b : Bool) (old now after : List ℕ) → b ≡ test a → a < length old → after ≡ with_owner_at b now a table_number → AreOwned test table_number a old now → AreOwned test table_number (a + 1) old after
 owned_next test table_number a b old now after e inside f o =

@@ -19,7 +19,7 @@ key_words : (core : List ℕ) (dbr : DbrFields) (seg at : ℕ) (d : SdwFields) (
 key_words core dbr seg at d None odd place e f h = cc
 key_words core dbr seg at d (Some even) None place e f h = cc
 key_words core dbr seg at d (Some even) (Some odd) place e f h =
-    record { key = even * 2 ^ 36 + odd; is = record { at = at; findings_from_marks = place; even = even; odd = odd; even_is = e; odd_is = f; key_is = refl } }
+    record { key = even * 2 ^ 36 + odd; is = record { at = at; found = place; even = even; odd = odd; even_is = e; odd_is = f; key_is = refl } }
 
 key_by : (core : List ℕ) (dbr : DbrFields) (seg : ℕ) (d : SdwFields) (v : Result ℕ Refusal) → sdw_place core dbr seg ≡ v → sdw_at core v ≡ Ok d → HasKey core dbr seg
 key_by core dbr seg d (Err r) place h = cc
@@ -33,7 +33,7 @@ live_key core dbr seg d h = key_by core dbr seg d (sdw_place core dbr seg) refl 
 -- the descriptor of a segment is that of its two words
 pub key_sdw : (core : List ℕ) (dbr : DbrFields) (seg key : ℕ) → (h : IsDescriptorKey core dbr seg key) → core_sdw core dbr seg ≡ sdw_words (Some h.even) (Some h.odd)
 unfolding core_sdw
-key_sdw core dbr seg key h = ap (sdw_at core) h.findings_from_marks ∙ (λ i. sdw_words (h.even_is i) (h.odd_is i))
+key_sdw core dbr seg key h = ap (sdw_at core) h.found ∙ (λ i. sdw_words (h.even_is i) (h.odd_is i))
 
 same_at : (core : List ℕ) (dbr : DbrFields) (seg x y : ℕ) → sdw_place core dbr seg ≡ Ok x → sdw_place core dbr seg ≡ Ok y → x ≡ y
 same_at core dbr seg x y h k = cc
@@ -43,22 +43,22 @@ pub key_refused : (core : List ℕ) (dbr : DbrFields) (seg : ℕ) (why : Refusal
 key_refused core dbr seg why refused key h = cc
 
 pub key_cut : (core : List ℕ) (dbr : DbrFields) (seg at : ℕ) → Ok at ≡ sdw_place core dbr seg → length core ≤ at → (key : ℕ) → IsDescriptorKey core dbr seg key → ⊥
-key_cut core dbr seg at findings_from_marks past key h =
-    let same : at ≡ h.at = same_at core dbr seg at h.at (sym findings_from_marks) h.findings_from_marks in
+key_cut core dbr seg at found past key h =
+    let same : at ≡ h.at = same_at core dbr seg at h.at (sym found) h.found in
     let within : h.at < length core = slice_get_within core h.at h.even h.even_is in
     omega arith
 
 pub key_halved : (core : List ℕ) (dbr : DbrFields) (seg at : ℕ) → Ok at ≡ sdw_place core dbr seg → length core ≤ wrapped_address (at + 1) → (key : ℕ) → IsDescriptorKey core dbr seg key → ⊥
-key_halved core dbr seg at findings_from_marks past key h =
-    let same : at ≡ h.at = same_at core dbr seg at h.at (sym findings_from_marks) h.findings_from_marks in
+key_halved core dbr seg at found past key h =
+    let same : at ≡ h.at = same_at core dbr seg at h.at (sym found) h.found in
     let within : wrapped_address (at + 1) < length core = slice_get_within core (wrapped_address (at + 1)) h.odd (ap (λ a. slice_get core (wrapped_address (a + 1))) same ∙ h.odd_is) in
     omega arith
 
 -- the key of a descriptor that is in core, and its odd word
 pub key_there : (core : List ℕ) (dbr : DbrFields) (seg at next even odd : ℕ) → Ok at ≡ sdw_place core dbr seg → next ≡ wrapped_address (at + 1) → at < length core → next < length core → even ≡ slice_index core at → odd ≡ slice_index core next → IsDescriptorKey core dbr seg (even * 2 ^ 36 + odd)
-key_there core dbr seg at next even odd findings_from_marks is there there_too e o = record {
+key_there core dbr seg at next even odd found is there there_too e o = record {
   at = at;
-  findings_from_marks = sym findings_from_marks;
+  found = sym found;
   even = even;
   odd = odd;
   even_is = slice_get-get_or core at 0 there ∙ ap (λ (n : ℕ). Some n) (sym e);
@@ -67,8 +67,8 @@ key_there core dbr seg at next even odd findings_from_marks is there there_too e
 }
 
 pub key_odd : (core : List ℕ) (dbr : DbrFields) (seg at next odd : ℕ) → Ok at ≡ sdw_place core dbr seg → next ≡ wrapped_address (at + 1) → next < length core → odd ≡ slice_index core next → odd < 2 ^ 36 → (key : ℕ) → (h : IsDescriptorKey core dbr seg key) → h.odd < 2 ^ 36
-key_odd core dbr seg at next odd findings_from_marks is there o small key h =
-    let same : at ≡ h.at = same_at core dbr seg at h.at (sym findings_from_marks) h.findings_from_marks in
+key_odd core dbr seg at next odd found is there o small key h =
+    let same : at ≡ h.at = same_at core dbr seg at h.at (sym found) h.found in
     let read : slice_get core next ≡ Some odd = slice_get-get_or core next 0 there ∙ ap (λ (n : ℕ). Some n) (sym o) in
     let other : slice_get core next ≡ Some h.odd = ap (slice_get core) (is ∙ ap (λ a. wrapped_address (a + 1)) same) ∙ h.odd_is in
     let equal : odd ≡ h.odd = cc in
@@ -84,8 +84,8 @@ pub record SameWords (even odd other_even other_odd : ℕ) : Type 0 where
 -- equal words, as the definition has it
 pub words_same : (core : List ℕ) (dbr other : DbrFields) (seg other_seg x y : ℕ) → AreSame core dbr other seg other_seg → (h : IsDescriptorKey core dbr seg x) → (k : IsDescriptorKey core other other_seg y) → SameWords h.even h.odd k.even k.odd
 words_same core dbr other seg other_seg x y s h k =
-    let at : h.at ≡ s.at = same_at core dbr seg h.at s.at h.findings_from_marks s.findings_from_marks in
-    let other_at : k.at ≡ s.other_at = same_at core other other_seg k.at s.other_at k.findings_from_marks s.other_found in
+    let at : h.at ≡ s.at = same_at core dbr seg h.at s.at h.found s.found in
+    let other_at : k.at ≡ s.other_at = same_at core other other_seg k.at s.other_at k.found s.other_found in
     let even : slice_get core s.at ≡ Some h.even = ap (slice_get core) (sym at) ∙ h.even_is in
     let other_even : slice_get core s.other_at ≡ Some k.even = ap (slice_get core) (sym other_at) ∙ k.even_is in
     let odd : slice_get core (wrapped_address (s.at + 1)) ≡ Some h.odd = ap (λ (n : ℕ). slice_get core (wrapped_address (n + 1))) (sym at) ∙ h.odd_is in
@@ -94,7 +94,7 @@ words_same core dbr other seg other_seg x y s h k =
 
 pub key_same : (core : List ℕ) (dbr : DbrFields) (seg x y : ℕ) → IsDescriptorKey core dbr seg x → IsDescriptorKey core dbr seg y → x ≡ y
 key_same core dbr seg x y h k =
-    let at : h.at ≡ k.at = same_at core dbr seg h.at k.at h.findings_from_marks k.findings_from_marks in
+    let at : h.at ≡ k.at = same_at core dbr seg h.at k.at h.found k.found in
     let there : slice_get core k.at ≡ Some h.even = ap (slice_get core) (sym at) ∙ h.even_is in
     let behind : slice_get core (wrapped_address (k.at + 1)) ≡ Some h.odd = ap (λ (n : ℕ). slice_get core (wrapped_address (n + 1))) (sym at) ∙ h.odd_is in
     let even : h.even ≡ k.even = same_some h.even k.even _ _ there k.even_is refl in
@@ -128,8 +128,8 @@ numbered_odd core dbrs k seg key dbr process small h j =
     let rest : (2 ^ 15 * k + seg) % 2 ^ 15 ≡ seg = omega arith in
     let at : slice_get dbrs k ≡ Some j.dbr = ap (slice_get dbrs) (sym quotient) ∙ j.process in
     let one : j.dbr ≡ dbr = cc in
-    let place : sdw_place core dbr seg ≡ Ok j.is.at = (λ i. sdw_place core (sym one i) (sym rest i)) ∙ j.is.findings_from_marks in
-    let same : j.is.at ≡ h.at = same_at core dbr seg j.is.at h.at place h.findings_from_marks in
+    let place : sdw_place core dbr seg ≡ Ok j.is.at = (λ i. sdw_place core (sym one i) (sym rest i)) ∙ j.is.found in
+    let same : j.is.at ≡ h.at = same_at core dbr seg j.is.at h.at place h.found in
     same_some j.is.odd h.odd _ _ j.is.odd_is h.odd_is (ap (λ (n : ℕ). slice_get core (wrapped_address (n + 1))) same)
 
 -- a live segment of a process
@@ -188,8 +188,8 @@ module _ (core : List ℕ) (dbrs : List DbrFields) (firsts : List ℕ) (equal_de
         record {
           at = live_descriptor.is.at;
           other_at = other_live.is.at;
-          findings_from_marks = live_descriptor.is.findings_from_marks;
-          other_found = other_live.is.findings_from_marks;
+          found = live_descriptor.is.found;
+          other_found = other_live.is.found;
           even = live_descriptor.is.even_is ∙ ap (λ (n : ℕ). Some n) w.evens ∙ sym other_live.is.even_is;
           odd = live_descriptor.is.odd_is ∙ ap (λ (n : ℕ). Some n) w.odds ∙ sym other_live.is.odd_is;
         }

@@ -120,7 +120,7 @@ unfolding core_spot
 word_parts core dbr seg w a h =
     let k = place_parts core_store core dbr seg w (Core_word a) h in
     let tests = and_parts (has_ordered_brackets k.sdw) (is_within_bound k.sdw w) k.inside in
-    let parts = inside_parts core (word_place_by k.sdw.unpaged k.sdw w (ptw_at core (page_at k.sdw (w / 1024)))) a k.findings_from_marks in
+    let parts = inside_parts core (word_place_by k.sdw.unpaged k.sdw w (ptw_at core (page_at k.sdw (w / 1024)))) a k.found in
     record { sdw = k.sdw; live_descriptor = k.live_descriptor; order = tests.0; bound = leb-true (w / 16) k.sdw.bound tests.1; lies = parts.lies; inside = parts.inside }
 
 pub word_is : (core : List ℕ) (dbr : DbrFields) (seg w a : ℕ) → Word core dbr seg w a → IsSegmentWord core dbr seg w a
@@ -130,7 +130,7 @@ word_is core dbr seg w a k =
       sdw = k.sdw;
       live_descriptor = k.live_descriptor;
       inside = and_from (has_ordered_brackets k.sdw) (is_within_bound k.sdw w) k.order (le-leb (w / 16) k.sdw.bound k.bound);
-      findings_from_marks = inside_is core (word_place_by k.sdw.unpaged k.sdw w (ptw_at core (page_at k.sdw (w / 1024)))) a k.lies k.inside;
+      found = inside_is core (word_place_by k.sdw.unpaged k.sdw w (ptw_at core (page_at k.sdw (w / 1024)))) a k.lies k.inside;
     })
 
 -- the number of the run that covers a word of a segment

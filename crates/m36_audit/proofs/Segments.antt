@@ -1,15 +1,14 @@
 -- The conditions about segments, from tests of their descriptors.
-use Rattle.std.proofs.Common.{◌≡◌, ℕ, ◌+◌, ◌*◌, ◌<◌, ◌≤◌, refl, sym, ◌∙◌, ap, inl, inr, arith}
-use Rattle.std.specs.Prelude.{◌⊎◌, Bool, true, false, not, ◌&&◌, nat_lt, List, Option, Some, None, Result, Ok, Err}
+use Rattle.std.proofs.Common.{◌≡◌, ℕ, ◌+◌, ◌*◌, ◌<◌, ◌≤◌, sym, ◌∙◌, ap, inl, inr, arith}
+use Rattle.std.specs.Prelude.{◌⊎◌, Bool, true, false, not, ◌&&◌, nat_lt, List, Option, Some, None, Result, Ok}
 use Rattle.std.specs.Bool.{Decides}
 use Rattle.std.proofs.lemmas.Bool.{ltb-true, lt-ltb, cases_lt, not-true, not_from_false, and_parts, and_from}
 use Rattle.m36_desc.specs.Fields.{SdwFields, DbrFields}
 use Rattle.m36_desc.specs.Access.{has_ordered_brackets}
 use Rattle.m36_model.specs.Place.{has_descriptor_in_bounds, core_sdw}
-use Rattle.m36_model.specs.Audit.{Finds, IsOutOfOrder, IsCallable, IsNoGate, is_stack_of, HasNoStack}
-use Rattle.m36_model.specs.declared.outcome.Refusal.{Refusal}
+use Rattle.m36_model.specs.Audit.{Finds, IsOutOfOrder, IsCallable, IsNoGate}
 use Rattle.m36_audit.specs.Breaks.{Breaks}
-use Rattle.m36_audit.specs.Live.{IsSameLookup, has_disordered_brackets, may_be_called_from_above, is_enterable_anywhere, is_ring_stack}
+use Rattle.m36_audit.specs.Live.{IsSameLookup, has_disordered_brackets, may_be_called_from_above, is_enterable_anywhere}
 use Rattle.m36_audit.specs.declared.breaking.Condition.{Condition}
 use Rattle.m36_audit.specs.declared.breaking.Condition.TheVariants.{Brackets, Gate, Stack}
 use Rattle.m36_audit.proofs.Bounds.{live_in_bounds}
@@ -17,7 +16,7 @@ use Rattle.m36_audit.proofs.Bounds.{live_in_bounds}
 same_live : {E : Type 0} (r : Result SdwFields E) (d e : SdwFields) → r ≡ Ok d → r ≡ Ok e → e ≡ d
 same_live r d e h k = cc
 
-pub out_of_order : (core : List ℕ) (dbr : DbrFields) (seg : ℕ) (findings_from_marks : Option SdwFields) → IsSameLookup findings_from_marks (core_sdw core dbr seg) → Decides (has_disordered_brackets findings_from_marks) (IsOutOfOrder (core_sdw core dbr) seg)
+pub out_of_order : (core : List ℕ) (dbr : DbrFields) (seg : ℕ) (found : Option SdwFields) → IsSameLookup found (core_sdw core dbr seg) → Decides (has_disordered_brackets found) (IsOutOfOrder (core_sdw core dbr) seg)
 out_of_order core dbr seg None t = (λ h. cc, λ k. absurd (t k.sdw k.live_descriptor))
 out_of_order core dbr seg (Some d) t = (
   λ h. record { sdw = d; live_descriptor = t; out = not-true (has_ordered_brackets d) h },
@@ -34,27 +33,12 @@ is_callable core dbr seg d e t k =
     let same = same_live _ e d k.live_descriptor t in
     (sym same, ap may_be_called_from_above same ∙ and_from e.executable (nat_lt e.r2 e.r3) k.executable (lt-ltb e.r2 e.r3 k.outer))
 
-pub no_gate : (core : List ℕ) (dbr : DbrFields) (seg : ℕ) (findings_from_marks : Option SdwFields) → IsSameLookup findings_from_marks (core_sdw core dbr seg) → Decides (is_enterable_anywhere findings_from_marks) (IsNoGate (core_sdw core dbr) seg)
+pub no_gate : (core : List ℕ) (dbr : DbrFields) (seg : ℕ) (found : Option SdwFields) → IsSameLookup found (core_sdw core dbr seg) → Decides (is_enterable_anywhere found) (IsNoGate (core_sdw core dbr) seg)
 no_gate core dbr seg None t = (λ h. cc, λ k. absurd (t k.sdw k.may_be_called_from_above.live_descriptor))
 no_gate core dbr seg (Some d) t = (
   λ h. let p = and_parts (may_be_called_from_above d) d.no_gate h in record { sdw = d; may_be_called_from_above = callable_is core dbr seg d t p.0; open_everywhere = p.1 },
   λ k. let p = is_callable core dbr seg d k.sdw t k.may_be_called_from_above in and_from (may_be_called_from_above d) d.no_gate p.1 (ap (λ (e : SdwFields). e.no_gate) (sym p.0) ∙ k.open_everywhere),
 )
-
-serves_is : (ring : ℕ) (findings_from_marks : Option SdwFields) (r : Result SdwFields Refusal) → IsSameLookup findings_from_marks r → is_ring_stack ring findings_from_marks ≡ is_stack_of ring r
-serves_is ring None (Ok d) t = absurd (t d refl)
-serves_is ring None (Err e) t = refl
-serves_is ring (Some d) r t = ap (is_stack_of ring) (sym t)
-
-pub lacks_stack : (core : List ℕ) (dbr : DbrFields) (seg : ℕ) (d : SdwFields) (stack : Option SdwFields) → core_sdw core dbr seg ≡ Ok d → IsSameLookup stack (core_sdw core dbr (8 * dbr.stack + d.r2)) → Decides (may_be_called_from_above d && not (is_ring_stack d.r2 stack)) (HasNoStack dbr (core_sdw core dbr) seg)
-lacks_stack core dbr seg d stack t s =
-    let same = serves_is d.r2 stack (core_sdw core dbr (8 * dbr.stack + d.r2)) s in (
-      λ h. let p = and_parts (may_be_called_from_above d) (not (is_ring_stack d.r2 stack)) h in record { sdw = d; may_be_called_from_above = callable_is core dbr seg d t p.0; missing = sym same ∙ not-true (is_ring_stack d.r2 stack) p.1 },
-      λ k. let p = is_callable core dbr seg d k.sdw t k.may_be_called_from_above in and_from (may_be_called_from_above d) (not (is_ring_stack d.r2 stack)) p.1 (not_from_false (is_ring_stack d.r2 stack) (same ∙ ap (λ (e : SdwFields). is_stack_of e.r2 (core_sdw core dbr (8 * dbr.stack + e.r2))) (sym p.0) ∙ k.missing)),
-    )
-
-pub no_stack_unless : (core : List ℕ) (dbr : DbrFields) (seg : ℕ) → IsSameLookup None (core_sdw core dbr seg) → Decides false (HasNoStack dbr (core_sdw core dbr) seg)
-no_stack_unless core dbr seg t = (λ h. cc, λ k. absurd (t k.sdw k.may_be_called_from_above.live_descriptor))
 
 least_by : (Breaks : ℕ → Type 0) (p q : ℕ) → ((k : ℕ) → k < p → Breaks k → ⊥) → Breaks q → (q < p) ⊎ (p ≤ q) → p ≤ q
 least_by Breaks p q below h (inl k) = absurd (below q k h)

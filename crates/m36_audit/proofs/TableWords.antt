@@ -1,6 +1,6 @@
 -- Marking the table words of one more segment.
 use Rattle.std.proofs.Common.{◌≡◌, ℕ, ◌+◌, ◌*◌, ◌/◌, ◌<◌, ◌≤◌, refl, sym, ◌∙◌, ap, subst, inl, inr, arith}
-use Rattle.std.specs.Prelude.{◌⊎◌, true, false, nat_lt, List, length, replicate, slice_index, Option, None, Ok}
+use Rattle.std.specs.Prelude.{◌⊎◌, true, false, nat_lt, List, length, replicate, slice_index, Option, Ok}
 use Rattle.std.proofs.lemmas.Bool.{cases_lt, ltb-true}
 use Rattle.std.proofs.lemmas.List.{length-replicate, get_or-replicate, get_or_past}
 use Rattle.m36_desc.specs.Fields.{SdwFields, DbrFields}
@@ -43,7 +43,7 @@ module _ (core : List ℕ) (dbr : DbrFields) (seg : ℕ) where
     no_sdw_back none = back
       where
         here : (s a : ℕ) → s ≡ seg → IsSdwWord core dbr s a → ⊥
-        here s a e k = none k.even (ap (λ (n : ℕ). sdw_place core dbr n) (sym e) ∙ k.findings_from_marks)
+        here s a e k = none k.even (ap (λ (n : ℕ). sdw_place core dbr n) (sym e) ∙ k.found)
 
         back : (t : Table) (a : ℕ) → IsMarkedSoFar core dbr (seg + 1) directories pages t a → IsMarkedSoFar core dbr seg directories pages t a
         back Sdws a k = at (cases_lt k.0 seg)
@@ -58,7 +58,7 @@ module _ (core : List ℕ) (dbr : DbrFields) (seg : ℕ) where
     no_sdw none size tables least m =
         marked_same (IsMarkedSoFar core dbr seg directories pages) (IsMarkedSoFar core dbr (seg + 1) directories pages) size tables least sdw_before (no_sdw_back none) m
 
-    module _ (even : ℕ) (findings_from_marks : sdw_place core dbr seg ≡ Ok even) where
+    module _ (even : ℕ) (found : sdw_place core dbr seg ≡ Ok even) where
       unfoldable pub With_even : Table → ℕ → Type 0
       With_even t a = IsMarkedSoFar core dbr seg directories pages t a ⊎ ((t ≡ Sdws) × (a ≡ even))
 
@@ -67,12 +67,12 @@ module _ (core : List ℕ) (dbr : DbrFields) (seg : ℕ) where
       half_old t a (inl k) = sdw_before t a k
       half_old t a (inr k) =
           let lt : seg < seg + 1 = omega arith in
-          let here : IsMarkedSoFar core dbr (seg + 1) directories pages Sdws a = (seg, lt, record { even = even; findings_from_marks = findings_from_marks; half = inl k.1 }) in
+          let here : IsMarkedSoFar core dbr (seg + 1) directories pages Sdws a = (seg, lt, record { even = even; found = found; half = inl k.1 }) in
           subst (λ (u : Table). IsMarkedSoFar core dbr (seg + 1) directories pages u a) (sym k.0) here
 
       same_even : (s a : ℕ) → s ≡ seg → (k : IsSdwWord core dbr s a) → k.even ≡ even
       same_even s a e k =
-          let there : sdw_place core dbr seg ≡ Ok k.even = ap (λ (n : ℕ). sdw_place core dbr n) (sym e) ∙ k.findings_from_marks in
+          let there : sdw_place core dbr seg ≡ Ok k.even = ap (λ (n : ℕ). sdw_place core dbr n) (sym e) ∙ k.found in
           cc
 
       new_half : (a e : ℕ) → e ≡ even → (a ≡ e) ⊎ (a ≡ wrapped_address (e + 1)) → With_even Sdws a ⊎ ((Sdws ≡ Sdws) × (a ≡ wrapped_address (even + 1)))
@@ -93,7 +93,7 @@ module _ (core : List ℕ) (dbr : DbrFields) (seg : ℕ) where
       pub odd_here : IsMarkedSoFar core dbr (seg + 1) directories pages Sdws (wrapped_address (even + 1))
       odd_here =
           let lt : seg < seg + 1 = omega arith in
-          (seg, lt, record { even = even; findings_from_marks = findings_from_marks; half = inr refl })
+          (seg, lt, record { even = even; found = found; half = inr refl })
 
       -- the two words of a descriptor are marked
       pub sdw_more : (size : ℕ) (tables : List ℕ) (least : Option ℕ) (after : List ℕ) (then : Option ℕ) → after ≡ tables_marked tables 1 even → then ≡ least_marked tables least 1 even → AreMarked (IsMarkedSoFar core dbr seg directories pages) size tables least → AreMarked (IsMarkedSoFar core dbr (seg + 1) directories pages) size (tables_marked after 1 (wrapped_address (even + 1))) (least_marked after then 1 (wrapped_address (even + 1)))
@@ -128,13 +128,13 @@ module _ (core : List ℕ) (dbr : DbrFields) (seg : ℕ) where
           at (inl lt) = inl (k.0, lt, k.2)
           at (inr le) =
               let same : k.0 ≡ seg = omega arith in
-              inr (refl, k.2.findings_from_marks ∙ ap (λ (n : ℕ). directory_at dbr n) same)
+              inr (refl, k.2.found ∙ ap (λ (n : ℕ). directory_at dbr n) same)
       directory_new (Pages s) a k = inl k
 
       pub directory_here : IsMarkedSoFar core dbr sdws (seg + 1) pages Directory (directory_at dbr seg)
       directory_here =
           let lt : seg < seg + 1 = omega arith in
-          (seg, lt, record { bounds = bounds; paged = paged; findings_from_marks = refl })
+          (seg, lt, record { bounds = bounds; paged = paged; found = refl })
 
       pub directory_more : (size : ℕ) (tables : List ℕ) (least : Option ℕ) → AreMarked (IsMarkedSoFar core dbr sdws seg pages) size tables least → AreMarked (IsMarkedSoFar core dbr sdws (seg + 1) pages) size (tables_marked tables 2 (directory_at dbr seg)) (least_marked tables least 2 (directory_at dbr seg))
       directory_more size tables least m =
@@ -213,13 +213,13 @@ module _ (core : List ℕ) (dbr : DbrFields) (seg : ℕ) where
 
     module _ (page : ℕ) (d : SdwFields) (live_descriptor : core_sdw core dbr seg ≡ Ok d) (paged : d.unpaged ≡ false) (begins : page ≤ d.bound / 64) where
       page_small : page < 256
-      page_small = few_pages seg page (page_at d page) (record { sdw = d; live_descriptor = live_descriptor; paged = paged; begins = begins; findings_from_marks = refl })
+      page_small = few_pages seg page (page_at d page) (record { sdw = d; live_descriptor = live_descriptor; paged = paged; begins = begins; found = refl })
 
       found_there : (s n a : ℕ) → s ≡ seg → n ≡ page → IsPageWord core dbr s n a → a ≡ page_at d page
       found_there s n a e f k =
           let there : core_sdw core dbr seg ≡ Ok k.sdw = ap (λ (x : ℕ). core_sdw core dbr x) (sym e) ∙ k.live_descriptor in
           let same : k.sdw ≡ d = cc in
-          k.findings_from_marks ∙ ap (λ (x : SdwFields). page_at x n) same ∙ ap (page_at d) f
+          k.found ∙ ap (λ (x : SdwFields). page_at x n) same ∙ ap (page_at d) f
 
       pub page_new : (t : Table) (a : ℕ) → IsMarkedSoFar core dbr sdws directories (256 * seg + page + 1) t a → IsMarkedSoFar core dbr sdws directories (256 * seg + page) t a ⊎ ((t ≡ Pages seg) × (a ≡ page_at d page))
       page_new Sdws a k = inl k
@@ -239,7 +239,7 @@ module _ (core : List ℕ) (dbr : DbrFields) (seg : ℕ) where
       pub page_here : IsMarkedSoFar core dbr sdws directories (256 * seg + page + 1) (Pages seg) (page_at d page)
       page_here =
           let lt : 256 * seg + page < 256 * seg + page + 1 = omega arith in
-          (page, lt, record { sdw = d; live_descriptor = live_descriptor; paged = paged; begins = begins; findings_from_marks = refl })
+          (page, lt, record { sdw = d; live_descriptor = live_descriptor; paged = paged; begins = begins; found = refl })
 
       pub page_more : (size : ℕ) (tables : List ℕ) (least : Option ℕ) → AreMarked (IsMarkedSoFar core dbr sdws directories (256 * seg + page)) size tables least → AreMarked (IsMarkedSoFar core dbr sdws directories (256 * seg + page + 1)) size (tables_marked tables (seg + 3) (page_at d page)) (least_marked tables least (seg + 3) (page_at d page))
       page_more size tables least m =
@@ -258,7 +258,7 @@ module _ (core : List ℕ) (dbr : DbrFields) (n m : ℕ) (bounds : (q : ℕ) →
   sofar_is (Pages s) a k = (k.0, k.2)
 
   pub is_sofar : (t : Table) (a : ℕ) → IsWordOfTable core dbr t a → IsMarkedSoFar core dbr m m (256 * m) t a
-  is_sofar Sdws a k = (k.0, below k.0 (sdw_place_in_bounds core dbr k.0 k.1.even k.1.findings_from_marks), k.1)
+  is_sofar Sdws a k = (k.0, below k.0 (sdw_place_in_bounds core dbr k.0 k.1.even k.1.found), k.1)
   is_sofar Directory a k = (k.0, below k.0 k.1.bounds, k.1)
   is_sofar (Pages s) a k =
       let small = few_pages core dbr s m m s k.0 a k.1 in
@@ -278,13 +278,3 @@ zeros size a (inl lt) = get_or-replicate size a 0 0 lt
 zeros size a (inr le) =
     let past : length (replicate size 0) ≤ a = rw (length-replicate {A = ℕ} size 0) le in
     get_or_past (replicate size 0) a 0 past
-
--- no word has a mark
-pub nothing_marked : (core : List ℕ) (dbr : DbrFields) (size : ℕ) (tables : List ℕ) → tables ≡ replicate size 0 → AreMarked (IsMarkedSoFar core dbr 0 0 0) size tables None
-nothing_marked core dbr size tables e =
-    record {
-      len = ap length e ∙ length-replicate {A = ℕ} size 0;
-      none = λ a inside h t k. nothing_so_far core dbr t a k;
-      some = λ a h. absurd (h (ap (λ (l : List ℕ). slice_index l a) e ∙ zeros size a (cases_lt a size)));
-      least_two = λ a k. nothing_so_far core dbr k.table a k.of;
-    }

@@ -4,7 +4,7 @@ use Rattle.std.specs.Prelude.{Bool, true, false, not, Option, Some, None, Result
 use Rattle.std.specs.Result.{result_ok}
 use Rattle.m36_audit.specs.Live.{IsSameLookup}
 
-pub tells : {A E : Type 0} (findings_from_marks : Option A) (definition : Result A E) → findings_from_marks ≡ result_ok definition → IsSameLookup findings_from_marks definition
+pub tells : {A E : Type 0} (found : Option A) (definition : Result A E) → found ≡ result_ok definition → IsSameLookup found definition
 tells None (Ok a) h = cc
 tells None (Err e) h = λ a k. cc
 tells (Some a) (Ok b) h = cc

@@ -18,7 +18,7 @@ most_descriptors = 2 ^ 18
 -- the two words of a segment's descriptor are in core, and this is their number
 pub record IsDescriptorKey (core : List ℕ) (dbr : DbrFields) (seg key : ℕ) : Type 0 where
   pub at : ℕ
-  pub findings_from_marks : sdw_place core dbr seg ≡ Ok at
+  pub found : sdw_place core dbr seg ≡ Ok at
   pub even : ℕ
   pub odd : ℕ
   pub even_is : slice_get core at ≡ Some even

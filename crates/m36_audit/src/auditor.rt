@@ -1,6 +1,6 @@
 //! The audit of a core and a descriptor segment base register (DBR).
 
-ghost use Rattle.std.specs.Prelude.{ℕ, [], ◌≡◌, ◌^◌, ◌↔◌, IfOk, None, length, replicate};
+ghost use Rattle.std.specs.Prelude.{[], ◌≡◌, ◌^◌, ◌↔◌, IfOk, None, length, replicate};
 ghost use Rattle.m36_model.specs.Audit.{IsWordOfTable, AreFindings, IsAudited};
 ghost use Rattle.m36_model.specs.Core.{core_store, core_tables};
 ghost use Rattle.m36_model.specs.Isolation.{Isolated};

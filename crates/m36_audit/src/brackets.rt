@@ -1,6 +1,6 @@
 //! The first condition: the ring brackets of each live segment are in order.
 
-ghost use Rattle.std.specs.Prelude.{ℕ, ◌≡◌, ◌<◌, ◌^◌};
+ghost use Rattle.std.specs.Prelude.{◌≡◌, ◌<◌, ◌^◌};
 ghost use Rattle.std.specs.Bool.{Decides};
 ghost use Rattle.m36_model.specs.Audit.{IsOutOfOrder};
 ghost use Rattle.m36_audit.specs.Live.{has_disordered_brackets};
@@ -12,10 +12,10 @@ use m36_desc::{Dbr, Sdw};
 use m36_tables::has_ordered_brackets;
 
 /// Whether the brackets of the segment, if there is one, are out of order.
-fn has_disordered_brackets(findings_from_marks: Option<Sdw>) -> bool
-    ensures { result ≡ has_disordered_brackets findings_from_marks }
+fn has_disordered_brackets(found: Option<Sdw>) -> bool
+    ensures { result ≡ has_disordered_brackets found }
 {
-    match findings_from_marks {
+    match found {
         Some(sdw) => !has_ordered_brackets(&sdw),
         None => false,
     }

@@ -1,9 +1,9 @@
 //! Equal descriptors of several processes: the number of the first descriptor with the same words.
 
-ghost use Rattle.std.specs.Prelude.{ℕ, ◌≡◌, ◌+◌, ◌*◌, ◌<◌, ◌≤◌, ◌^◌, Some, IfOk, OnOk, MatchOption, length, slice_get, slice_set, slice_index, nat_eq};
+ghost use Rattle.std.specs.Prelude.{ℕ, ◌≡◌, ◌+◌, ◌*◌, ◌<◌, ◌≤◌, ◌^◌, Some, IfOk, OnOk, MatchOption, length, nat_eq};
 ghost use Rattle.std.specs.HashMap.{get};
 ghost use Rattle.m36_model.specs.JointAudit.{most_processes};
-ghost use Rattle.m36_audit.specs.Classes.{descriptors_of_process, IsDescriptorKey, KeyAt, AreFirstEquals, IsDescriptorRecorded, AreDescriptorsRecorded};
+ghost use Rattle.m36_audit.specs.Classes.{descriptors_of_process, IsDescriptorKey, AreFirstEquals, IsDescriptorRecorded, AreDescriptorsRecorded};
 
 use crate::run::zeros;
 use m36_core::Core;

@@ -1,7 +1,7 @@
 //! The fifth and the sixth condition: a segment that rings above R2 may call is a gate, and the
 //! ring that such a call enters has a stack.
 
-ghost use Rattle.std.specs.Prelude.{ℕ, ◌≡◌, ◌<◌, ◌^◌};
+ghost use Rattle.std.specs.Prelude.{◌≡◌, ◌<◌, ◌^◌};
 ghost use Rattle.std.specs.Bool.{Decides};
 ghost use Rattle.m36_model.specs.Audit.{IsNoGate, HasNoStack};
 ghost use Rattle.m36_audit.specs.Live.{may_be_called_from_above, is_enterable_anywhere, is_ring_stack};
@@ -19,10 +19,10 @@ fn may_be_called_from_above(sdw: &Sdw) -> bool
 }
 
 /// Whether rings above R2 may call the segment, if there is one, at every word: it is not a gate.
-fn is_enterable_anywhere(findings_from_marks: Option<Sdw>) -> bool
-    ensures { result ≡ is_enterable_anywhere findings_from_marks }
+fn is_enterable_anywhere(found: Option<Sdw>) -> bool
+    ensures { result ≡ is_enterable_anywhere found }
 {
-    match findings_from_marks {
+    match found {
         Some(sdw) => may_be_called_from_above(&sdw) && sdw.no_gate,
         None => false,
     }
@@ -30,10 +30,10 @@ fn is_enterable_anywhere(findings_from_marks: Option<Sdw>) -> bool
 
 /// Whether the segment, if there is one, is a stack of the ring: R and W are on, and R1 and R2 are
 /// the ring.
-fn is_ring_stack(ring: u8, findings_from_marks: Option<Sdw>) -> bool
-    ensures { result ≡ is_ring_stack ring findings_from_marks }
+fn is_ring_stack(ring: u8, found: Option<Sdw>) -> bool
+    ensures { result ≡ is_ring_stack ring found }
 {
-    match findings_from_marks {
+    match found {
         Some(sdw) => (sdw.readable && sdw.writable) && (sdw.r1 == ring && sdw.r2 == ring),
         None => false,
     }

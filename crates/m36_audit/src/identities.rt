@@ -1,9 +1,8 @@
 //! Which table of which segment has each core word, over several processes.
 
-ghost use Rattle.std.specs.Prelude.{ℕ, ◌≡◌, ◌+◌, ◌*◌, ◌/◌, ◌<◌, ◌≤◌, ◌^◌, IfOk, OnSome, length, slice_index};
-ghost use Rattle.m36_desc.specs.Fields.{SdwFields};
+ghost use Rattle.std.specs.Prelude.{ℕ, ◌≡◌, ◌+◌, ◌*◌, ◌/◌, ◌<◌, ◌≤◌, ◌^◌, IfOk, length, slice_index};
 ghost use Rattle.m36_model.specs.JointAudit.{most_processes};
-ghost use Rattle.m36_model.specs.Place.{directory_at, sdw_place, core_sdw};
+ghost use Rattle.m36_model.specs.Place.{directory_at};
 ghost use Rattle.m36_audit.specs.Runs.{pages_of_segment};
 ghost use Rattle.m36_audit.specs.Classes.{descriptors_of_process, most_descriptors};
 ghost use Rattle.m36_audit.specs.WordOwners.{descriptor_recorded, directory_recorded, pages_recorded, page_table_recorded, table_recorded_if_live, segment_recorded, segments_recorded};
@@ -66,12 +65,12 @@ fn record_page_table(recorded: &mut RecordedNumbers, sdw: &Sdw, table_number: u3
 /// Records the words of a segment's page table, if the segment is live and paged.
 fn record_table_if_live(
     recorded: &mut RecordedNumbers,
-    findings_from_marks: Result<Sdw, Refusal>,
+    found: Result<Sdw, Refusal>,
     table_number: u32,
 )
-    ensures { recorded.new.values.items ≡ table_recorded_if_live table_number findings_from_marks recorded.old.values.items }
+    ensures { recorded.new.values.items ≡ table_recorded_if_live table_number found recorded.old.values.items }
 {
-    match findings_from_marks {
+    match found {
         Ok(sdw) => record_page_table(recorded, &sdw, table_number),
         Err(_) => {}
     }

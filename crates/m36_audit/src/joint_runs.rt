@@ -1,10 +1,9 @@
 //! Counts the runs of segment words over several processes. Of segments with equal descriptors,
 //! only the runs of the first one are counted.
 
-ghost use Rattle.std.specs.Prelude.{ℕ, ◌≡◌, ◌+◌, ◌*◌, ◌/◌, ◌<◌, ◌≤◌, ◌^◌, Ok, Some, true, length, slice_get, slice_index};
+ghost use Rattle.std.specs.Prelude.{ℕ, ◌≡◌, ◌+◌, ◌*◌, ◌/◌, ◌<◌, ◌≤◌, ◌^◌, Some, length};
 ghost use Rattle.m36_desc.specs.Access.{has_ordered_brackets};
 ghost use Rattle.m36_model.specs.JointAudit.{most_processes};
-ghost use Rattle.m36_model.specs.Place.{core_sdw};
 ghost use Rattle.m36_audit.specs.Runs.{runs_of_segment, runs_of_process, run_by, AreCounted};
 ghost use Rattle.m36_audit.specs.Classes.{descriptors_of_process, most_descriptors};
 ghost use Rattle.m36_audit.specs.WordOwners.{joint_run, piece_count, with_start, with_stop, HasRoom};

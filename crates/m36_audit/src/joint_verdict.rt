@@ -1,9 +1,9 @@
 //! The findings of a joint audit.
 
-ghost use Rattle.std.specs.Prelude.{ℕ, [], ◌≡◌, ◌++◌, ◌+◌, ◌*◌, ◌<◌, ◌≤◌, Some, None};
+ghost use Rattle.std.specs.Prelude.{[], ◌≡◌, ◌++◌, ◌+◌, ◌*◌, ◌<◌, ◌≤◌, Some, None};
 ghost use Rattle.std.specs.Bool.{Decides};
 ghost use Rattle.arrayvec.specs.ArrayVec.{array_vec_len};
-ghost use Rattle.m36_model.specs.JointAudit.{between, findings_of_process};
+ghost use Rattle.m36_model.specs.JointAudit.{joint_finding, findings_of_process};
 ghost use Rattle.m36_audit.specs.Findings.{finding_pairs};
 ghost use Rattle.m36_audit.specs.Joints.{all_found};
 
@@ -72,14 +72,14 @@ pub(crate) fn note_process(findings: &mut ArrayVec<JointFinding, 50>, process: u
 pub(crate) fn note_between(
     findings: &mut ArrayVec<JointFinding, 50>,
     condition: u8,
-    findings_from_marks: Option<u32>,
+    found: Option<u32>,
 )
     requires room { array_vec_len findings.old < 50 }
     ensures listed { all_found findings.new.items
-        ≡ all_found findings.old.items ++ between condition findings_from_marks }
+        ≡ all_found findings.old.items ++ joint_finding condition found }
     ensures len { array_vec_len findings.new ≤ array_vec_len findings.old + 1 }
 {
-    match findings_from_marks {
+    match found {
         Some(place) => findings.push(JointFinding {
             place,
             process: None,

@@ -2,11 +2,10 @@
 //! another, except in shared page tables; and no core word is segment words of two, except the same
 //! word of shared segments. One pass over core each.
 
-ghost use Rattle.std.specs.Prelude.{ℕ, ◌≡◌, ◌*◌, ◌<◌, ◌≤◌, ◌^◌, ◌+◌, ◌==◌, ◌&&◌, ◌||◌, not, nat_lt, length, slice_index};
-ghost use Rattle.std.specs.Bool.{Decides};
+ghost use Rattle.std.specs.Prelude.{◌≡◌, ◌*◌, ◌<◌, ◌≤◌, ◌^◌, ◌+◌, ◌==◌, ◌&&◌, ◌||◌, nat_lt, length};
 ghost use Rattle.m36_model.specs.Audit.{Finds};
 ghost use Rattle.m36_model.specs.JointAudit.{IsJointTable, IsJointSegment, most_processes};
-ghost use Rattle.m36_audit.specs.Runs.{runs_of_process, AreCounted, IsOpenCount, count_below, covers};
+ghost use Rattle.m36_audit.specs.Runs.{runs_of_process, AreCounted, IsOpenCount};
 ghost use Rattle.m36_audit.specs.Classes.{descriptors_of_process, AreFirstEquals};
 ghost use Rattle.m36_audit.specs.RecordedNumbers.{AreRecorded, several};
 ghost use Rattle.m36_audit.specs.WordOwners.{joint_run, IsOfProcessBelow, HasTableNumbered, OwnsTableWord, OwnsSegmentWord, is_joint_table_word, joint_coverage};

@@ -1,11 +1,8 @@
 //! Which processes have table words and segment words at each core word.
 
-ghost use Rattle.std.specs.Prelude.{ℕ, ◌≡◌, ◌+◌, ◌<◌, ◌≤◌, ◌^◌, ◌==◌, not, nat_lt, length, slice_index, slice_set};
-ghost use Rattle.m36_model.specs.Audit.{IsWordOfTable};
+ghost use Rattle.std.specs.Prelude.{◌≡◌, ◌+◌, ◌<◌, ◌≤◌, ◌^◌, ◌==◌, not, nat_lt, length, slice_index};
 ghost use Rattle.m36_model.specs.JointAudit.{most_processes};
-ghost use Rattle.m36_audit.specs.TableMarks.{AreMarked};
 ghost use Rattle.m36_audit.specs.Runs.{runs_of_process, run, coverage, AreCounted};
-ghost use Rattle.m36_audit.specs.RecordedNumbers.{with_number_at};
 ghost use Rattle.m36_audit.specs.WordOwners.{with_owner_at, AreOwned};
 
 use crate::recorded::RecordedNumbers;

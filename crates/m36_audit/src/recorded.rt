@@ -1,6 +1,6 @@
 //! Which number was recorded for each core word: none, one, or several.
 
-ghost use Rattle.std.specs.Prelude.{ℕ, ◌≡◌, ◌<◌, IfOk, replicate, slice_index, vec_len};
+ghost use Rattle.std.specs.Prelude.{◌≡◌, ◌<◌, IfOk, replicate, slice_index, vec_len};
 ghost use Rattle.m36_audit.specs.RecordedNumbers.{with_number, with_number_at};
 
 use crate::run::zeros;

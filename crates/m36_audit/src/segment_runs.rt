@@ -1,7 +1,7 @@
 //! Counts the runs of core words that the segments occupy: one for each page in core, and two for
 //! each unpaged segment.
 
-ghost use Rattle.std.specs.Prelude.{ℕ, ◌≡◌, ◌+◌, ◌*◌, ◌/◌, ◌<◌, ◌≤◌, ◌^◌, true, false, Ok, length};
+ghost use Rattle.std.specs.Prelude.{◌≡◌, ◌+◌, ◌*◌, ◌/◌, ◌<◌, ◌≤◌, ◌^◌, true, false, Ok, length};
 ghost use Rattle.m36_desc.specs.Access.{has_ordered_brackets};
 ghost use Rattle.m36_model.specs.Place.{core_sdw, last_page};
 ghost use Rattle.m36_audit.specs.Runs.{word_count, unpaged_run, page_run, runs_of_segment, runs_of_process, run, AreCounted};

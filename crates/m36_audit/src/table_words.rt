@@ -1,7 +1,7 @@
 //! Marks all table words: those of the descriptors, of the descriptor segment's page table, and of
 //! the page tables of the live paged segments.
 
-ghost use Rattle.std.specs.Prelude.{ℕ, ◌≡◌, ◌+◌, ◌*◌, ◌/◌, ◌<◌, ◌≤◌, ◌^◌, true, false, Ok, length};
+ghost use Rattle.std.specs.Prelude.{◌≡◌, ◌+◌, ◌*◌, ◌/◌, ◌<◌, ◌≤◌, ◌^◌, true, false, Ok, length};
 ghost use Rattle.m36_model.specs.Audit.{IsWordOfTable};
 ghost use Rattle.m36_model.specs.Place.{core_sdw, page_at, has_descriptor_in_bounds};
 ghost use Rattle.m36_audit.specs.Runs.{pages_of_segment};

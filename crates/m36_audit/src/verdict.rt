@@ -1,6 +1,6 @@
 //! The findings of an audit.
 
-ghost use Rattle.std.specs.Prelude.{ℕ, [], ◌≡◌, ◌++◌, ◌+◌, ◌<◌, ◌≤◌};
+ghost use Rattle.std.specs.Prelude.{[], ◌≡◌, ◌++◌, ◌+◌, ◌<◌, ◌≤◌};
 ghost use Rattle.std.specs.Bool.{Decides};
 ghost use Rattle.arrayvec.specs.ArrayVec.{array_vec_len};
 ghost use Rattle.m36_model.specs.Audit.{numbered_finding};
@@ -46,16 +46,12 @@ impl Verdict {
 }
 
 /// Adds the finding that this place breaks the condition; nothing if no place does.
-pub(crate) fn note(
-    findings: &mut ArrayVec<Finding, 6>,
-    condition: u8,
-    findings_from_marks: Option<u32>,
-)
+pub(crate) fn note(findings: &mut ArrayVec<Finding, 6>, condition: u8, found: Option<u32>)
     requires room { array_vec_len findings.old < 6 }
-    ensures listed { finding_pairs findings.new.items ≡ finding_pairs findings.old.items ++ numbered_finding condition findings_from_marks }
+    ensures listed { finding_pairs findings.new.items ≡ finding_pairs findings.old.items ++ numbered_finding condition found }
     ensures len { array_vec_len findings.new ≤ array_vec_len findings.old + 1 }
 {
-    match findings_from_marks {
+    match found {
         Some(place) => findings.push(Finding { place, condition }),
         None => {}
     }

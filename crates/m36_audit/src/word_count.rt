@@ -1,7 +1,7 @@
 //! The third and the fourth condition: no core word is both a table word and a segment word, and
 //! none is two segment words. One pass over core each, which counts the open runs.
 
-ghost use Rattle.std.specs.Prelude.{ℕ, ◌≡◌, ◌<◌, ◌^◌, ◌+◌, ◌==◌, ◌&&◌, not, nat_lt, length, slice_index};
+ghost use Rattle.std.specs.Prelude.{◌≡◌, ◌<◌, ◌^◌, ◌+◌, ◌==◌, ◌&&◌, not, nat_lt, length};
 ghost use Rattle.std.specs.Bool.{Decides};
 ghost use Rattle.m36_model.specs.Audit.{Finds, IsWordOfTable, IsTableAndSegment, IsInTwoSegments};
 ghost use Rattle.m36_audit.specs.TableMarks.{AreMarked};

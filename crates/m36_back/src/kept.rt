@@ -1,6 +1,6 @@
 //! The states that are kept of a history, in the order of their numbers.
 
-ghost use Rattle.std.specs.Prelude.{ℕ, ◌≡◌, ◌<◌, ◌≤◌, IfOk};
+ghost use Rattle.std.specs.Prelude.{◌≡◌, ◌<◌, ◌≤◌, IfOk};
 ghost use Rattle.m36_back.specs.History.{state_at};
 ghost use Rattle.m36_back.specs.Kept.{AllKept};
 

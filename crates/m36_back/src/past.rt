@@ -1,6 +1,6 @@
 //! A machine that goes back.
 
-ghost use Rattle.std.specs.Prelude.{ℕ, ◌≡◌, ◌-◌, ◌<◌, ◌^◌, MatchResult};
+ghost use Rattle.std.specs.Prelude.{◌≡◌, ◌-◌, ◌<◌, ◌^◌, MatchResult};
 ghost use Rattle.m36_step.specs.Counting.{step_count_limit, step_count_after};
 
 use crate::kept::{Kept, copy_nearest, drop_later, keep};

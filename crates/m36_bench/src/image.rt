@@ -112,7 +112,7 @@ fn put_words(core: &mut Core, words: &[(u32, u64)]) {
 }
 
 /// Core with the descriptor, the page table and both loops. Fails only with `NoMemory`.
-fn core(alloc: Global, paged: bool) -> Result<Core, NoMemory> {
+fn loaded_core(alloc: Global, paged: bool) -> Result<Core, NoMemory> {
     let mut core = Core::new(alloc, 2)?;
     put_words(&mut core, if paged { &PAGED } else { &UNPAGED });
     put_words(&mut core, &SIMPLE);
@@ -152,7 +152,7 @@ fn regs(dbr: Dbr, ic: u32) -> Regs
 /// The machine before the first step of a loop, in a paged or an unpaged segment. Fails only with
 /// `NoMemory`.
 pub fn machine(alloc: Global, paged: bool, chosen: Loop) -> Result<Machine, NoMemory> {
-    Ok(Machine::start(core(alloc, paged)?, regs(DBR, start_word(chosen))))
+    Ok(Machine::start(loaded_core(alloc, paged)?, regs(DBR, start_word(chosen))))
 }
 
 /// The number of times that the loop has run.

@@ -28,7 +28,7 @@ fn another_follows(outcome: Outcome) -> bool {
 
 /// Takes `steps` steps, or fewer if one ends the run, with a record of each and no lines.
 pub fn take_recorded_steps(machine: &mut Machine, steps: u64) -> StepCount {
-    let mut told = machine.untold();
+    let mut told = machine.empty_record();
     for n in 0..steps {
         if !step_and_continue(machine, &mut told) {
             return StepCount { steps: n, bytes: 0 };
@@ -39,7 +39,7 @@ pub fn take_recorded_steps(machine: &mut Machine, steps: u64) -> StepCount {
 
 /// Takes `steps` steps, or fewer if one ends the run, and records none of the quick ones.
 pub fn take_quiet_steps(machine: &mut Machine, steps: u64) -> StepCount {
-    let mut told = machine.untold();
+    let mut told = machine.empty_record();
     let mut left = steps;
     while left > 0 {
         let most = left.min(1 << 20) as u32;

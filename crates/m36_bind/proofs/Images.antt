@@ -1,14 +1,13 @@
 -- The words to which numbers and places of the bound object refer.
-use Rattle.std.proofs.Common.{ℕ, ◌≡◌, ◌+◌, ◌-◌, ◌*◌, ◌%◌, ◌^◌, ◌<◌, ◌≤◌, Bool, true, false, cond, ltb, length, refl, sym, ap, subst, ◌∙◌, arith}
+use Rattle.std.proofs.Common.{ℕ, ◌≡◌, ◌+◌, ◌-◌, ◌*◌, ◌%◌, ◌^◌, ◌<◌, ◌≤◌, Bool, true, false, cond, ltb, length, refl, sym, ap, ◌∙◌, arith}
 use Rattle.std.proofs.lemmas.Bool.{ltb-true, lt-ltb, le-ltb, cond-true, cond-false}
 use Rattle.obj36_parts.specs.PartsFields.{PartsFields}
 use Rattle.obj36_parts.specs.declared.section.Section.{Section}
 use Rattle.obj36_parts.specs.declared.section.Section.TheVariants.{Text, Linkage, Symbol, Static}
-use Rattle.m36_relocate.specs.Fields.{ShapeFields, BasesFields}
+use Rattle.m36_relocate.specs.Fields.{ShapeFields}
 use Rattle.m36_relocate.specs.Layout.{shape_of, denoted, denoted_in_version_1, denoted_in_version_2, first_link, first_static, section_place, bound_place_of, static_word_place, relocated_place, bound_number_of, relocated_number}
 use Rattle.m36_relocate.specs.declared.layout.Denoted.{Denoted}
 use Rattle.m36_relocate.specs.declared.layout.Denoted.TheVariants.{TextWord, StaticWord, LinkWord, HeadWord}
-use Rattle.m36_relocate.specs.declared.layout.BoundPlace.{BoundPlace}
 use Rattle.m36_bind.specs.Components.{PlacedComponentFields, relocation_of}
 use Rattle.m36_bind.specs.Meaning.{image, has_word, RefersToSameWord}
 use Rattle.m36_relocate.proofs.LinkPlaces.{in_linkage, past_head, link_named}

@@ -131,12 +131,12 @@ components_fit frame [] = true
 components_fit frame (p ∷ all) = if component_fits frame p then components_fit frame all else false
 
 -- the parts, or B4 if a section is too long
-abbrev pub fitting : PartsFields → Result PartsFields BindFault
-fitting parts = if sections_fit parts then Ok parts else Err (fault.B4 0)
+abbrev pub if_sections_fit : PartsFields → Result PartsFields BindFault
+if_sections_fit parts = if sections_fit parts then Ok parts else Err (fault.B4 0)
 
 -- the parts, or B4 if they are not well formed or a section is too long
 abbrev pub checked_parts : PartsFields → Result PartsFields BindFault
-checked_parts parts = if is_well_formed parts then fitting parts else Err (fault.B4 0)
+checked_parts parts = if is_well_formed parts then if_sections_fit parts else Err (fault.B4 0)
 
 -- the parts of the bound object, given its definitions, or B4
 abbrev pub checked_bound_parts : ShapeFields → List PlacedComponentFields → List Named → Result PartsFields BindFault

@@ -4,13 +4,13 @@ ghost use Rattle.std.specs.Prelude.{◌≡◌, ◌^◌, ◌<◌, true, [], lengt
 ghost use Rattle.obj36_parts.specs.ObjectSegment.{is_well_formed};
 ghost use Rattle.m36_bindfile.specs.BindFile.{has_version_line, is_version, BindResult};
 ghost use Rattle.m36_bind.specs.Kept.{exports_from, with_retain_lines};
-ghost use Rattle.m36_bind.specs.Bound.{bound_parts, fitting, checked_parts, checked_bound_parts, bound_object_of_components, bound_object_of_lines, bound_object_of};
+ghost use Rattle.m36_bind.specs.Bound.{bound_parts, if_sections_fit, checked_parts, checked_bound_parts, bound_object_of_components, bound_object_of_lines, bound_object_of};
 ghost use Rattle.m36_bind.specs.Meaning.{AreObjects, BoundMeaning};
 
 use crate::bound::{bound_parts, bound_shape_of};
 use crate::fitting::{components_fit, sections_fit};
-use crate::given::Given;
-use crate::kept::{exports, kept};
+use crate::given::NamedObjects;
+use crate::kept::{definitions_of_retain_lines, exports};
 use crate::placed::{Components, components_of};
 use m36_bindfile::{BindFault, BindLine, read_lines};
 use m36_relocate::layout::Shape;
@@ -35,8 +35,8 @@ fn has_version_line(lines: &[BindLine]) -> bool
 }
 
 // The object if each of its sections is within the limit, otherwise B4.
-fn fitting(object: Object) -> Result<Object, BindFault>
-    ensures { BindResult result (fitting object) }
+fn if_sections_fit(object: Object) -> Result<Object, BindFault>
+    ensures { BindResult result (if_sections_fit object) }
 {
     if sections_fit(&object) {
         Ok(object)
@@ -51,10 +51,10 @@ fn fitting(object: Object) -> Result<Object, BindFault>
 // B4.
 fn object_if_sections_fit(alloc: Global, parts: Parts) -> Result<Object, BindFault>
     requires { is_well_formed parts ≡ true }
-    ensures { BindResult result (fitting parts) }
+    ensures { BindResult result (if_sections_fit parts) }
 {
     let object = Object::new(alloc, parts)?;
-    fitting(object)
+    if_sections_fit(object)
 }
 
 // The object with these parts if they are well formed and each section is within the limit,
@@ -97,7 +97,7 @@ fn retained_definitions(
     ensures { BindResult result (with_retain_lines (exports_from frame.now [] all.now) [] 1 lines.now) }
 {
     let exports = exports(alloc, frame, all.items())?;
-    kept(alloc, &exports, lines)
+    definitions_of_retain_lines(alloc, &exports, lines)
 }
 
 // The bound object of these components, or the first of B3, B5 and B4.
@@ -120,7 +120,7 @@ fn bound_object_of_components(
 fn bound_object_of_lines(
     alloc: Global,
     lines: &[BindLine],
-    given: &Given<'_>,
+    given: &NamedObjects<'_>,
 ) -> Result<Object, BindFault>
     requires { length lines.now < 2 ^ 32 }
     ensures { BindResult result (bound_object_of_lines given.now lines.now) }
@@ -157,6 +157,6 @@ pub fn bind(
 {
     law_well_formed(objects);
     let lines = read_lines(alloc, bindfile)?;
-    let given = Given::new(alloc, HashSeed::of(bindfile), names, objects)?;
+    let given = NamedObjects::new(alloc, HashSeed::of(bindfile), names, objects)?;
     bound_object_of_lines(alloc, lines.items(), &given)
 }

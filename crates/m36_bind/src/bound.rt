@@ -1,6 +1,6 @@
 //! The parts of the bound object.
 
-ghost use Rattle.std.specs.Prelude.{ℕ, ◌≡◌, ◌+◌, ◌++◌, ◌^◌, ◌<◌, ◌≤◌, [], true, false, if◌then◌else◌, IfOk, OnOk};
+ghost use Rattle.std.specs.Prelude.{◌≡◌, ◌+◌, ◌++◌, ◌^◌, ◌<◌, ◌≤◌, [], true, false, if◌then◌else◌, IfOk, OnOk};
 ghost use Rattle.std.specs.List.{list_any};
 ghost use Rattle.m36_bind.specs.Components.{relocation_of};
 ghost use Rattle.m36_bind.specs.Links.{links_from};
@@ -315,8 +315,8 @@ fn text_and_statics(
     frame: &Shape,
     all: &[PlacedComponent<'_>],
 ) -> Result<ComponentWords, NoMemory>
-    ensures text { IfOk result (λ all_component_words. all_component_words.text ≡ with_component_words frame.now false [] all.now) }
-    ensures statics { IfOk result (λ all_component_words. all_component_words.statics ≡ with_component_words frame.now true [] all.now) }
+    ensures text { IfOk result (λ sections. sections.text ≡ with_component_words frame.now false [] all.now) }
+    ensures statics { IfOk result (λ sections. sections.statics ≡ with_component_words frame.now true [] all.now) }
 {
     let text = all_component_words(alloc, frame, false, all)?;
     let statics = all_component_words(alloc, frame, true, all)?;
@@ -352,11 +352,11 @@ pub(crate) fn bound_parts(
 ) -> Result<Parts, NoMemory>
     ensures { IfOk result (λ parts. parts ≡ bound_parts frame.now all.now kept) }
 {
-    let all_component_words = text_and_statics(alloc, frame, all.items())?;
+    let sections = text_and_statics(alloc, frame, all.items())?;
     let references = references_of(alloc, frame, all)?;
     Ok(Parts {
-        text: all_component_words.text,
-        statics: all_component_words.statics,
+        text: sections.text,
+        statics: sections.statics,
         definitions: kept,
         links: references.links,
         relocations: references.relocations,

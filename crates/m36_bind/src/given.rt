@@ -1,6 +1,6 @@
 //! The objects that the binder is given, each found by its name.
 
-ghost use Rattle.std.specs.Prelude.{ℕ, ◌≡◌, IfOk, OnOk, slice_get, option_map, option_and_then};
+ghost use Rattle.std.specs.Prelude.{◌≡◌, IfOk, OnOk, slice_get, option_map, option_and_then};
 ghost use Rattle.std.specs.Map.{lookup};
 ghost use Rattle.obj36_parts.specs.Names.{same};
 ghost use Rattle.m36_bind.specs.Given.{object_named, with_index, IndexesAreFirst};
@@ -14,14 +14,14 @@ use std::marker::Model;
 
 // Objects with their names.
 #[derive(Drop)]
-pub(crate) struct Given<'a> {
+pub(crate) struct NamedObjects<'a> {
     names: &'a [Name],
     objects: &'a [Object],
     // The index of the first object of each name.
     places: IndexMap<Name, u64, HashSeed>,
 }
 
-impl<'a> Model for Given<'a> {
+impl<'a> Model for NamedObjects<'a> {
     ghost use Rattle.m36_bind.specs.Given.{NamedObjectsFields, IndexesAreFirst};
 
     ghost Value = { NamedObjectsFields };
@@ -79,19 +79,19 @@ fn object_at(objects: &[Object], place: Option<u64>) -> Option<&Object>
     objects.get(place as usize)
 }
 
-impl<'a> Given<'a> {
+impl<'a> NamedObjects<'a> {
     // Objects with their names, which are hashed with this seed.
     pub(crate) fn new(
         alloc: Global,
         seed: HashSeed,
         names: &'a [Name],
         objects: &'a [Object],
-    ) -> Result<Given<'a>, NoMemory>
+    ) -> Result<NamedObjects<'a>, NoMemory>
         ensures { IfOk result
             (λ given. given ≡ record { names = names.now; objects = objects.now }) }
     {
         let places = first_indexes_of(alloc, seed, names)?;
-        Ok(Given {
+        Ok(NamedObjects {
             names,
             objects,
             places,

@@ -1,6 +1,6 @@
 //! The definitions of the bound object: those of the retained names.
 
-ghost use Rattle.std.specs.Prelude.{ℕ, ◌≡◌, ◌^◌, ◌<◌, ◌||◌, [], length, IfOk, OnOk};
+ghost use Rattle.std.specs.Prelude.{◌≡◌, ◌^◌, ◌<◌, ◌||◌, [], length, IfOk, OnOk};
 ghost use Rattle.m36_bindfile.specs.BindFile.{BindResult};
 ghost use Rattle.m36_bind.specs.Components.{ChangesOrRefuses, relocation_of};
 ghost use Rattle.m36_relocate.specs.Exports.{with_relocated_definitions};
@@ -93,7 +93,11 @@ fn retain_line(exports: &Exports, kept: &mut Defs, n: u64, line: &BindLine) -> R
 }
 
 // The definitions of the retained names, or the first of B3 and B5.
-pub(crate) fn kept(alloc: Global, exports: &Exports, lines: &[BindLine]) -> Result<Defs, BindFault>
+pub(crate) fn definitions_of_retain_lines(
+    alloc: Global,
+    exports: &Exports,
+    lines: &[BindLine],
+) -> Result<Defs, BindFault>
     requires { length lines.now < 2 ^ 32 }
     ensures { BindResult result (with_retain_lines exports.now [] 1 lines.now) }
 {

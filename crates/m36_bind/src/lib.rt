@@ -30,4 +30,4 @@ mod links;
 mod placed;
 
 pub use binding::bind;
-pub use m36_bindfile::{BindFault, components};
+pub use m36_bindfile::{BindFault, component_names_of};

@@ -1,6 +1,6 @@
 //! The links of the bound object.
 
-ghost use Rattle.std.specs.Prelude.{ℕ, ◌≡◌, ◌+◌, ◌%◌, ◌^◌, ◌<◌, [], OnOk, IfOk, option_map};
+ghost use Rattle.std.specs.Prelude.{◌≡◌, ◌+◌, ◌%◌, ◌^◌, ◌<◌, [], OnOk, IfOk, option_map};
 ghost use Rattle.m36_bind.specs.Components.{relocation_of};
 ghost use Rattle.m36_relocate.specs.Layout.{relocated_place};
 ghost use Rattle.m36_bind.specs.Links.{own_link, offset_by, segment_link, entry_link, outer_link, inner_link, bound_link, links_onto, links_from};

@@ -1,6 +1,6 @@
 //! The components of a bind file, and where the words of each begin.
 
-ghost use Rattle.std.specs.Prelude.{ℕ, ◌≡◌, ◌+◌, ◌*◌, ◌^◌, ◌<◌, ◌≤◌, false, [], ◌∷◌, ◌++◌, length, Some, IfOk, OnOk, option_map};
+ghost use Rattle.std.specs.Prelude.{◌≡◌, ◌+◌, ◌*◌, ◌^◌, ◌<◌, ◌≤◌, false, [], ◌∷◌, ◌++◌, length, Some, IfOk, OnOk, option_map};
 ghost use Rattle.std.specs.List.{list_any};
 ghost use Rattle.obj36_parts.specs.Names.{same};
 ghost use Rattle.obj36_parts.specs.ObjectSegment.{is_newer, segment_limit};
@@ -9,7 +9,7 @@ ghost use Rattle.m36_bindfile.specs.BindFile.{BindResult};
 ghost use Rattle.m36_relocate.specs.Layout.{shape_of, first_bases, next_bases};
 ghost use Rattle.m36_bind.specs.Components.{component, relocation_of, names_of, component_named, with_found_object, with_component_of_line, components_of_lines, AddsComponent, BasesAreBounded, HasShortParts};
 
-use crate::given::Given;
+use crate::given::NamedObjects;
 use indexmap::IndexSet;
 use m36_bindfile::{BindFault, BindLine};
 use m36_relocate::exports::{Exports, own_entries};
@@ -254,7 +254,7 @@ fn add_found_object<'a>(
 #[tactic(auto, using(crate::proofs::PickLaws::pick_found))]
 fn add_component_of_line<'a>(
     alloc: Global,
-    given: &Given<'a>,
+    given: &NamedObjects<'a>,
     all: &mut Components<'a>,
     next: Bases,
     n: u64,
@@ -290,7 +290,7 @@ fn first_bases() -> Bases
 // The components that lines name, or the first of B2 and B3.
 pub(crate) fn components_of<'a>(
     alloc: Global,
-    given: &Given<'a>,
+    given: &NamedObjects<'a>,
     lines: &'a [BindLine],
 ) -> Result<Components<'a>, BindFault>
     requires { length lines.now < 2 ^ 32 }

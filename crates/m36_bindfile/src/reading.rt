@@ -130,7 +130,7 @@ fn names_in(alloc: Global, seed: HashSeed, lines: &[BindLine]) -> Result<Names, 
 
 /// The names of the components of a bind file, each once, in the order in which they first occur,
 /// or B1 with a line number. The text has fewer than 2^32 bytes.
-pub fn components(alloc: Global, text: &[u8]) -> Result<Names, BindFault>
+pub fn component_names_of(alloc: Global, text: &[u8]) -> Result<Names, BindFault>
     requires { length text.now < 2 ^ 32 }
     ensures says { BindResult result (names_or_fault (bind_lines text.now)) }
 {

@@ -22,9 +22,6 @@ use Rattle.m36_boot.proofs.ImageTables.{page_table, has_table, table_is}
 
 -- ---- descriptors
 
-pub described_none : (catalog : CatalogFields) (files : List (List ℕ)) (core : List ℕ) → AreDescribed catalog files 0 core core
-described_none catalog files core = record { size = refl; written = λ a lt. absurd (omega arith); others = λ a le. refl; whole = λ k d lt has. absurd (omega (arith, lt)) }
-
 -- the words after two words were written
 pair_even : (core : List ℕ) (s e o : ℕ) → 2 * s + 1 < length core → get_or (set (set core (2 * s) e) (2 * s + 1) o) (2 * s) 0 ≡ e
 pair_even core s e o lt =
@@ -88,12 +85,6 @@ described_more catalog files s e o old mid new d inside so_far is even odd order
             | inr before ↦ so_far.whole k x (omega (arith, lt, before)) has
           ];
     })
-
-pub described_done : (catalog : CatalogFields) (files : List (List ℕ)) (s count : ℕ) (old new : List ℕ) → count ≤ s → s ≤ count
-    → AreDescribed catalog files s old new → AreDescribed catalog files count old new
-described_done catalog files s count old new least most so_far =
-    let P : ℕ → Type 0 = λ n. AreDescribed catalog files n old new in
-    subst P (let same : s ≡ count = omega (arith, least, most) in same) so_far
 
 -- ---- all words
 

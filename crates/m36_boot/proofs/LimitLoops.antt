@@ -1,5 +1,5 @@
 -- The call limiters, segment by segment.
-use Rattle.std.proofs.Common.{ℕ, suc, ◌≡◌, ◌+◌, ◌-◌, ◌^◌, ◌<◌, ◌≤◌, Bool, true, false, cond, List, [], ◌∷◌, ◌++◌, get_or, Option, Some, None, refl, sym, ap, subst, inl, inr, ◌∙◌, arith, length-append}
+use Rattle.std.proofs.Common.{ℕ, suc, ◌≡◌, ◌+◌, ◌-◌, ◌^◌, ◌<◌, ◌≤◌, Bool, true, false, cond, List, [], ◌∷◌, ◌++◌, get_or, Option, Some, None, sym, ap, subst, inl, inr, ◌∙◌, arith, length-append}
 use Rattle.std.specs.Option.{option_or}
 use Rattle.std.specs.Prelude.{slice_get}
 use Rattle.obj36_parts.specs.PartsFields.{PartsFields}
@@ -73,9 +73,6 @@ pub gate_two : (seg : ℕ) (o : Option PartsFields) (p : PartsFields) → o ≡ 
 gate_two seg o p is e = ap (λ x. bound_fault seg x) is ∙ ap (λ (b : Bool). cond b None (Some (fault.U2 seg))) e
 
 pub ruleset gates = (gate_none, gate_two)
-
-pub limits_none : (catalog : CatalogFields) (files : List (List ℕ)) → AreLimits catalog files 0 []
-limits_none catalog files = record { size = refl; each = λ i lt. absurd (omega arith); small = λ i lt. absurd (omega arith) }
 
 pub limits_more : (catalog : CatalogFields) (files : List (List ℕ)) (i l : ℕ) (s : SegmentFields) (words limits new : List ℕ)
     → slice_get catalog.segments i ≡ Some s → words ≡ file_at files i → AreLimits catalog files i limits

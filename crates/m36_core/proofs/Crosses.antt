@@ -10,7 +10,7 @@ use denote.Struct.Owning.{shape, fields, to}
 use denote.Param.Send.{IsSend, IsSync, Common, AllSend, part_keyless, owning_send, struct_send, struct_sync, sendable}
 use Rattle.core.specs.declared.alloc.Allocator.{Ghosts}
 use Rattle.std_alloc.proofs.SendSync.{FreesAnywhere, quiet}
-use Rattle.m36_core.specs.Ownership.{slots, slots_lent, cells_own, cells_lent}
+use Rattle.m36_core.specs.Ownership.{slots, slots_share, cells_own, cells_share}
 use Rattle.m36_core.specs.contracts.cells.Cells as Cells
 use Rattle.m36_core.specs.contracts.cells.Deed as Deed
 
@@ -20,18 +20,18 @@ module _ (R : RattleType) where
   slots-Keyless s b o (Some x ∷ cs) = (part_keyless R s full_share x b o, slots-Keyless s b (o + type_size R) cs)
   slots-Keyless s b o (None ∷ cs) = (tt, slots-Keyless s b (o + type_size R) cs)
 
-  slots_lent-Common : IsSync R → (b o : ℕ) (cs : List (Option R.Denot)) → Common (slots_lent R b o cs)
-  slots_lent-Common y b o [] κ = tt
-  slots_lent-Common y b o (Some x ∷ cs) κ = (y.shared x b o κ, slots_lent-Common y b (o + type_size R) cs κ)
-  slots_lent-Common y b o (None ∷ cs) κ = (tt, slots_lent-Common y b (o + type_size R) cs κ)
+  slots_share-Common : IsSync R → (b o : ℕ) (cs : List (Option R.Denot)) → Common (slots_share R b o cs)
+  slots_share-Common y b o [] κ = tt
+  slots_share-Common y b o (Some x ∷ cs) κ = (y.shared x b o κ, slots_share-Common y b (o + type_size R) cs κ)
+  slots_share-Common y b o (None ∷ cs) κ = (tt, slots_share-Common y b (o + type_size R) cs κ)
 
   cells-Keyless : IsSend R → (p : Ptr) (cs : List (Option R.Denot)) → Keyless (cells_own R p cs)
   cells-Keyless s (block_ptr b o) cs = (tt, slots-Keyless s b o cs)
   cells-Keyless s null_ptr cs = tt
 
-  cells_lent-Common : IsSync R → (p : Ptr) (cs : List (Option R.Denot)) → Common (cells_lent R p cs)
-  cells_lent-Common y (block_ptr b o) cs κ = (tt, slots_lent-Common y b o cs κ)
-  cells_lent-Common y null_ptr cs κ = tt
+  cells_share-Common : IsSync R → (p : Ptr) (cs : List (Option R.Denot)) → Common (cells_share R p cs)
+  cells_share-Common y (block_ptr b o) cs κ = (tt, slots_share-Common y b o cs κ)
+  cells_share-Common y null_ptr cs κ = tt
 
   pub Cells-send : IsSend R → IsSend (Cells.the_row R)
   Cells-send s =
@@ -39,7 +39,7 @@ module _ (R : RattleType) where
       owning_send O all (λ d. cells-Keyless s d.at d.slots) (λ k. quiet (to O) (exits_of k (fields O)) ((struct_send (shape O) all).leaving k))
 
   pub Cells-sync : IsSync R → IsSync (Cells.the_row R)
-  Cells-sync y = let O = Cells.the_type R in record { shared = λ d b o κ. ((struct_sync (shape O) (search sendable, tt)).shared (to O d) b o κ, cells_lent-Common y d.at d.slots κ) }
+  Cells-sync y = let O = Cells.the_type R in record { shared = λ d b o κ. ((struct_sync (shape O) (search sendable, tt)).shared (to O d) b o κ, cells_share-Common y d.at d.slots κ) }
 
   module _ (A : RattleType) (g : Ghosts A.Denot) where
     pub Deed-send : FreesAnywhere A.Denot g → IsSend (Deed.the_row R A g)

@@ -3,12 +3,12 @@ use Rattle.std.proofs.Common.{ℕ, zero, suc, get_or, ◌+◌, ◌-◌, ◌≡�
 use Rattle.std.proofs.Math.Seq.{take-length}
 use Rattle.std.proofs.lemmas.List.{append-nil, drop-drop, drop_all, length-take-le, length-map, take_more, take_more_set, take_all}
 use Rattle.std.proofs.lemmas.Grind.{replicate_next}
-use Rattle.m36_core.specs.Places.{somes, overwritten, IsFilled}
+use Rattle.m36_core.specs.Places.{slot_values, overwritten, IsFilled}
 
 module _ {X : Type 0} where
-  pub somes-map : (xs : List X) → somes (map Some xs) ≡ xs
-  somes-map [] = refl
-  somes-map (x ∷ xs) = ap (λ l. x ∷ l) (somes-map xs)
+  pub slot_values-map : (xs : List X) → slot_values (map Some xs) ≡ xs
+  slot_values-map [] = refl
+  slot_values-map (x ∷ xs) = ap (λ l. x ∷ l) (slot_values-map xs)
 
   map-append : (xs ys : List X) → map Some (xs ++ ys) ≡ map Some xs ++ map Some ys
   map-append [] ys = refl
@@ -94,11 +94,11 @@ module _ {X : Type 0} where
   pub all_filled : (cs ds : List (Option X)) (i : ℕ) → length cs ≤ i → take i cs ≡ ds → cs ≡ ds
   all_filled cs ds i h e = sym (take_all i cs h) ∙ e
 
-  pub length-somes : (cs : List (Option X)) → cs ≡ map Some (somes cs) → length (somes cs) ≡ length cs
-  length-somes cs e = sym (length-map (somes cs) Some) ∙ sym (ap length e)
+  pub length-slot_values : (cs : List (Option X)) → cs ≡ map Some (slot_values cs) → length (slot_values cs) ≡ length cs
+  length-slot_values cs e = sym (length-map (slot_values cs) Some) ∙ sym (ap length e)
 
-  pub whole_map : (cs : List (Option X)) (xs : List X) → cs ≡ map Some xs → cs ≡ map Some (somes cs)
-  whole_map cs xs e = e ∙ sym (ap (λ (ds : List (Option X)). map Some (somes ds)) e ∙ ap (map Some) (somes-map xs))
+  pub whole_map : (cs : List (Option X)) (xs : List X) → cs ≡ map Some xs → cs ≡ map Some (slot_values cs)
+  whole_map cs xs e = e ∙ sym (ap (λ (ds : List (Option X)). map Some (slot_values ds)) e ∙ ap (map Some) (slot_values-map xs))
 
   pub length-overwritten : (xs ws : List X) (from : ℕ) → length (overwritten xs from ws) ≡ length xs
   length-overwritten xs ws from =

@@ -1,7 +1,7 @@
 -- The slots after a `&mut` into them has ended.
 use Rattle.std.specs.Prelude.{ℕ, List, map, Option, Some}
 use Rattle.std.specs.Borrow.{Fml, RattleType, MutBor, Array, Lends}
-use Rattle.m36_core.specs.Places.{somes, overwritten}
+use Rattle.m36_core.specs.Places.{slot_values, overwritten}
 use Rattle.m36_core.specs.declared.cells.Cells.{Cells}
 use Rattle.m36_core.specs.contracts.cells.Cells.{the_row}
 
@@ -16,4 +16,4 @@ abbrev pub lends_range :
     (R : RattleType) → MutBor (Cells R.Denot) → ℕ → MutBor (List R.Denot) → Fml
 lends_range R c from r =
     Lends (the_row R) (Array R 0) c r
-    (λ ws. with_slots c.now (map Some (overwritten (somes c.now.slots) from ws)))
+    (λ ws. with_slots c.now (map Some (overwritten (slot_values c.now.slots) from ws)))

@@ -4,14 +4,14 @@ use Rattle.std.specs.Prelude.{Option, Some, None}
 
 module _ {X : Type 0} where
   -- the values that the slots hold, in order
-  abbrev pub somes : List (Option X) → List X
-  somes [] = []
-  somes (None ∷ cs) = somes cs
-  somes (Some x ∷ cs) = x ∷ somes cs
+  abbrev pub slot_values : List (Option X) → List X
+  slot_values [] = []
+  slot_values (None ∷ cs) = slot_values cs
+  slot_values (Some x ∷ cs) = x ∷ slot_values cs
 
   -- every slot holds a value
-  abbrev pub IsWhole : List (Option X) → Type 0
-  IsWhole cs = cs ≡ map Some (somes cs)
+  abbrev pub AreAllFilled : List (Option X) → Type 0
+  AreAllFilled cs = cs ≡ map Some (slot_values cs)
 
   -- the slot with this index holds a value
   abbrev pub IsFilled : List (Option X) → ℕ → Type 0

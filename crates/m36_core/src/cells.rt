@@ -1,12 +1,12 @@
 //! A block of raw memory, as a row of slots. A slot is empty or holds a value. Only the functions
 //! of this file use the pointer to the block.
-ghost use Rattle.std.specs.Prelude.{◌≡◌, ℕ, ◌+◌, ◌<◌, ◌≤◌, List, Option, Some, None, map, length, take, drop, replicate, get_or, slice_set, IfOk, ⊤};
+ghost use Rattle.std.specs.Prelude.{◌≡◌, ℕ, ◌+◌, ◌<◌, ◌≤◌, List, Option, Some, None, length, take, drop, replicate, get_or, slice_set, IfOk, ⊤};
 ghost use Rattle.std.specs.Borrow.{sem};
 ghost use Rattle.std.specs.Vec.Ownership.{FitsInBlock};
 ghost use base.Fml.{ftrue};
 ghost use denote.RawPtr.{Ptr};
-ghost use Rattle.m36_core.specs.Places.{somes, IsWhole};
-ghost use Rattle.m36_core.specs.Ownership.{cells_own, cells_lent, deed_owns};
+ghost use Rattle.m36_core.specs.Places.{slot_values, AreAllFilled};
+ghost use Rattle.m36_core.specs.Ownership.{cells_own, cells_share, deed_owns};
 
 use std::alloc::{AllocError, Allocator};
 use std::marker::{Model, PhantomData, Send, Sync};
@@ -45,7 +45,7 @@ pub struct Cells<T> {
 impl<T> Model for Cells<T> {
     ghost also_owns = { λ c. cells_own T.row c.at c.slots };
 
-    ghost also_shares = { λ c _ κ. cells_lent T.row c.at c.slots κ };
+    ghost also_shares = { λ c _ κ. cells_share T.row c.at c.slots κ };
 }
 
 unsafe impl<T: Send> Send for Cells<T> {}
@@ -128,7 +128,7 @@ impl<T> Cells<T> {
     /// The value in the slot at an index. Every slot has to hold a value, and `base` has to be the
     /// pointer to these slots.
     pub(crate) fn get(&self, base: Base<T>, index: usize) -> &T
-        requires { (base.ptr ≡ self.now.at) × IsWhole self.now.slots
+        requires { (base.ptr ≡ self.now.at) × AreAllFilled self.now.slots
             × (index < length self.now.slots) }
         ensures { get_or self.now.slots index None ≡ Some result.now }
     {
@@ -137,19 +137,19 @@ impl<T> Cells<T> {
 
     /// The `len` values that begin at index `from`.
     pub(crate) fn slice(&self, base: Base<T>, from: usize, len: usize) -> &[T]
-        requires { (base.ptr ≡ self.now.at) × IsWhole self.now.slots
+        requires { (base.ptr ≡ self.now.at) × AreAllFilled self.now.slots
             × (from + len ≤ length self.now.slots) }
-        ensures { result.now ≡ take len (drop from (somes self.now.slots)) }
+        ensures { result.now ≡ take len (drop from (slot_values self.now.slots)) }
     {
         unsafe { slice::from_raw_parts(base.ptr.add(from), len) }
     }
 
     /// The `len` values that begin at index `from`, to be written.
     pub(crate) fn slice_mut(&mut self, base: Base<T>, from: usize, len: usize) -> &mut [T]
-        requires { (base.ptr ≡ self.old.at) × IsWhole self.old.slots
+        requires { (base.ptr ≡ self.old.at) × AreAllFilled self.old.slots
             × (from + len ≤ length self.old.slots) }
         ensures* writes_back { sem 𝓛 (lends_range T.row self.entry from result) }
-        ensures value { result.now ≡ take len (drop from (somes self.old.slots)) }
+        ensures value { result.now ≡ take len (drop from (slot_values self.old.slots)) }
     {
         unsafe { slice::from_raw_parts_mut(base.ptr.add(from), len) }
     }

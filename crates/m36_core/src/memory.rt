@@ -25,14 +25,14 @@ pub struct Core {
 impl Model for Core {
     ghost use Rattle.std.specs.Prelude.{ℕ, List, ◌≡◌};
     ghost use Rattle.m36_core.specs.Frames.{IsCore};
-    ghost use Rattle.m36_core.specs.Places.{somes};
+    ghost use Rattle.m36_core.specs.Places.{slot_values};
     ghost use Rattle.m36_core.specs.Block.{IsBlock};
 
     ghost Value = { List ℕ };
 
-    ghost view = { λ c. somes c.cells.slots };
+    ghost view = { λ c. slot_values c.cells.slots };
 
-    ghost invariant = { λ c. IsCore (somes c.cells.slots)
+    ghost invariant = { λ c. IsCore (slot_values c.cells.slots)
         × IsBlock c.base.ptr c.cells.at c.deed.at c.cells.slots c.count c.deed.len
         × (c.deed.alloc ≡ c.alloc) };
 }

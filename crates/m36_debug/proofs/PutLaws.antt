@@ -1,22 +1,17 @@
 -- Laws of lines that are put one after another.
 use Rattle.std.proofs.Common.{◌≡◌, ◌≤◌, ◌<◌, ◌+◌, ℕ, List, [], ◌∷◌, ◌++◌, length, take, drop, get_or, refl, sym, ap, subst, ◌∙◌}
-use Rattle.std.proofs.lemmas.List.{append-nil, append_assoc, take_all, at_drop_more, at_drop_all}
+use Rattle.std.proofs.lemmas.List.{append_assoc, take_all, at_drop_more, at_drop_all}
 use Rattle.m36_desc.specs.Fields.{PtrFields}
 use Rattle.m36_outside.specs.declared.sink.Put.{Put}
 use Rattle.m36_outside.specs.declared.sink.Put.TheVariants.{Done, Failed}
-use Rattle.m36_world.proofs.Following.{follow_none}
 use Rattle.m36_world.specs.Happened.{IsOutputFailed}
 use Rattle.m36_world.specs.Follow.{Follow, outputs}
 use Rattle.m36_world.specs.Seen.{Seen}
-use Rattle.m36_program.specs.Gathered.{Gathers}
-use Rattle.m36_program.proofs.Gathered.{follow_pieces, loses_here}
+use Rattle.m36_program.proofs.Gathered.{follow_pieces, gathers_none, loses_here}
 use Rattle.m36_debug.specs.Putting.{Pending, pending, PutsPieces}
 use Rattle.m36_debug.specs.SessionTexts.{pointer_line, pointer_lines}
 
 -- nothing is to be put
-pub gathers_none : (block : List (List ℕ)) (seen : Seen) → Gathers block block [] seen seen
-gathers_none block seen = record { handed = []; is = append-nil block; follow = follow_none seen }
-
 pub puts_nothing : (now : Pending) → PutsPieces Done [] now now
 puts_nothing now = gathers_none now.block now.world
 
@@ -76,12 +71,6 @@ pub waiting_lost :
 waiting_lost block block' old new fails = loses_here block [] old new fails
 
 pub ruleset handing = (puts_waiting, waiting_lost)
-
--- the piece that was put is this line
-pub puts_same :
-    (answer : Put) (old new : Pending) (lines others : List (List ℕ))
-    → lines ≡ others → PutsPieces answer lines old new → PutsPieces answer others old new
-puts_same answer old new lines others is puts = subst (λ l. PutsPieces answer l old new) is puts
 
 -- some lines, and then others, as an answer says
 pub puts_then :
@@ -194,6 +183,3 @@ pub puts_first_cut :
     (old new : Pending) (line : List ℕ) (lines : List (List ℕ))
     → PutsPieces Failed (line ∷ []) old new → PutsPieces Failed (line ∷ lines) old new
 puts_first_cut old new line lines cut = puts_longer old new (line ∷ []) lines cut
-
--- what a function that puts several lines takes by `using`
-pub ruleset lines_in_turn = (puts_behind, puts_behind_cut, puts_first_cut)

@@ -1,6 +1,6 @@
 //! Takes the turns of a command.
 
-ghost use Rattle.std.specs.Prelude.{ℕ, ◌≡◌, ◌≤◌, ◌<◌, ◌+◌, ◌-◌, ◌^◌, [], ◌∷◌};
+ghost use Rattle.std.specs.Prelude.{◌≡◌, ◌≤◌, ◌<◌, ◌+◌, ◌-◌, ◌^◌, [], ◌∷◌};
 ghost use Rattle.m36_debug.specs.Parts.{TurnContract, ServiceIsFlagged, TurnChangesCounts, PrecludesStepIfNoneLeft};
 ghost use Rattle.m36_debug.specs.Parts.{CountsSteps, LineContract, put_turn_result, turn_result};
 ghost use Rattle.m36_step.specs.Answers.{is_service};
@@ -45,7 +45,7 @@ pub enum LineResult {
 
 // Writes where `go` has stopped, or the end line, once it is complete; otherwise nothing.
 #[inline]
-#[tactic(auto, using(crate::proofs::PutLaws::gathers_none))]
+#[tactic(auto, using(m36_program::proofs::Gathered::gathers_none))]
 fn put_go<W: World>(
     block: &mut Block,
     world: &mut W,

@@ -1,6 +1,6 @@
 //! Splits pieces of input into lines.
 
-ghost use Rattle.std.specs.Prelude.{ℕ, ◌≡◌, ◌≤◌, ◌<◌, ◌++◌, MatchOption, IfSome, length};
+ghost use Rattle.std.specs.Prelude.{◌≡◌, ◌≤◌, ◌<◌, ◌++◌, MatchOption, IfSome, length};
 ghost use Rattle.m36_text.specs.Lines.{as_line};
 ghost use Rattle.m36_debug.specs.LinesTaken.{IsUnbroken};
 

@@ -1,6 +1,6 @@
 //! Adds lines to a block, each with its line feed as one piece.
 
-ghost use Rattle.std.specs.Prelude.{ℕ, ◌≡◌, ◌<◌, [], ◌∷◌, length};
+ghost use Rattle.std.specs.Prelude.{◌≡◌, ◌<◌, [], ◌∷◌, length};
 ghost use Rattle.m36_text.specs.Lines.{as_line};
 ghost use Rattle.m36_debug.specs.Putting.{pending, PutsPieces};
 

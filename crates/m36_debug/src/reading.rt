@@ -1,11 +1,11 @@
 //! Answers the whole lines of a piece of input, and keeps the bytes after them.
 
-ghost use Rattle.std.specs.Prelude.{ℕ, ◌≡◌, ◌≤◌, ◌<◌, ◌+◌, ◌*◌, ◌^◌, [], ◌∷◌, ◌++◌, length};
+ghost use Rattle.std.specs.Prelude.{◌≡◌, ◌≤◌, ◌<◌, ◌+◌, ◌*◌, ◌^◌, [], ◌∷◌, ◌++◌, length};
 ghost use Rattle.m36_text.specs.Lines.{open_last_line};
 ghost use Rattle.m36_debug.specs.LinesTaken.{IsUnbroken};
 ghost use Rattle.m36_debug.specs.Parts.{LineContract};
 ghost use Rattle.m36_debug.specs.PieceContract.{PieceContract};
-ghost use Rattle.m36_debug.specs.Putting.{pending, PutsPieces};
+ghost use Rattle.m36_debug.specs.Putting.{pending};
 ghost use Rattle.m36_debug.specs.Session.{Waiting, standing, machine_relations};
 ghost use Rattle.m36_debug.specs.SessionLines.{most_steps};
 

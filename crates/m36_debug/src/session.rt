@@ -1,6 +1,6 @@
 //! Holds a session over a machine.
 
-ghost use Rattle.std.specs.Prelude.{ℕ, ◌≡◌, ◌≤◌, ◌<◌, ◌+◌, ◌*◌, ◌^◌, [], ◌++◌, length};
+ghost use Rattle.std.specs.Prelude.{◌≡◌, ◌≤◌, ◌<◌, ◌+◌, ◌*◌, ◌^◌, [], ◌++◌, length};
 ghost use Rattle.m36_text.specs.Lines.{open_last_line};
 ghost use Rattle.m36_program.specs.Performs.{Performs};
 ghost use Rattle.m36_debug.specs.LinesTaken.{IsUnbroken};

@@ -1,6 +1,6 @@
 //! Parses the lines of a session, by their forms. A line is given without its line feed.
 
-ghost use Rattle.std.specs.Prelude.{ℕ, ◌≡◌, ◌<◌, ◌≤◌, ◌^◌, IfSome};
+ghost use Rattle.std.specs.Prelude.{◌≡◌, ◌<◌, ◌≤◌, ◌^◌, IfSome};
 ghost use Rattle.m36_text.specs.Lines.{words_of};
 ghost use Rattle.m36_debug.specs.SessionLines.{one_word, two_words, three_words, line_of_words, most_steps, steps_in, session_line, IsBounded};
 

@@ -1,6 +1,6 @@
 //! What a session remembers between its lines.
 
-ghost use Rattle.std.specs.Prelude.{ℕ, ◌≡◌, ◌≤◌, ◌<◌, ◌-◌, ◌^◌};
+ghost use Rattle.std.specs.Prelude.{◌≡◌, ◌≤◌, ◌<◌, ◌-◌, ◌^◌};
 ghost use Rattle.m36_step.specs.Counting.{step_count_limit};
 ghost use Rattle.m36_debug.specs.Session.{next_of};
 ghost use Rattle.m36_debug.specs.SessionState.{initial_session_state, session_state_after, session_state_before, session_state_with_break, has_taken, has_room};

@@ -1,6 +1,6 @@
 //! Writes the lines of answers.
 
-ghost use Rattle.std.specs.Prelude.{ℕ, ◌≡◌, ◌≤◌, ◌<◌, ◌-◌, ◌^◌, [], ◌∷◌, length};
+ghost use Rattle.std.specs.Prelude.{◌≡◌, ◌≤◌, ◌<◌, ◌-◌, ◌^◌, [], ◌∷◌, length};
 ghost use Rattle.m36_step.specs.Counting.{step_count_limit};
 ghost use Rattle.m36_text.specs.Lines.{as_line};
 ghost use Rattle.m36_trace.specs.TraceLine.{line_of};
@@ -152,7 +152,7 @@ fn put_step<W: World>(
 /// Writes the lines of a turn before which `taken` steps were taken. `text` keeps the line of an
 /// earlier step, of which only the parts that differ are formatted again.
 #[inline(never)]
-#[tactic(auto, unfolding(crate::specs::SessionTexts::turn_lines), using(crate::proofs::PutLaws::gathers_none))]
+#[tactic(auto, unfolding(crate::specs::SessionTexts::turn_lines), using(m36_program::proofs::Gathered::gathers_none))]
 pub(crate) fn put_turn<W: World>(
     block: &mut Block,
     world: &mut W,

@@ -1,20 +1,12 @@
 -- A record that is written to words is read back: first each field, and then the record.
-use Rattle.std.proofs.Common.{◌≡◌, ℕ, ◌-◌, ◌^◌, ◌<◌, ◌≤◌, ◌==◌, Bool, true, false, refl, arith, ap, ◌∙◌}
+use Rattle.std.proofs.Common.{◌≡◌, ℕ, ◌-◌, ◌^◌, ◌<◌, ◌≤◌, ◌==◌, false, arith, ap, ◌∙◌}
 use Rattle.std.proofs.lemmas.Bool.{cond-false, ne_eqb}
 use Rattle.m36_word.specs.Field.{field}
-use Rattle.m36_word.specs.Bits.{of_bit}
+use Rattle.m36_word.proofs.BitLaws.{bit_small, bit_back}
 use Rattle.m36_desc.specs.Fields.{SdwFields}
 use Rattle.m36_desc.specs.Widths.{IsSdw}
 use Rattle.m36_desc.specs.Descriptors.{sdw_of, sdw_even, sdw_odd, ptw_of, ptw_word, dbr_of, dbr_even, dbr_odd, ptr_of, ptr_even, ptr_odd, its_of, its_even, its_odd, itp_of, itp_even, itp_odd, pointer_of_packed, packed_word, unpacked_segment}
 use Rattle.m36_desc.specs.RoundTrips.{SdwRoundTrip, PtwRoundTrip, DbrRoundTrip, PtrRoundTrip, ItsRoundTrip, ItpRoundTrip, EvenTags, PackedRoundTrip}
-
-pub bit_small : (b : Bool) → of_bit b ≤ 1
-bit_small true = omega arith
-bit_small false = omega arith
-
-bit_back : (b : Bool) (n : ℕ) → n ≡ of_bit b → (n == 1) ≡ b
-bit_back true n e = rw e refl
-bit_back false n e = rw e refl
 
 pub sdw_back : SdwRoundTrip
 sdw_back s h =

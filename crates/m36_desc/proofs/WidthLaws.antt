@@ -1,7 +1,7 @@
 -- The widths of fields that are read from words, and of words that are written.
 use Rattle.std.proofs.Common.{ℕ, ◌<◌, ◌-◌, ◌/◌, ◌%◌, ◌^◌, Bool, true, false, arith, if◌then◌else◌}
 use Rattle.m36_desc.specs.Widths.{SdwFits, PtwFits, DbrFits, PtrFits, ItsFits, ItpFits, PackedFits, SdwWords, PtwWords, DbrWords, PtrWords, ItsWords, ItpWords}
-use Rattle.m36_desc.proofs.RoundTrips.{bit_small}
+use Rattle.m36_word.proofs.BitLaws.{bit_small}
 
 pub sdw_fits : SdwFits
 sdw_fits even odd = record { addr = omega arith; r1 = omega arith; r2 = omega arith; r3 = omega arith; fc = omega arith; bound = omega arith; limit = omega arith }

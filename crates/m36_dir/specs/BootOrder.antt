@@ -221,13 +221,13 @@ with_line above None = above
 with_line above (Some next) = above ++ next ∷ []
 
 -- whether the last line is the start line, which must end the text
-abbrev pub ends : Option BootLine → Bool
-ends None = false
-ends (Some last) = is_start last
+abbrev pub has_start_at_end : Option BootLine → Bool
+has_start_at_end None = false
+has_start_at_end (Some last) = is_start last
 
 -- D6, unless the last line is the start line
 abbrev pub code_at_end : Option BootLine → Option BootCode
-code_at_end last = if ends last then None else Some D6
+code_at_end last = if has_start_at_end last then None else Some D6
 
 -- The code of what follows the last whole line: of a line that lacks its line feed, or of the end.
 abbrev pub code_of_rest : List BootLine → List ℕ → Option BootCode

@@ -167,8 +167,8 @@ abbrev pub has_entry_named : ℕ → List ℕ → SegmentFields → Bool
 has_entry_named dir name segment = nat_eq segment.dir dir && has_name name segment
 
 -- the number of the segment of a directory that has a name, if there is one
-unfoldable pub found : CatalogFields → ℕ → List ℕ → Option ℕ
-found catalog dir name = position (λ s. has_entry_named dir name s) catalog.segments
+unfoldable pub find_segment : CatalogFields → ℕ → List ℕ → Option ℕ
+find_segment catalog dir name = position (λ s. has_entry_named dir name s) catalog.segments
 
 -- a segment with other rights to read, execute and write; nothing else changes
 abbrev pub with_rights : SegmentFields → Bool → Bool → Bool → SegmentFields

@@ -3,7 +3,7 @@
 ghost use Rattle.std.specs.Prelude.{ℕ, ◌≡◌, ◌<◌, ◌≤◌, ◌^◌, Bool, ◌&&◌, nat_eq, length, slice_get, Some, IfOk, IfSome, All};
 ghost use Rattle.std.specs.List.{list_any};
 ghost use Rattle.m36_text.specs.Texts.{is_text};
-ghost use Rattle.m36_dir.specs.Catalog.{catalog_in, catalog_of, CatalogResult, has_name, has_entry_named, found, SetsRights};
+ghost use Rattle.m36_dir.specs.Catalog.{catalog_in, catalog_of, CatalogResult, has_name, has_entry_named, find_segment, SetsRights};
 ghost use Rattle.m36_dir.specs.IsCatalog.{IsCatalog, IsSegment};
 ghost use Rattle.m36_dir.specs.BootLine.{most_frames};
 ghost use Rattle.m36_dir.specs.BootOrder.{most_segments, most_libraries};
@@ -15,7 +15,7 @@ use crate::building::{
 };
 use crate::directory::Directory;
 use crate::fault::CatalogFault;
-use crate::reading::lines_of;
+use crate::reading::read_lines;
 use crate::segment::{Segment, Start};
 use m36_text::HashSeed;
 use m36_word::NoMemory;
@@ -97,7 +97,7 @@ impl Catalog {
         requires { length text.now < 2 ^ 32 }
         ensures { CatalogResult result (catalog_of text.now) }
     {
-        let lines = lines_of(alloc, text)?;
+        let lines = read_lines(alloc, text)?;
         Ok(catalog_in(alloc, HashSeed::of(text), &lines)?)
     }
 
@@ -126,9 +126,9 @@ impl Catalog {
 
     /// The number of the segment, counted from 0, that has a name in a directory. None exactly if
     /// no segment has it.
-    #[tactic(auto, unfolding(crate::specs::Catalog::found))]
+    #[tactic(auto, unfolding(crate::specs::Catalog::find_segment))]
     pub fn find(&self, dir: u16, name: &[u8]) -> Option<usize>
-        ensures value { result ≡ found self.now dir name.now }
+        ensures value { result ≡ find_segment self.now dir name.now }
         ensures inside { IfSome result (λ i. i < length self.now.segments) }
     {
         self.segments

@@ -1,7 +1,7 @@
 //! Parses each line of a boot text by itself. A line is given without its line feed. None is a line
 //! that has the form of no kind of line.
 
-ghost use Rattle.std.specs.Prelude.{ℕ, ◌≡◌, ◌+◌, ◌<◌, length, drop, Some, IfSome};
+ghost use Rattle.std.specs.Prelude.{◌≡◌, ◌+◌, ◌<◌, length, drop, Some, IfSome};
 ghost use Rattle.m36_text.specs.Lines.{words_of};
 ghost use Rattle.m36_text.specs.Numbers.{octal_in};
 ghost use Rattle.m36_dir.specs.BootLine.{frames_line, work_line, library_line, name_line, start_line, brackets_of, segment_line, line_named, parsed_line};
@@ -54,7 +54,7 @@ fn name_line(given: &[u8]) -> Option<BootLine>
 
 // The text after the byte at this index.
 #[tactic(auto, using(m36_text::proofs::Splitting::rest_whole))]
-fn behind(text: &[u8], place: usize) -> &[u8]
+fn text_after(text: &[u8], place: usize) -> &[u8]
     requires { place < length text.now }
     ensures { result.now ≡ drop (place + 1) text.now }
 {
@@ -70,7 +70,7 @@ fn start_line(given: &[u8]) -> Option<BootLine>
     let dollar = place_of(word, b'$')?;
     let ring = ring_of(ring)?;
     let name = name_of(&word[..dollar])?;
-    let entry = name_of(behind(word, dollar))?;
+    let entry = name_of(text_after(word, dollar))?;
     Some(BootLine::Start(Start { name, entry, ring }))
 }
 

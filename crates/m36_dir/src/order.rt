@@ -1,10 +1,10 @@
 //! The order of the lines of a boot text, and the code of a line, which depends on the lines above
 //! it.
 
-ghost use Rattle.std.specs.Prelude.{ℕ, ◌≡◌, ◌+◌, ◌<◌, ◌≤◌, ◌^◌, [], Some, count_by};
+ghost use Rattle.std.specs.Prelude.{◌≡◌, ◌+◌, ◌<◌, ◌≤◌, ◌^◌, [], Some, count_by};
 ghost use Rattle.std.specs.List.{list_any};
 ghost use Rattle.m36_dir.specs.BootLine.{parsed_line};
-ghost use Rattle.m36_dir.specs.BootOrder.{is_frames, is_start, is_library, is_segment, is_work_or_library, is_segment_or_name, may_follow, is_in_order_after, is_same_entry, entry, directory_after, directory_at_end, entries_of_line, entries_from, has_entry, is_repeated, is_in_directory, is_parsed_line_in_directory, has_directory, names_no_directory, is_no_gate, brackets_in_order, has_wrong_brackets, name_count_after, name_count_at_end, is_too_many, code_of, ends, parsed_lines, well_formed_lines};
+ghost use Rattle.m36_dir.specs.BootOrder.{is_frames, is_start, is_library, is_segment, is_work_or_library, is_segment_or_name, may_follow, is_in_order_after, is_same_entry, entry, directory_after, directory_at_end, entries_of_line, entries_from, has_entry, is_repeated, is_in_directory, is_parsed_line_in_directory, has_directory, names_no_directory, is_no_gate, brackets_in_order, has_wrong_brackets, name_count_after, name_count_at_end, is_too_many, code_of, has_start_at_end, parsed_lines, well_formed_lines};
 ghost use Rattle.m36_text.specs.Lines.{present_values, last_of};
 
 use crate::boot_code::BootCode;
@@ -105,7 +105,7 @@ fn last_directory(lines: &[BootLine]) -> &[u8]
 
 // Whether a line puts this name into this directory. `behind` is the directory of the last segment
 // line above it.
-fn puts(behind: &[u8], line: &BootLine, dir: &[u8], name: &[u8]) -> bool
+fn is_line_of_entry(behind: &[u8], line: &BootLine, dir: &[u8], name: &[u8]) -> bool
     ensures { result ≡ list_any (is_same_entry (entry dir.now name.now))
         (entries_of_line behind.now line.now) }
 {
@@ -123,7 +123,7 @@ fn has_entry(lines: &[BootLine], dir: &[u8], name: &[u8]) -> bool
 {
     let mut behind: &[u8] = &[];
     for line in lines {
-        if puts(behind, line, dir, name) {
+        if is_line_of_entry(behind, line, dir, name) {
             return true;
         }
         behind = directory_after(behind, line);
@@ -292,7 +292,7 @@ pub(crate) fn code_of(text: &[u8], above: &[BootLine], line: &BootLine) -> Optio
 
 /// Whether the last line is the start line.
 pub(crate) fn has_start_line_at_end(lines: &[BootLine]) -> bool
-    ensures { result ≡ ends (last_of lines.now) }
+    ensures { result ≡ has_start_at_end (last_of lines.now) }
 {
     match lines.last() {
         Some(BootLine::Start(_)) => true,

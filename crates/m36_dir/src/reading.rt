@@ -2,7 +2,7 @@
 
 ghost use Rattle.std.specs.Prelude.{◌≡◌, ◌<◌, ◌^◌, [], ◌∷◌, ◌++◌, length, Some, None, IfOk, IfErr, OnOk};
 ghost use Rattle.m36_dir.specs.BootLine.{parsed_line};
-ghost use Rattle.m36_dir.specs.BootOrder.{code_at_end, code_of_rest, ChecksLine, well_formed_lines, first_code};
+ghost use Rattle.m36_dir.specs.BootOrder.{code_of_rest, ChecksLine, well_formed_lines, first_code};
 ghost use Rattle.m36_dir.specs.Catalog.{catalog_in, catalog_of, RefusesWith};
 ghost use Rattle.m36_dir.specs.IsCatalog.{IsCatalog};
 
@@ -44,7 +44,7 @@ fn code_of_rest(above: &[BootLine], rest: &[u8]) -> Option<BootCode>
 }
 
 // Adds a line at the end.
-fn add(lines: &mut Vec<BootLine>, line: BootLine) -> Result<(), NoMemory>
+fn add_line(lines: &mut Vec<BootLine>, line: BootLine) -> Result<(), NoMemory>
     ensures { OnOk result (lines.new.items ≡ lines.old.items ++ line ∷ []) }
 {
     lines.push(line)?;
@@ -53,7 +53,7 @@ fn add(lines: &mut Vec<BootLine>, line: BootLine) -> Result<(), NoMemory>
 
 /// All lines of a text, parsed, if none has a code. Otherwise the first line that has one, with its
 /// code, or `NoMemory`.
-pub(crate) fn lines_of(alloc: Global, text: &[u8]) -> Result<Vec<BootLine>, CatalogFault>
+pub(crate) fn read_lines(alloc: Global, text: &[u8]) -> Result<Vec<BootLine>, CatalogFault>
     requires { length text.now < 2 ^ 32 }
     ensures lines { IfOk result (λ lines. lines.items ≡ well_formed_lines text.now) }
     ensures none { IfOk result (λ lines. first_code text.now ≡ None) }
@@ -65,7 +65,7 @@ pub(crate) fn lines_of(alloc: Global, text: &[u8]) -> Result<Vec<BootLine>, Cata
     let mut number: u32 = 1;
     while let Some((line, behind)) = first_line(rest) {
         match check_line(text, &above, line) {
-            Ok(line) => add(&mut above, line)?,
+            Ok(line) => add_line(&mut above, line)?,
             Err(code) => return Err(fault_at(number, code)),
         }
         rest = behind;

@@ -3,10 +3,10 @@ use Rattle.std.proofs.Common.{ℕ, zero, suc, ◌≡◌, ◌+◌, ◌-◌, ◌%�
 use Rattle.m36_model.specs.Fields.{AtFields, FinalFields}
 use Rattle.m36_model.specs.Registers.{RegsFields}
 use Rattle.m36_model.specs.Act.{Indirect, Odd, Write, Request, Answer, Act, done, ask}
-use Rattle.m36_model.specs.Store.{Midstep, Served, ProgramResult, serve, run, with_odd}
+use Rattle.m36_model.specs.Store.{Midstep, ServeResult, ProgramResult, serve, run, with_odd}
 use Rattle.m36_model.specs.Core.{core_store}
 use Rattle.m36_model.specs.Modification.{Point, Move, Ends, Fails, Reads, Counts, at_point, final_at, move_of_point}
-use Rattle.m36_model.specs.Chain.{ChainEnd, Formation, IndirectKind, Plain, Its, Itp, found, indirect, plain_point, its_point, itp_point, after_word, after_tally, chain, chain_by, chain_exhausted, lockup}
+use Rattle.m36_model.specs.Chain.{ChainEnd, Formation, IndirectKind, Plain, Its, Itp, indirect_kind, indirect_request, plain_point, its_point, itp_point, after_word, after_tally, chain, chain_by, chain_exhausted, lockup}
 use Rattle.m36_model.specs.Tally.{tally, tally_address, indirect_only}
 use Rattle.m36_model.specs.declared.outcome.Fault.{Fault}
 use Rattle.m36_model.specs.declared.outcome.Halt.{Halt}
@@ -33,9 +33,9 @@ odd_served g p word m refs refs' core w at e h joined =
     rw (e, one) at h
 
 -- a reference that is served continues by its reply
-pub run_ask : {A : Type 0} (g : RegsFields) (q : Request) (next : Result Answer Fault → Act A) (m : Midstep (List ℕ)) (t : Served (List ℕ)) → serve core_store g m q ≡ t → run core_store g (ask q next) m ≡ run core_store g (next t.reply) t.mid
+pub run_ask : {A : Type 0} (g : RegsFields) (q : Request) (next : Result Answer Fault → Act A) (m : Midstep (List ℕ)) (t : ServeResult (List ℕ)) → serve core_store g m q ≡ t → run core_store g (ask q next) m ≡ run core_store g (next t.reply) t.mid
 unfolding run
-run_ask g q next m t e = ap (λ (s : Served (List ℕ)). run core_store g (next s.reply) s.mid) e
+run_ask g q next m t e = ap (λ (s : ServeResult (List ℕ)). run core_store g (next s.reply) s.mid) e
 
 pub run_done : {A : Type 0} (g : RegsFields) (a : A) (m : Midstep (List ℕ)) → run core_store g (done a) m ≡ record { value = a; mid = m }
 unfolding run
@@ -57,33 +57,33 @@ module _ (g : RegsFields) (p : Point) (word : ℕ) (held : Option ℕ) (m m' : M
 
   -- the indirect word is refused
   pub follows_refused : (f : Fault) → ServesIndirect g p word m m'.core (Err f) → reading ≡ after m'.core refs (Err f)
-  follows_refused f h = run_ask g (indirect Indirect p word) _ (midstep_with m.core [] refs) _ (h refs)
+  follows_refused f h = run_ask g (indirect_request Indirect p word) _ (midstep_with m.core [] refs) _ (h refs)
 
   -- after the even word was read
-  after_even : (w : ℕ) (f : IndirectKind) → ServesIndirect g p word m m'.core (Ok w) → f ≡ found word w → reading ≡ run core_store g (after_word next g p word held (even w) f) (midstep_with m'.core [] one_more)
+  after_even : (w : ℕ) (f : IndirectKind) → ServesIndirect g p word m m'.core (Ok w) → f ≡ indirect_kind word w → reading ≡ run core_store g (after_word next g p word held (even w) f) (midstep_with m'.core [] one_more)
   after_even w f h e =
-      run_ask g (indirect Indirect p word) _ (midstep_with m.core [] refs) _ (h refs) ∙ ap (λ (x : IndirectKind). run core_store g (after_word next g p word held (even w) x) (midstep_with m'.core [] one_more)) (sym e)
+      run_ask g (indirect_request Indirect p word) _ (midstep_with m.core [] refs) _ (h refs) ∙ ap (λ (x : IndirectKind). run core_store g (after_word next g p word held (even w) x) (midstep_with m'.core [] one_more)) (sym e)
 
   module _ (w r1 : ℕ) (h : ServesIndirect g p word m m'.core (Ok w)) (r : r1 ≡ (sdw_in m p.seg).r1) where
-    pub follows_plain : Plain ≡ found word w → reading ≡ after m'.core one_more (Ok (plain_point p word held w r1))
+    pub follows_plain : Plain ≡ indirect_kind word w → reading ≡ after m'.core one_more (Ok (plain_point p word held w r1))
     follows_plain e = rw r (after_even w Plain h e)
 
     module _ (core : List ℕ) (refs' : List Reference) where
-      pub follows_its : (odd : ℕ) → Its ≡ found word w → ServesOdd g p word m' refs core refs' (Ok odd) → reading ≡ after core refs' (Ok (its_point p word held w odd r1))
+      pub follows_its : (odd : ℕ) → Its ≡ indirect_kind word w → ServesOdd g p word m' refs core refs' (Ok odd) → reading ≡ after core refs' (Ok (its_point p word held w odd r1))
       follows_its odd e o =
-          rw r (after_even w Its h e ∙ run_ask g (indirect Odd p (word + 1)) _ (midstep_with m'.core [] one_more) _ o)
+          rw r (after_even w Its h e ∙ run_ask g (indirect_request Odd p (word + 1)) _ (midstep_with m'.core [] one_more) _ o)
 
-      pub follows_itp : (odd : ℕ) → Itp ≡ found word w → ServesOdd g p word m' refs core refs' (Ok odd) → reading ≡ after core refs' (Ok (itp_point g p word held w odd r1))
+      pub follows_itp : (odd : ℕ) → Itp ≡ indirect_kind word w → ServesOdd g p word m' refs core refs' (Ok odd) → reading ≡ after core refs' (Ok (itp_point g p word held w odd r1))
       follows_itp odd e o =
-          rw r (after_even w Itp h e ∙ run_ask g (indirect Odd p (word + 1)) _ (midstep_with m'.core [] one_more) _ o)
+          rw r (after_even w Itp h e ∙ run_ask g (indirect_request Odd p (word + 1)) _ (midstep_with m'.core [] one_more) _ o)
 
-      pub its_refused : (f : Fault) → Its ≡ found word w → ServesOdd g p word m' refs core refs' (Err f) → reading ≡ after core refs' (Err f)
+      pub its_refused : (f : Fault) → Its ≡ indirect_kind word w → ServesOdd g p word m' refs core refs' (Err f) → reading ≡ after core refs' (Err f)
       its_refused f e o =
-          after_even w Its h e ∙ run_ask g (indirect Odd p (word + 1)) _ (midstep_with m'.core [] one_more) _ o
+          after_even w Its h e ∙ run_ask g (indirect_request Odd p (word + 1)) _ (midstep_with m'.core [] one_more) _ o
 
-      pub itp_refused : (f : Fault) → Itp ≡ found word w → ServesOdd g p word m' refs core refs' (Err f) → reading ≡ after core refs' (Err f)
+      pub itp_refused : (f : Fault) → Itp ≡ indirect_kind word w → ServesOdd g p word m' refs core refs' (Err f) → reading ≡ after core refs' (Err f)
       itp_refused f e o =
-          after_even w Itp h e ∙ run_ask g (indirect Odd p (word + 1)) _ (midstep_with m'.core [] one_more) _ o
+          after_even w Itp h e ∙ run_ask g (indirect_request Odd p (word + 1)) _ (midstep_with m'.core [] one_more) _ o
 
 -- A point that reads a tally word: m is core before it, and m' after it.
 module _ (g : RegsFields) (p : Point) (m m' : Memory) (refs : List Reference) (next : Point → Formation) where
@@ -98,12 +98,12 @@ module _ (g : RegsFields) (p : Point) (m m' : Memory) (refs : List Reference) (n
 
   pub counts_refused : (f : Fault) → ServesIndirect g p p.y m m'.core (Err f) → counting ≡ counted_end m'.core refs (Err f)
   counts_refused f h =
-      run_ask g (indirect Indirect p p.y) _ (midstep_with m.core [] refs) _ (h refs) ∙ run_done g (Err (halt.Fault f)) (midstep_with m'.core [] refs)
+      run_ask g (indirect_request Indirect p p.y) _ (midstep_with m.core [] refs) _ (h refs) ∙ run_done g (Err (halt.Fault f)) (midstep_with m'.core [] refs)
 
   module _ (w : ℕ) (h : ServesIndirect g p p.y m m'.core (Ok w)) where
     after_read : (i : Bool) → (p.tag % 16 == indirect_only) ≡ i → counting ≡ run core_store g (after_tally p (p.tag % 16) (tally_read w) i) (midstep_with m'.core [] one_tally)
     after_read i e =
-        run_ask g (indirect Indirect p p.y) _ (midstep_with m.core [] refs) _ (h refs) ∙ ap (λ (x : Bool). run core_store g (after_tally p (p.tag % 16) (tally_read w) x) (midstep_with m'.core [] one_tally)) e
+        run_ask g (indirect_request Indirect p p.y) _ (midstep_with m.core [] refs) _ (h refs) ∙ ap (λ (x : Bool). run core_store g (after_tally p (p.tag % 16) (tally_read w) x) (midstep_with m'.core [] one_tally)) e
 
     -- the tag I does not change its word
     pub counts_indirect_only : (p.tag % 16 == indirect_only) ≡ true → counting ≡ counted_end m'.core one_tally (Ok (record { last = final_at p (tally_address w) None; tally = None; place = 0 }))
@@ -113,7 +113,7 @@ module _ (g : RegsFields) (p : Point) (m m' : Memory) (refs : List Reference) (n
     module _ (core : List ℕ) (dbr : g.dbr ≡ m'.dbr) where
       pub counts_write_refused : (f : Fault) → (p.tag % 16 == indirect_only) ≡ false → ServesClaim m' core (at_point p p.y) 1 (Err f) → counting ≡ counted_end core one_tally (Err f)
       counts_write_refused f e c =
-          after_read false e ∙ run_ask g (indirect Write p p.y) _ (midstep_with m'.core [] one_tally) _ (c g dbr [] one_tally []) ∙ run_done g (Err (halt.Fault f)) (midstep_with core [] one_tally)
+          after_read false e ∙ run_ask g (indirect_request Write p p.y) _ (midstep_with m'.core [] one_tally) _ (c g dbr [] one_tally []) ∙ run_done g (Err (halt.Fault f)) (midstep_with core [] one_tally)
 
       pub counts_claimed : (place : ℕ) → (p.tag % 16 == indirect_only) ≡ false → ServesClaim m' core (at_point p p.y) 1 (Ok place)
           → counting ≡ counted_end core (one_tally ++ record { kind = reference.Write; at = at_point p p.y; count = 1 } ∷ []) (Ok (record {
@@ -123,7 +123,7 @@ module _ (g : RegsFields) (p : Point) (m m' : Memory) (refs : List Reference) (n
           }))
       unfolding run_from
       counts_claimed place e c =
-          after_read false e ∙ run_ask g (indirect Write p p.y) _ (midstep_with m'.core [] one_tally) _ (c g dbr [] one_tally []) ∙ run_done g _ _
+          after_read false e ∙ run_ask g (indirect_request Write p p.y) _ (midstep_with m'.core [] one_tally) _ (c g dbr [] one_tally []) ∙ run_done g _ _
 
 -- One step of a chain, by what the tag of its point does.
 module _ (g : RegsFields) (p : Point) (m : Midstep (List ℕ)) where

@@ -27,10 +27,10 @@ midstep_after_address core f refs = midstep_with core (claimed_by f.tally f.plac
 -- The end of the run of `run_formation`, by the result of the code: with the address, the place of
 -- the tally word, if there is one, as the step's first claim, and with this core and these
 -- references.
-abbrev pub ended :
+abbrev pub formation_end :
     List ℕ → List Reference → Result Formed Halt → ProgramResult (Result ChainEnd Halt) (List ℕ)
-ended core refs (Ok f) = record { value = Ok (chain_end_fields f); mid = midstep_after_address core f refs }
-ended core refs (Err h) = record { value = Err h; mid = midstep_with core [] refs }
+formation_end core refs (Ok f) = record { value = Ok (chain_end_fields f); mid = midstep_after_address core f refs }
+formation_end core refs (Err h) = record { value = Err h; mid = midstep_with core [] refs }
 
 -- an address without a tally word
 abbrev pub without_tally : FinalFields → Formed

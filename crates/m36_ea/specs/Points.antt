@@ -4,10 +4,10 @@ use Rattle.std.specs.Prelude.{Result, Ok, Err}
 use Rattle.m36_desc.specs.Fields.{SdwFields}
 use Rattle.m36_model.specs.Registers.{RegsFields}
 use Rattle.m36_model.specs.Act.{Indirect, Odd, done}
-use Rattle.m36_model.specs.Store.{Served, ProgramResult, serve, run}
+use Rattle.m36_model.specs.Store.{ServeResult, ProgramResult, serve, run}
 use Rattle.m36_model.specs.Core.{core_store}
 use Rattle.m36_model.specs.Modification.{Point, Move, Ends, Fails, Reads, Counts, at_point}
-use Rattle.m36_model.specs.Chain.{ChainEnd, Formation, IndirectKind, Plain, Its, Itp, indirect, chain_by}
+use Rattle.m36_model.specs.Chain.{ChainEnd, Formation, IndirectKind, Plain, Its, Itp, indirect_request, chain_by}
 use Rattle.m36_model.specs.declared.effects.Formed.{Formed}
 use Rattle.m36_model.specs.declared.outcome.Fault.{Fault}
 use Rattle.m36_model.specs.declared.outcome.Halt.{Halt}
@@ -16,7 +16,7 @@ use Rattle.m36_model.specs.declared.place.Reference.{Reference}
 use Rattle.m36_model.specs.declared.place.Kind.TheVariants as reference
 use Rattle.m36_walk.specs.Memory.{Memory}
 use Rattle.m36_walk.specs.Served.{midstep_with, sdw_in, answer_of_words}
-use Rattle.m36_ea.specs.Formed.{ended}
+use Rattle.m36_ea.specs.Formed.{formation_end}
 use Rattle.m36_ea.specs.declared.modification.Action.{Action}
 use Rattle.m36_ea.specs.declared.modification.Action.TheVariants as action
 use Rattle.m36_ea.specs.declared.indirect.Format.{Format}
@@ -56,7 +56,7 @@ indirect_reference p word count =
 -- The answer to a reference to one word. If it succeeds, it returns the word and completes the
 -- reference; if it is refused, it completes nothing. The step has claimed no write.
 abbrev pub word_answer :
-    SdwFields → List ℕ → List Reference → List Reference → Result ℕ Fault → Served (List ℕ)
+    SdwFields → List ℕ → List Reference → List Reference → Result ℕ Fault → ServeResult (List ℕ)
 word_answer d core answered refused (Ok w) =
     record { reply = Ok (answer_of_words d [] (w ∷ [])); mid = midstep_with core [] answered }
 word_answer d core answered refused (Err f) = record { reply = Err f; mid = midstep_with core [] refused }
@@ -65,7 +65,7 @@ word_answer d core answered refused (Err f) = record { reply = Err f; mid = mids
 abbrev pub ServesIndirect : RegsFields → Point → ℕ → Memory → List ℕ → Result ℕ Fault → Type 0
 ServesIndirect g p word m core' result =
     (refs : List Reference)
-    → serve core_store g (midstep_with m.core [] refs) (indirect Indirect p word)
+    → serve core_store g (midstep_with m.core [] refs) (indirect_request Indirect p word)
     ≡ word_answer (sdw_in m p.seg) core' (refs ++ indirect_reference p word 1 ∷ []) refs result
 
 -- The result is the odd word of a pair whose even word was referenced before it.
@@ -74,7 +74,7 @@ abbrev pub ServesOdd :
     → Type 0
 ServesOdd g p word m refs core' refs' result =
     serve core_store g (midstep_with m.core [] (refs ++ indirect_reference p word 1 ∷ []))
-    (indirect Odd p (word + 1))
+    (indirect_request Odd p (word + 1))
     ≡ word_answer (sdw_in m p.seg) core' refs' refs' result
 
 -- the chain after an indirect word: it continues at the next point, or ends with the fault
@@ -94,8 +94,8 @@ Follows g p word held core refs core' refs' result =
 -- the end of a chain that reads a tally word
 abbrev pub counted_end :
     List ℕ → List Reference → Result Formed Fault → ProgramResult (Result ChainEnd Halt) (List ℕ)
-counted_end core refs (Ok f) = ended core refs (Ok f)
-counted_end core refs (Err f) = ended core refs (Err (halt.Fault f))
+counted_end core refs (Ok f) = formation_end core refs (Ok f)
+counted_end core refs (Err f) = formation_end core refs (Err (halt.Fault f))
 
 -- A chain that reads its tally word here ends with this result.
 abbrev pub CountsTally :

@@ -6,9 +6,9 @@ ghost use Rattle.m36_model.specs.Step.{indirect_words};
 ghost use Rattle.m36_model.specs.Store.{changes};
 ghost use Rattle.m36_model.specs.declared.place.Reference.{Reference};
 ghost use Rattle.m36_walk.specs.Words.{pending_changes};
-ghost use Rattle.m36_ea.specs.Formed.{run_formation, ended, without_tally, HasTally};
+ghost use Rattle.m36_ea.specs.Formed.{run_formation, formation_end, without_tally, HasTally};
 
-use crate::indirect::{count, follow, formed};
+use crate::indirect::{count_tally, follow, formed_without_tally};
 use crate::modification::{Action, action_of, end_by_register, end_unmodified, fault};
 use crate::temporary::{Tpr, initial_point};
 use m36_inst::Inst;
@@ -42,7 +42,7 @@ pub fn form_address(
     requires dbr { walk.old.dbr ≡ regs.now.dbr }
     requires room { length refs.old.items ≤ 4 }
     ensures forms { run_formation regs.now inst.now walk.old.core refs.old.items
-        ≡ ended walk.new.core refs.new.items result }
+        ≡ formation_end walk.new.core refs.new.items result }
     ensures tally { IfOk result
         (λ f. HasTally f.tally f.place (length walk.new.core) refs.new.items) }
     ensures dbr { walk.new.dbr ≡ walk.old.dbr }
@@ -53,7 +53,7 @@ pub fn form_address(
     let mut left = INDIRECT_WORDS;
     loop {
         match action_of(regs, &tpr) {
-            Action::Ends(last) => return Ok(formed(last)),
+            Action::Ends(last) => return Ok(formed_without_tally(last)),
             Action::Fails(halt) => return Err(halt),
             Action::Reads { word, held } => {
                 if left == 0 {
@@ -68,7 +68,7 @@ pub fn form_address(
                 if left == 0 {
                     return Err(lockup(&tpr, tpr.y));
                 }
-                return match count(walk, regs, &tpr, refs) {
+                return match count_tally(walk, regs, &tpr, refs) {
                     Ok(formed) => Ok(formed),
                     Err(fault) => Err(Halt::Fault(fault)),
                 };
@@ -84,7 +84,7 @@ pub fn form_address(
 #[inline(always)]
 pub fn plain_address(regs: &Regs, inst: &Inst) -> Option<Final>
     ensures forms { IfSome result (λ last. (core : List ℕ) (refs : List Reference)
-        → run_formation regs.now inst.now core refs ≡ ended core refs (Ok (without_tally last))) }
+        → run_formation regs.now inst.now core refs ≡ formation_end core refs (Ok (without_tally last))) }
     ensures none { IfNone result (16 ≤ inst.now.tag) }
 {
     let tpr = initial_point(regs, inst);

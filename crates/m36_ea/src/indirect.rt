@@ -2,7 +2,7 @@
 
 ghost use Rattle.std.specs.Prelude.{◌≡◌, ◌+◌, ◌<◌, ◌≤◌, ◌^◌, [], ◌∷◌, ◌++◌, IfOk, IfSome};
 ghost use Rattle.std.specs.Prelude.{length};
-ghost use Rattle.m36_model.specs.Chain.{found};
+ghost use Rattle.m36_model.specs.Chain.{indirect_kind};
 ghost use Rattle.m36_walk.specs.Served.{sdw_in, ok_map};
 ghost use Rattle.m36_ea.specs.Formed.{without_tally, HasTally};
 ghost use Rattle.m36_ea.specs.Points.{found_of_format, FollowsEven, ServesIndirect, ServesOdd, Follows};
@@ -29,10 +29,10 @@ pub(crate) enum Format {
 
 /// The format of the indirect word `w` at this word number. A pair begins only at an even word
 /// number.
-#[tactic(auto, unfolding(m36_model::specs::Chain::found))]
+#[tactic(auto, unfolding(m36_model::specs::Chain::indirect_kind))]
 #[inline(always)]
 pub(crate) fn format_of(word: u32, w: Word) -> Format
-    ensures found { found_of_format result ≡ found word w }
+    ensures found { found_of_format result ≡ indirect_kind word w }
     ensures even { FollowsEven word result }
 {
     if word % 2 != 0 {
@@ -89,7 +89,7 @@ fn odd_word(
     ensures len { length walk.new.core ≡ length walk.old.core }
     ensures count { length refs.new.items ≡ length refs.old.items + 1 }
 {
-    match walk.odd(tpr.at(word + 1), procedure_segment(regs)) {
+    match walk.read_odd_word(tpr.at(word + 1), procedure_segment(regs)) {
         Ok(odd) => {
             add_reference(refs, Kind::Indirect, tpr.at(word), 2);
             Ok(odd)
@@ -139,7 +139,7 @@ pub(crate) fn follow(
 }
 
 /// The formed address for a chain that ends here without a tally word.
-pub(crate) fn formed(last: Final) -> Formed
+pub(crate) fn formed_without_tally(last: Final) -> Formed
     ensures { result ≡ without_tally last }
 {
     Formed {
@@ -151,7 +151,7 @@ pub(crate) fn formed(last: Final) -> Formed
 
 /// Reads the tally word at the point's address, which ends the chain. All tags except I count it:
 /// they also reference it as a Write, and return its new value.
-pub(crate) fn count(
+pub(crate) fn count_tally(
     walk: &mut Walk,
     regs: &Regs,
     tpr: &Tpr,
@@ -173,9 +173,9 @@ pub(crate) fn count(
     let at = tpr.at(y);
     add_reference(refs, Kind::Indirect, at, 1);
     if td == INDIRECT_ONLY {
-        return Ok(formed(tpr.end_at(address(word))));
+        return Ok(formed_without_tally(tpr.end_at(address(word))));
     }
-    let place = walk.hold(at, 1)?;
+    let place = walk.claim_place(at, 1)?;
     add_reference(refs, Kind::Write, at, 1);
     let counted = tally(td, word);
     Ok(Formed {

@@ -2,11 +2,11 @@
 //!
 //! None: the address has another form, or a page is not in front. Core never changes.
 
-ghost use Rattle.std.specs.Prelude.{ℕ, ◌≡◌, ◌+◌, ◌<◌, ◌^◌, [], ◌∷◌, ◌++◌, Ok, None, Some, List, IfSome, length};
+ghost use Rattle.std.specs.Prelude.{◌≡◌, ◌+◌, ◌<◌, ◌^◌, [], ◌∷◌, ◌++◌, Ok, None, Some, List, IfSome, length};
 ghost use Rattle.m36_model.specs.declared.place.Kind.TheVariants as reference;
 ghost use Rattle.m36_model.specs.declared.place.Reference.{Reference};
 ghost use Rattle.m36_walk.specs.Served.{sdw_in};
-ghost use Rattle.m36_ea.specs.Formed.{run_formation, ended, without_tally};
+ghost use Rattle.m36_ea.specs.Formed.{run_formation, formation_end, without_tally};
 ghost use Rattle.m36_ea.specs.Points.{indirect_reference, ServesIndirect, ServesOdd, Follows};
 
 use crate::indirect::{Format, format_of};
@@ -120,7 +120,7 @@ pub fn quick_indirect_address(walk: &mut Walk, regs: &Regs, inst: &Inst) -> Opti
     requires dbr { walk.old.dbr ≡ regs.now.dbr }
     ensures forms { IfSome result (λ t. (refs : List Reference)
         → run_formation regs.now inst.now walk.old.core refs
-        ≡ ended walk.old.core
+        ≡ formation_end walk.old.core
         (refs ++ record { kind = reference.Indirect; at = t.at; count = t.count } ∷ [])
         (Ok (without_tally t.last))) }
     ensures same { walk.new ≡ walk.old }
@@ -148,7 +148,7 @@ pub fn quick_tally_address(walk: &mut Walk, regs: &Regs, inst: &Inst) -> Option<
     requires dbr { walk.old.dbr ≡ regs.now.dbr }
     ensures forms { IfSome result (λ t. (refs : List Reference)
         → run_formation regs.now inst.now walk.old.core refs
-        ≡ ended walk.old.core
+        ≡ formation_end walk.old.core
         ((refs ++ record { kind = reference.Indirect; at = t.tally.at; count = 1 } ∷ [])
         ++ record { kind = reference.Write; at = t.tally.at; count = 1 } ∷ [])
         (Ok (record { last = t.last; place = t.place; tally = Some t.tally }))) }

@@ -24,7 +24,7 @@ mod sums;
 mod words;
 
 pub use pairs::{read_pair, read_pair_with_overflow, store_pair};
-pub use registers::{accumulator, pair, quotient};
+pub use registers::{accumulator, aq_pair, quotient_register};
 pub use shifts::shift;
 pub use words::{
     change_word, change_word_with_overflow, load_address, read_word, read_word_with_overflow,

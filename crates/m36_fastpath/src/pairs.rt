@@ -16,7 +16,7 @@ ghost use Rattle.m36_inst.specs.Quick.{group_of};
 ghost use Rattle.m36_inst.specs.declared.rows.Group.TheVariants as group;
 ghost use Rattle.m36_fastpath.specs.FastPath.{GivesEffect, IsQuietEffect, operand_of_pair};
 
-use crate::registers::pair;
+use crate::registers::aq_pair;
 use crate::sums::is_withheld;
 use crate::words::{advance_counter, set_comparison_indicators};
 use m36_arith::{Sum72, add72, and72, cmp72, or72, sub72, xor72};
@@ -111,12 +111,12 @@ fn try_read(effect: Effect, regs: &mut Regs, p: Pair, quiet: bool) -> Option<boo
 {
     match effect {
         Effect::Ldaq => load_pair(p, regs),
-        Effect::Adaq => return try_sum_pair(add72(pair(regs), p, false), quiet, regs),
-        Effect::Sbaq => return try_sum_pair(sub72(pair(regs), p, false), quiet, regs),
-        Effect::Cmpaq => set_comparison_indicators(cmp72(pair(regs), p), regs),
-        Effect::Anaq => load_pair(and72(pair(regs), p), regs),
-        Effect::Oraq => load_pair(or72(pair(regs), p), regs),
-        Effect::Eraq => load_pair(xor72(pair(regs), p), regs),
+        Effect::Adaq => return try_sum_pair(add72(aq_pair(regs), p, false), quiet, regs),
+        Effect::Sbaq => return try_sum_pair(sub72(aq_pair(regs), p, false), quiet, regs),
+        Effect::Cmpaq => set_comparison_indicators(cmp72(aq_pair(regs), p), regs),
+        Effect::Anaq => load_pair(and72(aq_pair(regs), p), regs),
+        Effect::Oraq => load_pair(or72(aq_pair(regs), p), regs),
+        Effect::Eraq => load_pair(xor72(aq_pair(regs), p), regs),
         _ => unreachable!(),
     }
     Some(false)
@@ -162,7 +162,7 @@ pub fn store_pair(effect: Effect, regs: &mut Regs) -> Pair
 {
     match effect {
         Effect::Staq => {
-            let stored = pair(regs);
+            let stored = aq_pair(regs);
             advance_counter(regs);
             stored
         }

@@ -16,7 +16,7 @@ pub fn accumulator(regs: &Regs) -> Word
 
 /// The quotient register, Q.
 #[inline(always)]
-pub fn quotient(regs: &Regs) -> Word
+pub fn quotient_register(regs: &Regs) -> Word
     ensures { result ≡ regs.now.q }
 {
     regs.q
@@ -24,7 +24,7 @@ pub fn quotient(regs: &Regs) -> Word
 
 /// The accumulator and the quotient register as a pair; the accumulator is the even word.
 #[inline(always)]
-pub fn pair(regs: &Regs) -> Pair
+pub fn aq_pair(regs: &Regs) -> Pair
     ensures { result ≡ aq_pair regs.now }
 {
     Pair {

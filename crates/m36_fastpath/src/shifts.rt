@@ -12,7 +12,7 @@ ghost use Rattle.m36_inst.specs.Quick.{group_of};
 ghost use Rattle.m36_inst.specs.declared.rows.Group.TheVariants as group;
 
 use crate::pairs::load_pair;
-use crate::registers::{accumulator, pair, quotient};
+use crate::registers::{accumulator, aq_pair, quotient_register};
 use crate::words::{load_a, load_q};
 use m36_arith::{Shift, shift36, shift72};
 use m36_inst::Effect;
@@ -77,7 +77,7 @@ fn shift_q_left(f: &Final, regs: &mut Regs)
     ensures value { Ok (record { regs = regs.new; put = []; overflow = false })
         ≡ shift_left Q f.now.at.word regs.old }
 {
-    let s = shift36(Shift::Left, quotient(regs), shift_count(f));
+    let s = shift36(Shift::Left, quotient_register(regs), shift_count(f));
     load_q(s.value, regs);
     set_carry(s.carry, regs);
 }
@@ -90,7 +90,7 @@ fn shift_pair_left(f: &Final, regs: &mut Regs)
     ensures value { Ok (record { regs = regs.new; put = []; overflow = false })
         ≡ shift_left AQ f.now.at.word regs.old }
 {
-    let s = shift72(Shift::Left, pair(regs), shift_count(f));
+    let s = shift72(Shift::Left, aq_pair(regs), shift_count(f));
     load_pair(s.value, regs);
     set_carry(s.carry, regs);
 }
@@ -110,14 +110,20 @@ pub fn shift(effect: Effect, regs: &mut Regs, f: &Final)
         Effect::Qls => shift_q_left(f, regs),
         Effect::Lls => shift_pair_left(f, regs),
         Effect::Ars => load_a(shifted_word(Shift::Right, accumulator(regs), n), regs),
-        Effect::Qrs => load_q(shifted_word(Shift::Right, quotient(regs), n), regs),
-        Effect::Lrs => load_pair(shifted_pair(Shift::Right, pair(regs), n), regs),
+        Effect::Qrs => load_q(shifted_word(Shift::Right, quotient_register(regs), n), regs),
+        Effect::Lrs => load_pair(shifted_pair(Shift::Right, aq_pair(regs), n), regs),
         Effect::Arl => load_a(shifted_word(Shift::RightZero, accumulator(regs), n), regs),
-        Effect::Qrl => load_q(shifted_word(Shift::RightZero, quotient(regs), n), regs),
-        Effect::Lrl => load_pair(shifted_pair(Shift::RightZero, pair(regs), n), regs),
+        Effect::Qrl => load_q(
+            shifted_word(Shift::RightZero, quotient_register(regs), n),
+            regs,
+        ),
+        Effect::Lrl => load_pair(shifted_pair(Shift::RightZero, aq_pair(regs), n), regs),
         Effect::Alr => load_a(shifted_word(Shift::Rotate, accumulator(regs), n), regs),
-        Effect::Qlr => load_q(shifted_word(Shift::Rotate, quotient(regs), n), regs),
-        Effect::Llr => load_pair(shifted_pair(Shift::Rotate, pair(regs), n), regs),
+        Effect::Qlr => load_q(
+            shifted_word(Shift::Rotate, quotient_register(regs), n),
+            regs,
+        ),
+        Effect::Llr => load_pair(shifted_pair(Shift::Rotate, aq_pair(regs), n), regs),
         _ => unreachable!(),
     }
 }

@@ -17,7 +17,7 @@ ghost use Rattle.m36_inst.specs.Quick.{group_of};
 ghost use Rattle.m36_inst.specs.declared.rows.Group.TheVariants as group;
 ghost use Rattle.m36_fastpath.specs.FastPath.{GivesEffect, IsQuietEffect, operand_of_word};
 
-use crate::registers::{accumulator, quotient};
+use crate::registers::{accumulator, quotient_register};
 use crate::sums::{try_sum_a, try_sum_q, try_sum_word};
 use m36_arith::{Compare, Sum36, add36, and36, cmp36, or36, sub36, xor36};
 use m36_inst::Effect;
@@ -143,18 +143,18 @@ fn try_read(effect: Effect, reg: u8, regs: &mut Regs, w: Word, quiet: bool) -> O
         Effect::LdxN => load_index(reg, Field::<0, 18>::get(w) as u32, regs),
         Effect::LxlN => load_index(reg, Field::<18, 18>::get(w) as u32, regs),
         Effect::Ada => return try_sum_a(add36(accumulator(regs), w, false), quiet, regs),
-        Effect::Adq => return try_sum_q(add36(quotient(regs), w, false), quiet, regs),
+        Effect::Adq => return try_sum_q(add36(quotient_register(regs), w, false), quiet, regs),
         Effect::Sba => return try_sum_a(sub36(accumulator(regs), w, false), quiet, regs),
-        Effect::Sbq => return try_sum_q(sub36(quotient(regs), w, false), quiet, regs),
+        Effect::Sbq => return try_sum_q(sub36(quotient_register(regs), w, false), quiet, regs),
         Effect::Cmpa => set_comparison_indicators(cmp36(accumulator(regs), w), regs),
-        Effect::Cmpq => set_comparison_indicators(cmp36(quotient(regs), w), regs),
+        Effect::Cmpq => set_comparison_indicators(cmp36(quotient_register(regs), w), regs),
         Effect::Szn => set_zero_and_negative(w, regs),
         Effect::Ana => load_a(and36(accumulator(regs), w), regs),
-        Effect::Anq => load_q(and36(quotient(regs), w), regs),
+        Effect::Anq => load_q(and36(quotient_register(regs), w), regs),
         Effect::Ora => load_a(or36(accumulator(regs), w), regs),
-        Effect::Orq => load_q(or36(quotient(regs), w), regs),
+        Effect::Orq => load_q(or36(quotient_register(regs), w), regs),
         Effect::Era => load_a(xor36(accumulator(regs), w), regs),
-        Effect::Erq => load_q(xor36(quotient(regs), w), regs),
+        Effect::Erq => load_q(xor36(quotient_register(regs), w), regs),
         _ => unreachable!(),
     }
     Some(false)
@@ -202,7 +202,7 @@ pub fn store_word(effect: Effect, regs: &mut Regs) -> Word
 {
     let word = match effect {
         Effect::Sta => accumulator(regs),
-        Effect::Stq => quotient(regs),
+        Effect::Stq => quotient_register(regs),
         Effect::Stz => Word::ZERO,
         _ => unreachable!(),
     };
@@ -248,7 +248,7 @@ fn try_change(effect: Effect, regs: &mut Regs, w: Word, quiet: bool) -> Option<S
     match effect {
         Effect::Aos => try_sum_word(add36(w, Word::low(1), false), quiet, regs),
         Effect::Asa => try_sum_word(add36(accumulator(regs), w, false), quiet, regs),
-        Effect::Asq => try_sum_word(add36(quotient(regs), w, false), quiet, regs),
+        Effect::Asq => try_sum_word(add36(quotient_register(regs), w, false), quiet, regs),
         _ => unreachable!(),
     }
 }

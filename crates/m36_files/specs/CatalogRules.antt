@@ -16,7 +16,7 @@ use Rattle.m36_status.specs.declared.status.Code.{Code}
 use Rattle.m36_status.specs.declared.status.Code.TheVariants as code
 use Rattle.m36_status.specs.declared.refusal.Refusal.{Refusal}
 use Rattle.m36_status.specs.declared.refusal.Refusal.TheVariants.{NoMemory}
-use Rattle.m36_status.specs.Refusing.{Early}
+use Rattle.m36_status.specs.Refusing.{RuleResult}
 use Rattle.m36_status.specs.Rules.{file_refusal}
 
 -- ---- the boot text: D1 to D6 at its line
@@ -36,7 +36,7 @@ catalog_refusal (catalog.D6 line) = boot_text_refusal code.D6 line
 catalog_refusal catalog.NoMemory = NoMemory
 
 -- the catalog of the boot text, or its refusal
-abbrev pub catalog_or_refusal : Result CatalogFields CatalogFault → Early CatalogFields
+abbrev pub catalog_or_refusal : Result CatalogFields CatalogFault → RuleResult CatalogFields
 catalog_or_refusal (Ok catalog) = Ok catalog
 catalog_or_refusal (Err fault) = Err (catalog_refusal fault)
 
@@ -58,14 +58,14 @@ lists_refusal (acl.C2 line) = acl_refusal code.C2 line
 lists_refusal acl.NoMemory = NoMemory
 
 -- the lists, or C3 at the first line that names no segment of the catalog, if there is one
-abbrev pub lists_if_known : Lists → Option ℕ → Early (List AclSegmentFields)
+abbrev pub lists_if_known : Lists → Option ℕ → RuleResult (List AclSegmentFields)
 lists_if_known lists None = Ok lists
 lists_if_known lists (Some line) = Err (acl_refusal code.C3 line)
 
 -- The access lists for a catalog, from the result of parsing them: C1, C2 or C3 if they are
 -- refused.
 abbrev pub lists_or_refusal : CatalogFields → Result (List AclSegmentFields) AclFault
-    → Early (List AclSegmentFields)
+    → RuleResult (List AclSegmentFields)
 lists_or_refusal catalog (Ok lists) = lists_if_known lists (first_unknown catalog lists)
 lists_or_refusal catalog (Err fault) = Err (lists_refusal fault)
 

@@ -1,6 +1,6 @@
 //! The boot text.
 
-ghost use Rattle.std.specs.Prelude.{ℕ, ◌≡◌, ◌≤◌, ◌++◌, IfOk, OnOk};
+ghost use Rattle.std.specs.Prelude.{◌≡◌, ◌≤◌, ◌++◌, IfOk, OnOk};
 ghost use Rattle.m36_gen.specs.BootText.{segment_line, program_line, program_lines, boot_text};
 
 use crate::lines::{put_line, put_line_with_name, segment_name};

@@ -1,6 +1,6 @@
 //! The numbers that a seed draws.
 
-ghost use Rattle.std.specs.Prelude.{ℕ, ◌≡◌, ◌+◌, ◌*◌, ◌/◌, ◌%◌, ◌^◌, ◌<◌, ◌≤◌};
+ghost use Rattle.std.specs.Prelude.{◌≡◌, ◌+◌, ◌*◌, ◌/◌, ◌%◌, ◌^◌, ◌<◌, ◌≤◌};
 ghost use Rattle.m36_gen.specs.Draws.{next_state, draw_of, draws_from, state_after_draws};
 
 /// The three numbers that are drawn for one program.

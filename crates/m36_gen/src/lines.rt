@@ -1,6 +1,6 @@
 //! Lines at the end of a text, and names of segments.
 
-ghost use Rattle.std.specs.Prelude.{ℕ, ◌≡◌, ◌≤◌, [], ◌∷◌, ◌++◌, length, OnOk};
+ghost use Rattle.std.specs.Prelude.{◌≡◌, ◌≤◌, [], ◌∷◌, ◌++◌, length, OnOk};
 ghost use Rattle.m36_text.specs.Texts.{name_limit};
 ghost use Rattle.m36_gen.specs.Lines.{line, line_with_number, segment_name, source_name};
 

@@ -1,9 +1,8 @@
 //! The files that a seed makes.
 
-ghost use Rattle.std.specs.Prelude.{ℕ, ◌≡◌, ◌<◌, ◌≤◌, ◌++◌, [], ◌∷◌, length, IfOk, OnOk};
+ghost use Rattle.std.specs.Prelude.{◌≡◌, ◌<◌, ◌≤◌, ◌++◌, [], ◌∷◌, length, IfOk, OnOk};
 ghost use Rattle.m36_text.specs.Packing.{packed};
 ghost use Rattle.m36_text.specs.Texts.{name_limit};
-ghost use Rattle.m36_gen.specs.Draws.{draws_from};
 ghost use Rattle.m36_gen.specs.Folder.{file, source_files, data_words, zeros, sources_of, fixed_files, files_of};
 ghost use Rattle.m36_gen.specs.Lines.{program_count, source_name};
 ghost use Rattle.m36_gen.specs.Sources.{source_text};

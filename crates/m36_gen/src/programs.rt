@@ -1,6 +1,6 @@
 //! The sources of the programs and of the gate.
 
-ghost use Rattle.std.specs.Prelude.{ℕ, ◌≡◌, ◌<◌, ◌++◌, IfOk, OnOk};
+ghost use Rattle.std.specs.Prelude.{◌≡◌, ◌<◌, ◌++◌, IfOk, OnOk};
 ghost use Rattle.m36_gen.specs.Lines.{program_count};
 ghost use Rattle.m36_gen.specs.Sources.{entry_lines, adding_lines, storing_lines, loop_lines, following_line};
 ghost use Rattle.m36_gen.specs.Sources.{source_text, stop_lines, stop_text};

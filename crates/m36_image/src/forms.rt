@@ -1,6 +1,6 @@
 //! Parses the lines of a bare image, by their forms. A line is given without its line feed.
 
-ghost use Rattle.std.specs.Prelude.{ℕ, ◌≡◌, ◌≤◌, IfOk};
+ghost use Rattle.std.specs.Prelude.{◌≡◌, ◌≤◌, IfOk};
 ghost use Rattle.m36_text.specs.Lines.{words_of};
 ghost use Rattle.m36_text.specs.Numbers.{octal_word_in};
 ghost use Rattle.m36_word.specs.Field.{frames_reached};

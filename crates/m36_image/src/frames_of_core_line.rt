@@ -1,6 +1,6 @@
 //! Writes the words of a bare image into core.
 
-ghost use Rattle.std.specs.Prelude.{ℕ, ◌≡◌, ◌+◌, ◌<◌, ◌≤◌, ◌^◌, length, OnOk, OnErr};
+ghost use Rattle.std.specs.Prelude.{◌≡◌, ◌+◌, ◌<◌, ◌≤◌, ◌^◌, length, OnOk, OnErr};
 ghost use Rattle.m36_text.specs.Lines.{lines_of, words_of};
 ghost use Rattle.m36_image.specs.BareImage.{at_words};
 ghost use Rattle.m36_image.specs.ImageState.{written_at};

@@ -1,6 +1,6 @@
 //! Parses the first three lines of a bare image.
 
-ghost use Rattle.std.specs.Prelude.{ℕ, ◌≡◌, ◌≤◌, IfOk, length};
+ghost use Rattle.std.specs.Prelude.{◌≡◌, ◌≤◌, IfOk, length};
 ghost use Rattle.m36_text.specs.Lines.{lines_of};
 ghost use Rattle.m36_word.specs.Field.{frames_reached};
 ghost use Rattle.m36_image.specs.HeaderFields.{HeaderResult};

@@ -6,7 +6,7 @@ use Rattle.std.specs.List.{find, filter, list_all, range_with_len}
 use Rattle.std.proofs.lemmas.Bool.{and_parts, and_from, eqb-true, eq-eqb}
 use Rattle.std.proofs.lemmas.List.FromFn.{get_or-map-range_with_len}
 use Rattle.m36_inst.specs.Lookup.{entry_at, has_code, same_bit}
-use Rattle.m36_inst.specs.Named.{place_of, named_of, block}
+use Rattle.m36_inst.specs.Named.{named_row_at, named_of, block}
 use Rattle.m36_inst.specs.Table.{Entry, table}
 use Rattle.m36_inst.specs.declared.rows.Named.{Named}
 use Rattle.m36_inst.specs.declared.codes.below_400.TheConstants.{ROWS_000, ROWS_100, ROWS_200, ROWS_300}
@@ -15,10 +15,10 @@ use Rattle.m36_inst.specs.declared.codes.from_400.TheConstants.{ROWS_400, ROWS_5
 use Rattle.m36_inst.specs.declared.codes.bit_27.TheConstants.{ROWS_000_ON, ROWS_100_ON, ROWS_200_ON, ROWS_300_ON, ROWS_400_ON, ROWS_500_ON, ROWS_600_ON, ROWS_700_ON}
 
 -- a code of nine bits is found in its block
-pub in_block : (bit27 : Bool) (rows : List (Option Named)) (code : ℕ) → rows ≡ block bit27 (64 * (code / 64)) → slice_index_or rows (code % 64) None ≡ place_of bit27 code
+pub in_block : (bit27 : Bool) (rows : List (Option Named)) (code : ℕ) → rows ≡ block bit27 (64 * (code / 64)) → slice_index_or rows (code % 64) None ≡ named_row_at bit27 code
 unfolding block
 in_block bit27 rows code same =
-    ap (λ r. slice_index_or r (code % 64) None) same ∙ get_or-map-range_with_len (place_of bit27) (64 * (code / 64)) 64 (code % 64) code None (omega arith) (omega arith)
+    ap (λ r. slice_index_or r (code % 64) None) same ∙ get_or-map-range_with_len (named_row_at bit27) (64 * (code / 64)) 64 (code % 64) code None (omega arith) (omega arith)
 
 -- the entries of a block are enough to compute the rows of its codes
 abbrev in_part : Bool → ℕ → Entry → Bool
@@ -42,12 +42,12 @@ within bit27 high code of e h =
     let same : e.code / 64 ≡ high = ap (λ c. c / 64) (eqb-true e.code code parts.0) ∙ of in
     and_from (e.code / 64 == high) (same_bit e.bit27 bit27) (eq-eqb (e.code / 64) high same) parts.1
 
-placed : (bit27 : Bool) (high code : ℕ) → code / 64 ≡ high → place_of bit27 code ≡ placed_in (part_of bit27 high) bit27 code
+placed : (bit27 : Bool) (high code : ℕ) → code / 64 ≡ high → named_row_at bit27 code ≡ placed_in (part_of bit27 high) bit27 code
 unfolding entry_at
 placed bit27 high code of =
     ap (λ (found : Option Entry). option_map named_of found) (found_in_part (has_code code bit27) (in_part bit27 high) table (within bit27 high code of))
 
-all_placed : (bit27 : Bool) (high : ℕ) (codes : List ℕ) → are_of high codes ≡ true → map (place_of bit27) codes ≡ map (placed_in (part_of bit27 high) bit27) codes
+all_placed : (bit27 : Bool) (high : ℕ) (codes : List ℕ) → are_of high codes ≡ true → map (named_row_at bit27) codes ≡ map (placed_in (part_of bit27 high) bit27) codes
 all_placed bit27 high [] h = refl
 all_placed bit27 high (code ∷ codes) h =
     let parts = and_parts (code / 64 == high) (are_of high codes) h in

@@ -1,15 +1,8 @@
 -- Instructions and their words, both ways.
-use Rattle.std.proofs.Common.{◌≡◌, ℕ, ◌≤◌, ◌<◌, zero, suc, ◌/◌, ◌%◌, ◌==◌, ◌^◌, Bool, true, false, refl, arith}
+use Rattle.std.proofs.Common.{◌≡◌, ℕ, ◌≤◌, ◌<◌, zero, suc, ◌/◌, ◌%◌, ◌==◌, ◌^◌, refl, arith}
 use Rattle.m36_word.specs.Bits.{of_bit}
+use Rattle.m36_word.proofs.BitLaws.{bit_small, bit_back}
 use Rattle.m36_inst.specs.Instruction.{inst_of, inst_word, InstRoundTrip, WordRoundTrip}
-
-bit_small : (b : Bool) → of_bit b ≤ 1
-bit_small true = omega arith
-bit_small false = omega arith
-
-bit_back : (b : Bool) (n : ℕ) → n ≡ of_bit b → (n == 1) ≡ b
-bit_back true n e = rw e refl
-bit_back false n e = rw e refl
 
 pub inst_back : InstRoundTrip
 inst_back i h =

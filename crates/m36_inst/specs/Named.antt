@@ -16,12 +16,12 @@ abbrev pub named_of : Entry → Named
 named_of e = record { row = row_of e.effect e.reg; name = padded e.name }
 
 -- the row and the padded name of an operation code with bit 27, if it has an instruction
-abbrev pub place_of : Bool → ℕ → Option Named
-place_of bit27 code = option_map named_of (entry_at code bit27)
+abbrev pub named_row_at : Bool → ℕ → Option Named
+named_row_at bit27 code = option_map named_of (entry_at code bit27)
 
 -- the rows and padded names of 64 operation codes, from `base` on
 unfoldable pub block : Bool → ℕ → List (Option Named)
-block bit27 base = map (place_of bit27) (range_with_len base 64)
+block bit27 base = map (named_row_at bit27) (range_with_len base 64)
 
 -- a blank of ASCII
 abbrev pub is_blank : ℕ → Bool

@@ -2,7 +2,7 @@
 
 ghost use Rattle.std.specs.Prelude.{◌≡◌, ◌<◌, ◌*◌, true, false, option_map, IfSome};
 ghost use Rattle.m36_inst.specs.Lookup.{row_at, name_at, IsRow};
-ghost use Rattle.m36_inst.specs.Named.{place_of, block, text_of, IsPlain};
+ghost use Rattle.m36_inst.specs.Named.{named_row_at, block, text_of, IsPlain};
 
 use crate::rows::Named;
 
@@ -63,13 +63,13 @@ pub(crate) fn named_row(code: u16, bit27: bool) -> Option<Named>
     ensures name { option_map (λ n. text_of n.name) result ≡ name_at code bit27 }
     ensures plain { IfSome result (λ n. IsPlain (text_of n.name)) }
 {
-    place(code, bit27)
+    named_row_in_block(code, bit27)
 }
 
 // The row and the name of an operation code with bit 27, from the block that has the code.
 #[tactic(auto, using(crate::proofs::Blocks::in_block, crate::proofs::Entries::none_above))]
-fn place(code: u16, bit27: bool) -> Option<Named>
-    ensures { result ≡ place_of bit27 code }
+fn named_row_in_block(code: u16, bit27: bool) -> Option<Named>
+    ensures { result ≡ named_row_at bit27 code }
 {
     if code >= 512 {
         return None;

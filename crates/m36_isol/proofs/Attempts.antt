@@ -6,7 +6,7 @@ use Rattle.std.specs.Prelude.{ℕ, zero, suc, ◌/◌, ◌≤◌, ◌≢◌, Boo
 use Rattle.m36_model.specs.Fields.{AtFields}
 use Rattle.m36_model.specs.Registers.{RegsFields}
 use Rattle.m36_model.specs.Act.{Request, Answer, Act, done, ask}
-use Rattle.m36_model.specs.Store.{Midstep, Served, touches, serve, run}
+use Rattle.m36_model.specs.Store.{Midstep, ServeResult, touches, serve, run}
 use Rattle.m36_model.specs.StoreLaw.{Each}
 use Rattle.m36_model.specs.Core.{core_store}
 use Rattle.m36_model.specs.Flat.{Flat, flat_store}
@@ -91,7 +91,7 @@ module _ {A : Type 0} (g : RegsFields) (dbr : g.dbr ≡ booted_dbr) (start : Fla
 
     held_served : (x : Midstep (List ℕ)) (y : Midstep Flat) (q : Request) (last : Option AtFields) → Stands x y → Follows q.kind last q.at → InPage q → IsReplied core_store g x q (serve core_store g x q) → Each (On (Holds core)) x.refs → Each (On (Holds core)) (serve core_store g x q).mid.refs
     held_served x y q last k follows inside (is_refused why w e low high cause) h =
-        subst (λ (m : Midstep (List ℕ)). Each (On (Holds core)) m.refs) (sym (ap (λ (t : Served (List ℕ)). t.mid) e)) h
+        subst (λ (m : Midstep (List ℕ)). Each (On (Holds core)) m.refs) (sym (ap (λ (t : ServeResult (List ℕ)). t.mid) e)) h
     held_served x y q last k follows inside (is_answered a reply refs d live ordered spots found) h =
         let read = was_read core frames laid kept g dbr start x y k q inside a reply in
         subst (Each (On (Holds core))) (sym refs) (all_known (Holds core) q.kind q x.refs last follows (λ yes. read.holds (touched_page q.kind yes)) h)

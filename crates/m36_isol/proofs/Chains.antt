@@ -7,7 +7,7 @@ use Rattle.m36_model.specs.Registers.{RegsFields}
 use Rattle.m36_model.specs.Act.{Answer, Indirect, Odd}
 use Rattle.m36_model.specs.Modification.{Point, Move, Ends, Fails, Reads, Counts, ends_at, ends_direct, direct_upper, direct_lower, is_direct, move_of_point, move_register, move_register_then_indirect, move_indirect_then_tally, move_indirect_then_register, modifier_value}
 use Rattle.m36_model.specs.Tally.{indirect_only}
-use Rattle.m36_model.specs.Chain.{ChainEnd, Formation, indirect, IndirectKind, Its, Itp, Plain, found, after_word, after_tally, chain_by, chain_exhausted, chain}
+use Rattle.m36_model.specs.Chain.{ChainEnd, Formation, indirect_request, IndirectKind, Its, Itp, Plain, indirect_kind, after_word, after_tally, chain_by, chain_exhausted, chain}
 use Rattle.m36_model.specs.declared.outcome.Halt.{Halt}
 use Rattle.m36_model.specs.declared.outcome.Refusal.{Refusal}
 use Rattle.m36_isol.proofs.Program.{Meets, Either}
@@ -64,10 +64,10 @@ module _ (sdws : ℕ → Result SdwFields Refusal) (r : ℕ) (g : RegsFields) (e
   abbrev MeetsChain : Formation → Type 0
   MeetsChain m = Meets (May sdws r g) (Known sdws g) (Either (InRing r) AnyHalt) m
 
-  may_read_word : (p : Point) (word : ℕ) → r ≤ p.ring → May sdws r g (indirect Indirect p word)
+  may_read_word : (p : Point) (word : ℕ) → r ≤ p.ring → May sdws r g (indirect_request Indirect p word)
   may_read_word p word low = record { some = omega arith; ring = (low, executes) }
 
-  may_read_odd : (p : Point) (word : ℕ) → r ≤ p.ring → May sdws r g (indirect Odd p word)
+  may_read_odd : (p : Point) (word : ℕ) → r ≤ p.ring → May sdws r g (indirect_request Odd p word)
   may_read_odd p word low = record { some = omega arith; ring = (low, executes) }
 
   ends_meets : (p : Point) (last : FinalFields) → r ≤ p.ring → EndsInRing p (Ends last) → r ≤ last.at.ring
@@ -97,7 +97,7 @@ module _ (sdws : ℕ → Result SdwFields Refusal) (r : ℕ) (g : RegsFields) (e
   move_meets next h p low (Ends last) e = ends_meets p last low e
   move_meets next h p low (Fails k) e = tt
   move_meets next h p low (Reads word held) e =
-      (may_read_word p word low, (λ f. tt), (λ a known. word_meets next h p word held a low (found word (slice_index a.words 0))))
+      (may_read_word p word low, (λ f. tt), (λ a known. word_meets next h p word held a low (indirect_kind word (slice_index a.words 0))))
   move_meets next h p low Counts e =
       (may_read_word p p.y low, (λ f. tt), (λ a known. tally_meets p (p.tag % 16) a low (p.tag % 16 == indirect_only)))
 

@@ -4,7 +4,7 @@ use Rattle.std.specs.Prelude.{ℕ, Bool, true, false, ◌&&◌, if◌then◌else
 use Rattle.m36_desc.specs.Fields.{SdwFields, DbrFields}
 use Rattle.m36_desc.specs.Access.{has_ordered_brackets}
 use Rattle.m36_model.specs.Store.{Spot, Change, Store, is_within_bound, place, place_by, when_ordered, place_within, with_part_written}
-use Rattle.m36_model.specs.Sight.{content_in, word_of}
+use Rattle.m36_model.specs.Sight.{content_in, word_if_placed}
 use Rattle.m36_model.specs.StoreLaw.{Each, same_spot, overlay, IsPlacedWord, Lawful}
 use Rattle.m36_model.specs.declared.outcome.Refusal.{Refusal}
 
@@ -46,7 +46,7 @@ module _ {S : Type 0} (o : Store S) (dbr : DbrFields) (Has : S → Type 0) (Lies
       let k = ordered_parts (has_ordered_brackets d) (is_within_bound d w) (L.spots d seg w) p h in
       record { sdw = d; live = live; inside = k.0; found = k.1 }
 
-  same_words : (s t : S) (seg w : ℕ) (v : Result Spot Refusal) → by_tables seg w ≡ v → ((p : Spot) → IsPlacedWord L.sdws L.spots seg w p → o.word s p ≡ o.word t p) → word_of o s v ≡ word_of o t v
+  same_words : (s t : S) (seg w : ℕ) (v : Result Spot Refusal) → by_tables seg w ≡ v → ((p : Spot) → IsPlacedWord L.sdws L.spots seg w p → o.word s p ≡ o.word t p) → word_if_placed o s v ≡ word_if_placed o t v
   same_words s t seg w (Err e) found h = refl
   same_words s t seg w (Ok p) found h = ap (λ (x : ℕ). Some x) (h p (word_by seg w p (L.sdws seg) refl found))
 
@@ -54,7 +54,7 @@ module _ {S : Type 0} (o : Store S) (dbr : DbrFields) (Has : S → Type 0) (Lies
   pub content_equal : (s t : S) → Has s → Has t → (seg w : ℕ) → ((p : Spot) → IsPlacedWord L.sdws L.spots seg w p → o.word s p ≡ o.word t p) → content_in o s dbr seg w ≡ content_in o t dbr seg w
   unfolding content_in
   content_equal s t h k seg w words =
-      ap (word_of o s) (place_tables s h seg w) ∙ same_words s t seg w (by_tables seg w) refl words ∙ sym (ap (word_of o t) (place_tables t k seg w))
+      ap (word_if_placed o s) (place_tables s h seg w) ∙ same_words s t seg w (by_tables seg w) refl words ∙ sym (ap (word_if_placed o t) (place_tables t k seg w))
 
   -- equal content means equal words
   pub words_equal : (s t : S) → Has s → Has t → (seg w : ℕ) (p : Spot) → IsPlacedWord L.sdws L.spots seg w p → content_in o s dbr seg w ≡ content_in o t dbr seg w → o.word s p ≡ o.word t p

@@ -6,7 +6,7 @@ use Rattle.std.proofs.lemmas.List.{get_or-set_same, get_or-set_other}
 use Rattle.m36_desc.specs.Fields.{SdwFields, DbrFields}
 use Rattle.m36_desc.specs.Access.{has_ordered_brackets}
 use Rattle.m36_model.specs.Act.{RequestKind, Part}
-use Rattle.m36_model.specs.Store.{Spot, Core_word, Segment_word, Change, is_within_bound, placed, with_part_written}
+use Rattle.m36_model.specs.Store.{Spot, Core_word, Segment_word, Change, is_within_bound, is_placed, with_part_written}
 use Rattle.m36_model.specs.Sight.{content_in}
 use Rattle.m36_model.specs.Place.{core_sdw, core_spot, core_marked, marks}
 use Rattle.m36_model.specs.Core.{core_store, core_word, put_one, core_put}
@@ -19,10 +19,7 @@ use Rattle.m36_isol.proofs.Places.{place_is, place_parts, content_placed, core_s
 use Rattle.m36_isol.proofs.CoreTables.{Matches, matches, has_tables, same_sdw, same_spot_of}
 use Rattle.m36_isol.proofs.CoreMarks.{IsHarmless, set_matches, marks_match, marks_near, marks_are_ptws, marked_self, marked_then}
 
-pub placed_order : (d : SdwFields) (w : ℕ) → placed d w ≡ true → has_ordered_brackets d ≡ true
-placed_order d w h = (and_parts (has_ordered_brackets d) (is_within_bound d w) h).0
-
-pub placed_within : (d : SdwFields) (w : ℕ) → placed d w ≡ true → is_within_bound d w ≡ true
+pub placed_within : (d : SdwFields) (w : ℕ) → is_placed d w ≡ true → is_within_bound d w ≡ true
 placed_within d w h = (and_parts (has_ordered_brackets d) (is_within_bound d w) h).1
 
 -- the word at an address after one write

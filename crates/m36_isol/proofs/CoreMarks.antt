@@ -13,10 +13,10 @@ use Rattle.m36_model.specs.Place.{with_used, with_modified, marked_word, Mark, d
 use Rattle.m36_model.specs.Core.{unmarked}
 use Rattle.m36_model.specs.Audit.{IsSdwWord, Sdws, Directory, Pages, AreApart}
 use Rattle.m36_model.specs.StoreLaw.{Each}
-use Rattle.m36_model.specs.CoreLaw.{IsPtwWord, IsMarked, IsSameExceptMarks, IsMarkedFrom}
+use Rattle.m36_model.specs.CoreLaw.{IsPtwWord, IsPtwMarked, IsSameExceptMarks, IsMarkedFrom}
 use Rattle.m36_model.specs.declared.outcome.Refusal.{Refusal}
 use Rattle.m36_isol.specs.MarkBits.{MarksKeepBits}
-use Rattle.m36_isol.proofs.Lists.{set_other, set_same, get_set_past, index_of_get}
+use Rattle.m36_word.proofs.Lists.{set_other, set_same, get_set_past, index_of_get}
 use Rattle.m36_isol.proofs.CoreTables.{Matches, same_sdw}
 
 -- setting marks twice
@@ -35,7 +35,7 @@ modified_modified : (w : ℕ) → with_modified (with_used (with_modified (with_
 unfolding with_used with_modified
 modified_modified w = omega arith
 
-marked_again : (u v w : ℕ) → IsMarked u v → IsMarked v w → IsMarked u w
+marked_again : (u v w : ℕ) → IsPtwMarked u v → IsPtwMarked v w → IsPtwMarked u w
 marked_again u v w (inl e) (inl f) = inl (f ∙ ap with_used e ∙ used_used u)
 marked_again u v w (inl e) (inr f) = inr (f ∙ ap (λ (x : ℕ). with_modified (with_used x)) e ∙ modified_used u)
 marked_again u v w (inr e) (inl f) = inr (f ∙ ap with_used e ∙ used_modified u)
@@ -54,7 +54,7 @@ pub unmarked_word : MarksKeepBits
 unmarked_word true w = let same = unmarked_modified w in omega arith
 unmarked_word false w = let same = unmarked_used w in omega arith
 
-is_marked : (modified : Bool) (w : ℕ) → IsMarked w (marked_word modified w)
+is_marked : (modified : Bool) (w : ℕ) → IsPtwMarked w (marked_word modified w)
 is_marked true w = inr refl
 is_marked false w = inl refl
 
@@ -138,7 +138,7 @@ module _ (core : List ℕ) (dbr : DbrFields) where
       mark_here : (found : Option ℕ) → slice_get now m.address ≡ found → IsSameExceptMarks core dbr m.address (slice_index now m.address) (slice_index (with_mark now m) m.address)
       mark_here None k = inl (ap (λ (l : List ℕ). slice_index l m.address) (get_set_past now m.address _ k))
       mark_here (Some x) k =
-          inr (ptw, subst (λ (v : ℕ). IsMarked (slice_index now m.address) v) (sym (get_or-set_same now m.address _ 0 (slice_get_within now m.address x k))) (is_marked m.modified (slice_index now m.address)))
+          inr (ptw, subst (λ (v : ℕ). IsPtwMarked (slice_index now m.address) v) (sym (get_or-set_same now m.address _ 0 (slice_get_within now m.address x k))) (is_marked m.modified (slice_index now m.address)))
 
   mark_near : (now : List ℕ) (m : Mark) → IsPtwWord core dbr m.address → IsMarkedFrom core dbr now (with_mark now m)
   mark_near now m ptw =

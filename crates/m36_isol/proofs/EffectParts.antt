@@ -42,10 +42,6 @@ pub record IsPlain (g : RegsFields) (count : ℕ) (x : EffectFields) : Type 0 wh
 keeps_self : (g : RegsFields) → Keeps g g
 keeps_self g = record { ring = refl; dbr = refl; pointers = λ h. h }
 
-keeps_then : (g h k : RegsFields) → Keeps g h → Keeps h k → Keeps g k
-keeps_then g h k a b =
-    record { ring = b.ring ∙ a.ring; dbr = b.dbr ∙ a.dbr; pointers = λ p. b.pointers (a.pointers p) }
-
 keeps_moved : (g h : RegsFields) → Keeps g h → Keeps g (advanced h)
 unfolding advanced
 keeps_moved g h k = record { ring = k.ring; dbr = k.dbr; pointers = k.pointers }

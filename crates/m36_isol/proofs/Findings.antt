@@ -16,10 +16,6 @@ same_find Breaks (Some p) (Some q) h k = ap (λ (n : ℕ). Some n) (le_antisymm 
 pub holds : (Breaks : ℕ → Type 0) (x : Option ℕ) → x ≡ None → Finds Breaks x → (p : ℕ) → Breaks p → ⊥
 holds Breaks x e h = subst (Finds Breaks) e h
 
-finds_none : (Breaks : ℕ → Type 0) → ((p : ℕ) → Breaks p → ⊥) → (x : Option ℕ) → Finds Breaks x → x ≡ None
-finds_none Breaks none None h = refl
-finds_none Breaks none (Some p) h = absurd (none p h.0)
-
 -- if nothing is listed for a condition, it has no finding
 noted_none : (n : ℕ) (x : Option ℕ) → [] ≡ numbered_finding n x → x ≡ None
 noted_none n None h = refl

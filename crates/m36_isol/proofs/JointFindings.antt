@@ -4,7 +4,7 @@ use Rattle.std.proofs.Common.{◌≡◌, refl, sym, ◌∙◌, subst}
 use Rattle.std.specs.Prelude.{ℕ, zero, suc, ◌+◌, List, [], ◌∷◌, ◌++◌, slice_get, Option, Some, None}
 use Rattle.m36_desc.specs.Fields.{DbrFields}
 use Rattle.m36_model.specs.Audit.{AreFindings, IsAudited}
-use Rattle.m36_model.specs.JointAudit.{IsJointlyAudited, JointFindingFields, findings_of_process, between, AreFindingsFrom, AreJointFindings}
+use Rattle.m36_model.specs.JointAudit.{IsJointlyAudited, JointFindingFields, findings_of_process, joint_finding, AreFindingsFrom, AreJointFindings}
 use Rattle.m36_isol.specs.Findings.{JointFindingsLaw}
 use Rattle.m36_isol.proofs.Findings.{same_find, holds, none_found, findings_law}
 
@@ -12,7 +12,7 @@ none_first : (xs ys : List JointFindingFields) → [] ≡ xs ++ ys → ([] ≡ x
 none_first [] ys h = (refl, h)
 none_first (x ∷ xs) ys h = cc
 
-none_between : (n : ℕ) (x : Option ℕ) → [] ≡ between n x → x ≡ None
+none_between : (n : ℕ) (x : Option ℕ) → [] ≡ joint_finding n x → x ≡ None
 none_between n None h = refl
 none_between n (Some p) h = cc
 
@@ -47,8 +47,8 @@ complete_from i core (d ∷ dbrs) each =
 
 sound_law : (core : List ℕ) (dbrs : List DbrFields) → AreJointFindings core dbrs [] → IsJointlyAudited core dbrs
 sound_law core dbrs f =
-    let last = none_first (f.own ++ between 2 f.second) (between 3 f.third) f.listed in
-    let first = none_first f.own (between 2 f.second) last.0 in
+    let last = none_first (f.own ++ joint_finding 2 f.second) (joint_finding 3 f.third) f.listed in
+    let first = none_first f.own (joint_finding 2 f.second) last.0 in
     record {
       each = sound_from 0 core dbrs (subst (AreFindingsFrom 0 core dbrs) (sym first.0) f.finds_own);
       tables = holds _ f.second (none_between 2 f.second first.1) f.finds_second;
@@ -60,7 +60,7 @@ unique_law core dbrs xs ys f g =
     let own = unique_from 0 core dbrs f.own g.own f.finds_own g.finds_own in
     let second = same_find _ f.second g.second f.finds_second g.finds_second in
     let third = same_find _ f.third g.third f.finds_third g.finds_third in
-    let same : f.own ++ between 2 f.second ++ between 3 f.third ≡ g.own ++ between 2 g.second ++ between 3 g.third = λ k. own k ++ between 2 (second k) ++ between 3 (third k) in
+    let same : f.own ++ joint_finding 2 f.second ++ joint_finding 3 f.third ≡ g.own ++ joint_finding 2 g.second ++ joint_finding 3 g.third = λ k. own k ++ joint_finding 2 (second k) ++ joint_finding 3 (third k) in
     f.listed ∙ same ∙ sym g.listed
 
 nothing_found : (core : List ℕ) (dbrs : List DbrFields) → IsJointlyAudited core dbrs → AreJointFindings core dbrs []

@@ -12,11 +12,11 @@ use Rattle.m36_model.specs.Place.{Mark, with_mark, with_marks, marks, core_sdw, 
 use Rattle.m36_model.specs.Core.{core_store, core_word, put_one, core_put, unmarked}
 use Rattle.m36_model.specs.Audit.{Table, Sdws, Directory, Pages, IsWordOfTable, IsSdwWord, IsSegmentWord, AreApart}
 use Rattle.m36_model.specs.StoreLaw.{Each, overlay, IsPlacedWord, IsSegmentChange, Lawful}
-use Rattle.m36_model.specs.CoreLaw.{HasTables, IsSegmentSpot, IsPtwWord, IsMarked, IsMarkedFrom}
+use Rattle.m36_model.specs.CoreLaw.{HasTables, IsSegmentSpot, IsPtwWord, IsPtwMarked, IsMarkedFrom}
 use Rattle.m36_model.specs.JointAudit.{IsJointlyAudited}
 use Rattle.m36_model.specs.declared.outcome.Refusal.{Refusal}
 use Rattle.m36_isol.proofs.Spots.{each_map}
-use Rattle.m36_isol.proofs.Lists.{index_of_get}
+use Rattle.m36_word.proofs.Lists.{index_of_get}
 use Rattle.m36_isol.proofs.Places.{core_spot_inside}
 use Rattle.m36_isol.proofs.CoreTables.{Matches, matches, has_tables, same_sdw, same_spot_of}
 use Rattle.m36_isol.proofs.CoreMarks.{IsHarmless, ptw_apart, set_matches, unmarked_word, marks_are_ptws, marked_self, marked_then}
@@ -167,7 +167,7 @@ module _ (core : List ℕ) (dbrs : List DbrFields) where
       marked_at now new near (Segment_word s w) lies = absurd lies
       marked_at now new near (Core_word a) lies = by_case (near.words a)
         where
-          by_case : (slice_index new a ≡ slice_index now a) ⊎ (IsPtwWord core dbr a × IsMarked (slice_index now a) (slice_index new a)) → core_word new (Core_word a) ≡ core_word now (Core_word a)
+          by_case : (slice_index new a ≡ slice_index now a) ⊎ (IsPtwWord core dbr a × IsPtwMarked (slice_index now a) (slice_index new a)) → core_word new (Core_word a) ≡ core_word now (Core_word a)
           by_case (inl e) = e
           by_case (inr k) = absurd (ptw_and_word i dbr at a k.0 lies)
 

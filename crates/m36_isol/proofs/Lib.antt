@@ -3,7 +3,6 @@ pub mod Rights
 pub mod Alike
 pub mod Spots
 pub mod Serve
-pub mod Lists
 pub mod CoreTables
 pub mod Places
 pub mod CoreMarks

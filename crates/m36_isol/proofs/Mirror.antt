@@ -7,7 +7,7 @@ use Rattle.m36_desc.specs.Access.{has_ordered_brackets}
 use Rattle.m36_model.specs.Fields.{AtFields}
 use Rattle.m36_model.specs.Registers.{RegsFields}
 use Rattle.m36_model.specs.Act.{RequestKind, Fetch, Indirect, Odd, Read, Write, Transfer, Call, Locate, Put, Request, Answer, Act, done, ask, and_then}
-use Rattle.m36_model.specs.Store.{Spot, Change, Store, Midstep, Served, ProgramResult, violation, fault_by, is_within_bound, spots_with, spots_from, spots_of, places, bound_only, changes, change_of, refusing_violation, serve, serve_sdw, serve_rights, serve_places, with_reference, located_address, run}
+use Rattle.m36_model.specs.Store.{Spot, Change, Store, Midstep, ServeResult, ProgramResult, violation, fault_by, is_within_bound, spots_with, spots_from, spots_of, spots_of_request, bound_only, changes, change_of, refusing_violation, serve, serve_sdw, serve_rights, serve_places, with_reference, located_address, run}
 use Rattle.m36_model.specs.Isolation.{EachTwo}
 use Rattle.m36_model.specs.Residence.{absence}
 use Rattle.m36_model.specs.declared.outcome.Fault.{Fault}
@@ -116,7 +116,7 @@ pub record AreMids {S F : Type 0} (M : S → F → Type 0) (Pair : Spot → Spot
   pub refs : x.refs ≡ y.refs
 
 -- one request to both
-pub data IsPageFaultServed {S F : Type 0} (M : S → F → Type 0) (Pair : Spot → Spot → Type 0) (PageIsAbsent : ℕ → ℕ → Type 0) (start : F) (kind : RequestKind) (x : Midstep S) (t : Served S) (u : Served F) : Type 0 where
+pub data IsPageFaultServed {S F : Type 0} (M : S → F → Type 0) (Pair : Spot → Spot → Type 0) (PageIsAbsent : ℕ → ℕ → Type 0) (start : F) (kind : RequestKind) (x : Midstep S) (t : ServeResult S) (u : ServeResult F) : Type 0 where
   alike : t.reply ≡ u.reply → AreMids M Pair start t.mid u.mid → ((f : Fault) → t.reply ≡ Err f → f.number ≢ 17) → IsPageFaultServed M Pair PageIsAbsent start kind x t u
   cut : (f : Fault) → t.reply ≡ Err f → f.number ≡ 17 → PageIsAbsent f.at.seg f.at.word → t.mid ≡ x → IsPageFaultServed M Pair PageIsAbsent start kind x t u
   told_place : kind ≡ Locate → (a b : Answer) → t.reply ≡ Ok a → u.reply ≡ Ok b → SameButPlace a b → AreMids M Pair start t.mid u.mid → IsPageFaultServed M Pair PageIsAbsent start kind x t u
@@ -126,7 +126,7 @@ abbrev pub asked : RequestKind → AtFields → ℕ → List Put → Request
 asked kind at count pending = record { kind = kind; at = at; count = count; pending = pending }
 
 -- the replies to a kind that reads, to a Write, and to a kind that leaves the store unchanged
-abbrev read_answer : {S : Type 0} → Store S → RegsFields → RequestKind → AtFields → List Put → SdwFields → Midstep S → List Spot → List Reference → Served S
+abbrev read_answer : {S : Type 0} → Store S → RegsFields → RequestKind → AtFields → List Put → SdwFields → Midstep S → List Spot → List Reference → ServeResult S
 read_answer o g kind at pending d m list refs =
     record {
       reply = Ok (record {
@@ -138,14 +138,14 @@ read_answer o g kind at pending d m list refs =
       mid = record { store = o.marked m.store g.dbr kind at.seg at.word; claims = m.claims; refs = refs };
     }
 
-abbrev write_answer : {S : Type 0} → Store S → RegsFields → AtFields → SdwFields → Midstep S → List Spot → List Reference → Served S
+abbrev write_answer : {S : Type 0} → Store S → RegsFields → AtFields → SdwFields → Midstep S → List Spot → List Reference → ServeResult S
 write_answer o g at d m list refs =
     record {
       reply = Ok (record { sdw = d; first = length m.claims; place = 0; words = [] });
       mid = record { store = o.marked m.store g.dbr Write at.seg at.word; claims = m.claims ++ list; refs = refs };
     }
 
-abbrev plain_answer : {S : Type 0} → SdwFields → ℕ → Midstep S → Served S
+abbrev plain_answer : {S : Type 0} → SdwFields → ℕ → Midstep S → ServeResult S
 plain_answer d place m =
     record { reply = Ok (record { sdw = d; first = length m.claims; place = place; words = [] }); mid = m }
 
@@ -157,7 +157,7 @@ module _ {S F : Type 0} (o : Store S) (o' : Store F) (g : RegsFields) (M : S →
   abbrev Stand : Midstep S → Midstep F → Type 0
   Stand x y = AreMids M Pair start x y
 
-  abbrev Serves : RequestKind → Midstep S → Served S → Served F → Type 0
+  abbrev Serves : RequestKind → Midstep S → ServeResult S → ServeResult F → Type 0
   Serves kind x t u = IsPageFaultServed M Pair PageIsAbsent start kind x t u
 
   -- the words at paired spots are equal
@@ -251,8 +251,8 @@ module _ {S F : Type 0} (o : Store S) (o' : Store F) (g : RegsFields) (M : S →
   by_target kind at count pending d x y k false found =
       refused_both kind (fault_by (violation 15) at) x y k (other_number 20 refl)
 
-  by_places : (kind : RequestKind) (at : AtFields) (count : ℕ) (pending : List Put) → 1 ≤ count → (d : SdwFields) (x : Midstep S) (y : Midstep F) → Stand x y → o.sdw x.store g.dbr at.seg ≡ Ok d → has_ordered_brackets d ≡ true → serves_list kind at count pending d x y (places o x.store g.dbr d (asked kind at count pending)) (places o' y.store g.dbr d (asked kind at count pending))
-  unfolding places
+  by_places : (kind : RequestKind) (at : AtFields) (count : ℕ) (pending : List Put) → 1 ≤ count → (d : SdwFields) (x : Midstep S) (y : Midstep F) → Stand x y → o.sdw x.store g.dbr at.seg ≡ Ok d → has_ordered_brackets d ≡ true → serves_list kind at count pending d x y (spots_of_request o x.store g.dbr d (asked kind at count pending)) (spots_of_request o' y.store g.dbr d (asked kind at count pending))
+  unfolding spots_of_request
   by_places Transfer at count pending some d x y k live ordered =
       by_target Transfer at count pending d x y k (is_within_bound d at.word) (λ place. served_plain Transfer d 0 x y k)
   by_places Call at count pending some d x y k live ordered =
@@ -344,7 +344,7 @@ module _ {A S F : Type 0} (o : Store S) (o' : Store F) (g : RegsFields) (M : S �
   two_run (done a) (ask q next) h x y k = absurd h
   two_run (ask q next) n h x y k = absurd h
 
-  by_served : (q : Request) (next : Result Answer Fault → Act A) → Asks post stop R (ask q next) → (x : Midstep S) → M x.store start → (t : Served S) (u : Served F) → IsPageFaultServed M Pair PageIsAbsent start q.kind x t u → ((reply : Result Answer Fault) (a : Midstep S) (b : Midstep F) → Asks post stop R (next reply) → AreMids M Pair start a b → Ends (run o g (next reply) a) (run o' g (next reply) b)) → Ends (run o g (next t.reply) t.mid) (run o' g (next u.reply) u.mid)
+  by_served : (q : Request) (next : Result Answer Fault → Act A) → Asks post stop R (ask q next) → (x : Midstep S) → M x.store start → (t : ServeResult S) (u : ServeResult F) → IsPageFaultServed M Pair PageIsAbsent start q.kind x t u → ((reply : Result Answer Fault) (a : Midstep S) (b : Midstep F) → Asks post stop R (next reply) → AreMids M Pair start a b → Ends (run o g (next reply) a) (run o' g (next reply) b)) → Ends (run o g (next t.reply) t.mid) (run o' g (next u.reply) u.mid)
   by_served q next h x mirrors t u (alike e mids others) rest =
       subst (λ (r : Result Answer Fault). Ends (run o g (next t.reply) t.mid) (run o' g (next r) u.mid)) e (rest t.reply t.mid u.mid (asks_reply q next h t.reply others) mids)
   by_served q next h x mirrors t u (cut f e is lacks mid) rest =

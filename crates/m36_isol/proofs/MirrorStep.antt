@@ -15,12 +15,12 @@ use Rattle.m36_model.specs.Act.{Part, Whole, Left, Right, Answer, Act, either}
 use Rattle.m36_model.specs.Modification.{Point, Move, Ends, Fails, Reads, Counts, ends_at, ends_direct, direct_upper, direct_lower, is_direct, here, halt_at, move_of_point, move_register, move_register_then_indirect, move_indirect_then_tally, move_indirect_then_register, modifier_value}
 use Rattle.m36_model.specs.Tally.{indirect_only}
 use Rattle.m36_model.specs.FirstPoint.{first_point}
-use Rattle.m36_model.specs.Chain.{ChainEnd, Formation, IndirectKind, Its, Itp, Plain, found, after_word, after_tally, chain_by, chain_exhausted, chain}
+use Rattle.m36_model.specs.Chain.{ChainEnd, Formation, IndirectKind, Its, Itp, Plain, indirect_kind, after_word, after_tally, chain_by, chain_exhausted, chain}
 use Rattle.m36_model.specs.Results.{OperandFields, EffectFields}
 use Rattle.m36_model.specs.Effect.{exec, is_absa}
 use Rattle.m36_model.specs.WordsPut.{words_written}
 use Rattle.m36_model.specs.Transfers.{is_taken}
-use Rattle.m36_model.specs.Step.{Performed, Operation, operation_result, with_chain_tally, no_operand, reading_word, reading_words, writing, changing, addressing, transferring, calling, operate_by_kind, operate_direct, operate_on, operate, Ending, outcome_of, outcome_by, outcome_after, halted, completed, operated, indirect_words, addressed, no_address, started, admitted, decode, decoded, program}
+use Rattle.m36_model.specs.Step.{Performed, Operation, operation_result, with_chain_tally, no_operand, reading_word, reading_words, writing, changing, addressing, transferring, calling, operate_by_kind, operate_direct, operate_on, operate, Ending, outcome_of, outcome_by, outcome_after, end_halted, end_completed, operate_and_end, indirect_words, form_and_operate, no_address, execute_admitted, execute_unless_barred, decode, execute_decoded, program}
 use Rattle.m36_model.specs.PagedStep.{DifferInA, IsNoPageFault}
 use Rattle.m36_model.proofs.Computed.{everything}
 use Rattle.m36_model.proofs.PutLaw.{PutsSo, puts_so}
@@ -120,7 +120,7 @@ module _ (g : RegsFields) where
   move_asks next h p (Ends last) own = tt
   move_asks next h p (Fails k) own = own
   move_asks next h p (Reads word held) own =
-      (one, (λ f. refl), (λ a. word_asks next h p word held a (found word (slice_index a.words 0))), (λ k x y same. absurd cc))
+      (one, (λ f. refl), (λ a. word_asks next h p word held a (indirect_kind word (slice_index a.words 0))), (λ k x y same. absurd cc))
   move_asks next h p Counts own =
       (one, (λ f. refl), (λ a. tally_asks p (p.tag % 16) a (p.tag % 16 == indirect_only)), (λ k x y same. absurd cc))
 
@@ -279,7 +279,7 @@ module _ (g : RegsFields) where
   own_present (halt.Fault f) k = k
   own_present (halt.Stop s) k = tt
 
-  halted_asks : (word : Option ℕ) (at : Option FinalFields) (h : Halt) → OwnHalt h → AsksStep (halted g word at h)
+  halted_asks : (word : Option ℕ) (at : Option FinalFields) (h : Halt) → OwnHalt h → AsksStep (end_halted g word at h)
   halted_asks word at h own = record { present = own_present h own; dbr = inl refl }
 
   overflow_present : (b : Bool) → IsNoPageFault (outcome_by b g)
@@ -290,21 +290,21 @@ module _ (g : RegsFields) where
   next_by true mask h = cc
   next_by false mask h = refl
 
-  completed_asks : (e : Effect) (n w : ℕ) (c : ChainEnd) (p : Performed) → decode w ≡ Some (e, n) → LeavesDbr e p → AsksStep (completed g w c.last p)
+  completed_asks : (e : Effect) (n w : ℕ) (c : ChainEnd) (p : Performed) → decode w ≡ Some (e, n) → LeavesDbr e p → AsksStep (end_completed g w c.last p)
   completed_asks e n w c p row h =
       record {
         present = overflow_present (p.overflow && not p.regs.ind.mask);
         dbr = ⊎_elim (λ same. inl same) (λ loads. inr (record { word = w; fetched = refl; number = n; loads = row ∙ ap (λ (x : Effect). Some (x, n)) loads.0; next = next_by p.overflow _ loads.1 })) h;
       }
 
-  ended_asks : (e : Effect) (n w : ℕ) (c : ChainEnd) → decode w ≡ Some (e, n) → (v : Result Performed Halt) → Either (LeavesDbr e) OwnHalt v → AsksStep (either (completed g w c.last) (halted g (Some w) (Some c.last)) v)
+  ended_asks : (e : Effect) (n w : ℕ) (c : ChainEnd) → decode w ≡ Some (e, n) → (v : Result Performed Halt) → Either (LeavesDbr e) OwnHalt v → AsksStep (either (end_completed g w c.last) (end_halted g (Some w) (Some c.last)) v)
   ended_asks e n w c row (Ok p) h = completed_asks e n w c p row h
   ended_asks e n w c row (Err k) h = halted_asks (Some w) (Some c.last) k h
 
-  stopped_by : {A : Type 0} (ok : A → Act Ending) (word : Option ℕ) (at : Option FinalFields) (f : Fault) (v : Result A Halt) → FailsSo f v → Stops StopsSo f (either ok (halted g word at) v)
+  stopped_by : {A : Type 0} (ok : A → Act Ending) (word : Option ℕ) (at : Option FinalFields) (f : Fault) (v : Result A Halt) → FailsSo f v → Stops StopsSo f (either ok (end_halted g word at) v)
   stopped_by ok word at f v h = rw h (record { after = refl; puts = refl; outcome = refl })
 
-  placed_ends : (e : Effect) (n w : ℕ) (c : ChainEnd) → decode w ≡ Some (e, n) → (v v' : Result Performed Halt) → ArePlaced e v v' → EndTwo EndPlaced (either (completed g w c.last) (halted g (Some w) (Some c.last)) v) (either (completed g w c.last) (halted g (Some w) (Some c.last)) v')
+  placed_ends : (e : Effect) (n w : ℕ) (c : ChainEnd) → decode w ≡ Some (e, n) → (v v' : Result Performed Halt) → ArePlaced e v v' → EndTwo EndPlaced (either (end_completed g w c.last) (end_halted g (Some w) (Some c.last)) v) (either (end_completed g w c.last) (end_halted g (Some w) (Some c.last)) v')
   placed_ends e n w c row v v' h =
       rw (h.is, h.other) (record {
         word = w;
@@ -317,32 +317,32 @@ module _ (g : RegsFields) where
         dbr = h.dbr;
       })
 
-  operated_asks : (e : Effect) (n w : ℕ) (c : ChainEnd) → decode w ≡ Some (e, n) → AsksStep (operated e n g w c)
+  operated_asks : (e : Effect) (n w : ℕ) (c : ChainEnd) → decode w ≡ Some (e, n) → AsksStep (operate_and_end e n g w c)
   operated_asks e n w c row =
-      asks_then (Either (LeavesDbr e) OwnHalt) FailsSo (ArePlaced e) EndsSo StopsSo EndPlaced (operate e n g c) _ (operate_asks e n c) (ended_asks e n w c row) (stopped_by (completed g w c.last) (Some w) (Some c.last)) (placed_ends e n w c row)
+      asks_then (Either (LeavesDbr e) OwnHalt) FailsSo (ArePlaced e) EndsSo StopsSo EndPlaced (operate e n g c) _ (operate_asks e n c) (ended_asks e n w c row) (stopped_by (end_completed g w c.last) (Some w) (Some c.last)) (placed_ends e n w c row)
 
-  formed_asks : (e : Effect) (n w : ℕ) → decode w ≡ Some (e, n) → (v : Result ChainEnd Halt) → Either AnyEnd OwnHalt v → AsksStep (either (operated e n g w) (halted g (Some w) None) v)
+  formed_asks : (e : Effect) (n w : ℕ) → decode w ≡ Some (e, n) → (v : Result ChainEnd Halt) → Either AnyEnd OwnHalt v → AsksStep (either (operate_and_end e n g w) (end_halted g (Some w) None) v)
   formed_asks e n w row (Ok c) h = operated_asks e n w c row
   formed_asks e n w row (Err k) h = halted_asks (Some w) None k h
 
-  addressed_asks : (e : Effect) (n w : ℕ) → decode w ≡ Some (e, n) → AsksStep (addressed e n g w)
+  addressed_asks : (e : Effect) (n w : ℕ) → decode w ≡ Some (e, n) → AsksStep (form_and_operate e n g w)
   addressed_asks e n w row =
-      asks_then (Either AnyEnd OwnHalt) FailsSo NoTwo EndsSo StopsSo EndPlaced (chain indirect_words g (first_point g (inst_of w))) _ (chain_asks indirect_words (first_point g (inst_of w))) (formed_asks e n w row) (stopped_by (operated e n g w) (Some w) None) (λ a b none. absurd none)
+      asks_then (Either AnyEnd OwnHalt) FailsSo NoTwo EndsSo StopsSo EndPlaced (chain indirect_words g (first_point g (inst_of w))) _ (chain_asks indirect_words (first_point g (inst_of w))) (formed_asks e n w row) (stopped_by (operate_and_end e n g w) (Some w) None) (λ a b none. absurd none)
 
   no_address_asks : (e : Effect) (w : ℕ) → AsksStep (no_address e g w)
   no_address_asks effect.Mme w = halted_asks (Some w) None (halt_at 2 (here g)) (below 2 (omega arith))
   no_address_asks effect.Drl w = halted_asks (Some w) None (halt_at 6 (here g)) (below 6 (omega arith))
   no_address_asks _ w = halted_asks (Some w) None (halt.Stop stop.Dis) tt
 
-  started_asks : (e : Effect) (n w : ℕ) → decode w ≡ Some (e, n) → (k : Operand) → AsksStep (started e n g w k)
+  started_asks : (e : Effect) (n w : ℕ) → decode w ≡ Some (e, n) → (k : Operand) → AsksStep (execute_admitted e n g w k)
   started_asks e n w row kind.N = no_address_asks e w
   started_asks e n w row _ = addressed_asks e n w row
 
-  admitted_asks : (e : Effect) (n w : ℕ) → decode w ≡ Some (e, n) → (b : Bool) → AsksStep (admitted e n g w b)
+  admitted_asks : (e : Effect) (n w : ℕ) → decode w ≡ Some (e, n) → (b : Bool) → AsksStep (execute_unless_barred e n g w b)
   admitted_asks e n w row true = halted_asks (Some w) None (halt_at 10 (here g)) (below 10 (omega arith))
   admitted_asks e n w row false = started_asks e n w row (operand_of e)
 
-  decoded_asks : (w : ℕ) (right : Bool) (row : Option (Effect × ℕ)) → decode w ≡ row → AsksStep (decoded g w right row)
+  decoded_asks : (w : ℕ) (right : Bool) (row : Option (Effect × ℕ)) → decode w ≡ row → AsksStep (execute_decoded g w right row)
   decoded_asks w right None e = halted_asks (Some w) None (halt.Stop stop.Operation) tt
   decoded_asks w right (Some row) e = admitted_asks row.0 row.1 w e (is_privileged row.0 && not right)
 

@@ -7,7 +7,7 @@ use Rattle.m36_model.specs.Act.{Put}
 use Rattle.m36_model.specs.Store.{Spot, Midstep, ProgramResult, State, changes}
 use Rattle.m36_model.specs.Core.{core_store, core_put}
 use Rattle.m36_model.specs.Laws.{ExecutesLdbr}
-use Rattle.m36_model.specs.Step.{Ending, program, start, run_of_step, step_record, stepped, record_of, state_after}
+use Rattle.m36_model.specs.Step.{Ending, program, start_of_step, run_of_step, step_record, state_after_run, record_of, state_after}
 use Rattle.m36_model.specs.Flat.{Flat, flat_put, flat_store}
 use Rattle.m36_model.specs.BootedCore.{booted_dbr, IsLaid}
 use Rattle.m36_model.specs.Residence.{PageIsAbsent}
@@ -38,7 +38,7 @@ module _ (frames : ℕ) (kept : ℕ → ℕ → ℕ) (g : RegsFields) (core : Li
   mirrors =
       subst (λ (d : DbrFields). Mirrors core_store flat_store d M Pair (PageIsAbsent core)) (sym dbr) (booted_mirrors core frames laid kept)
 
-  begins : AreMids M Pair there.store (start here) (start there)
+  begins : AreMids M Pair there.store (start_of_step here) (start_of_step there)
   begins = record { mirrors = stands_first core frames laid kept; still = refl; claims = tt; refs = refl }
 
   -- what holds of a core that represents a flat memory
@@ -76,7 +76,7 @@ module _ (frames : ℕ) (kept : ℕ → ℕ → ℕ) (g : RegsFields) (core : Li
         after = (value i).after;
         outcome = (value i).outcome;
       } in
-      let state : flat_state kept (stepped core_store x) ≡ stepped flat_store y = λ i. record { regs = (value i).after; store = store i } in
+      let state : flat_state kept (state_after_run core_store x) ≡ state_after_run flat_store y = λ i. record { regs = (value i).after; store = store i } in
       keeps (λ now f k. inl (record { told = told; state = state; present = post.present; dbr = ⊎_elim (λ e. inl (e ∙ dbr)) (λ k. inr (ldbr_of x k)) post.dbr })) _ m
   by_run (lacked fault number lacks stop m) =
       let x = run_of_step core_store here in
@@ -87,7 +87,7 @@ module _ (frames : ℕ) (kept : ℕ → ℕ → ℕ) (g : RegsFields) (core : Li
       let m' : M (core_put x.mid.store (changes claims x.value.puts)) there.store = subst (λ (l : List ℕ). M l there.store) (sym left) m in
       let store = flat_back core frames laid kept _ there.store m' in
       let after = stop.after in
-      let state : flat_state kept (stepped core_store x) ≡ there = λ i. record { regs = after i; store = store i } in
+      let state : flat_state kept (state_after_run core_store x) ≡ there = λ i. record { regs = after i; store = store i } in
       keeps (λ now f k. inr (inl (record { fault = fault; outcome = stop.outcome; number = number; lacks = lacks; state = state }))) there.store m'
   by_run (placed_apart two mids) =
       let x = run_of_step core_store here in
@@ -103,7 +103,7 @@ module _ (frames : ℕ) (kept : ℕ → ℕ → ℕ) (g : RegsFields) (core : Li
 
   paged_step : IsPagedStep frames kept here
   paged_step =
-      by_run (run_mirrors core_store flat_store g M Pair (PageIsAbsent core) mirrors there.store (EndsSo g) (StopsSo g) (EndPlaced g) (present_at g) (program g) (start here) (start there) (program_asks g) begins)
+      by_run (run_mirrors core_store flat_store g M Pair (PageIsAbsent core) mirrors there.store (EndsSo g) (StopsSo g) (EndPlaced g) (present_at g) (program g) (start_of_step here) (start_of_step there) (program_asks g) begins)
 
 pub paged_step_law : PagedStepLaw
 paged_step_law frames kept s dbr laid = paged_step frames kept s.regs s.store dbr laid

@@ -6,10 +6,10 @@ use Rattle.m36_desc.specs.Access.{has_ordered_brackets}
 use Rattle.m36_model.specs.Fields.{AtFields}
 use Rattle.m36_model.specs.Registers.{RegsFields}
 use Rattle.m36_model.specs.Act.{RequestKind, Fetch, Indirect, Odd, Read, Write, Transfer, Call, Locate, Request, Answer, Act, done, ask}
-use Rattle.m36_model.specs.Store.{Spot, Store, Midstep, Served, violation, refused_reply, is_within_bound, spots_with, spots_from, spots_of, spots_of_request_by, places, bound_only, is_target, touches, refusing_violation, serve, serve_sdw, serve_rights, serve_places, with_odd, with_reference, run}
+use Rattle.m36_model.specs.Store.{Spot, Store, Midstep, ServeResult, violation, refused_reply, is_within_bound, spots_with, spots_from, spots_of, spots_of_request_by, spots_of_request, bound_only, is_target, touches, refusing_violation, serve, serve_sdw, serve_rights, serve_places, with_odd, with_reference, run}
 use Rattle.m36_model.specs.StoreLaw.{Each}
 use Rattle.m36_model.specs.Core.{core_store}
-use Rattle.m36_model.specs.Step.{record_of, start, program}
+use Rattle.m36_model.specs.Step.{record_of, start_of_step, program}
 use Rattle.m36_model.specs.declared.outcome.Refusal.{Refusal}
 use Rattle.m36_model.specs.declared.place.Kind.TheVariants as reference
 use Rattle.m36_model.specs.declared.place.Reference.{Reference}
@@ -25,12 +25,12 @@ module _ {S : Type 0} (o : Store S) (g : RegsFields) where
   pub data IsCause (m : Midstep S) (q : Request) (why : Refusal) (w : ℕ) : Type 0 where
     no_descriptor : o.sdw m.store g.dbr q.at.seg ≡ Err why → IsCause m q why w
     no_right : why.number ≡ 20 → IsCause m q why w
-    no_place : (d : SdwFields) → places o m.store g.dbr d q ≡ Err (w, why) → IsCause m q why w
+    no_place : (d : SdwFields) → spots_of_request o m.store g.dbr d q ≡ Err (w, why) → IsCause m q why w
 
   -- a request is refused at one of its words and changes nothing, or its words have spots
-  pub data IsReplied (m : Midstep S) (q : Request) (t : Served S) : Type 0 where
+  pub data IsReplied (m : Midstep S) (q : Request) (t : ServeResult S) : Type 0 where
     is_refused : (why : Refusal) (w : ℕ) → t ≡ refused_reply m q w why → q.at.word ≤ w → w < q.at.word + q.count → IsCause m q why w → IsReplied m q t
-    is_answered : (a : Answer) → t.reply ≡ Ok a → t.mid.refs ≡ with_reference q.kind q m.refs → (d : SdwFields) → o.sdw m.store g.dbr q.at.seg ≡ Ok d → has_ordered_brackets d ≡ true → (spots : List Spot) → places o m.store g.dbr d q ≡ Ok spots → IsReplied m q t
+    is_answered : (a : Answer) → t.reply ≡ Ok a → t.mid.refs ≡ with_reference q.kind q m.refs → (d : SdwFields) → o.sdw m.store g.dbr q.at.seg ≡ Ok d → has_ordered_brackets d ≡ true → (spots : List Spot) → spots_of_request o m.store g.dbr d q ≡ Ok spots → IsReplied m q t
 
   by_next : (r : Result (List Spot) (ℕ × Refusal)) (spot : Spot) (e : ℕ × Refusal) → spots_with r spot ≡ Err e → r ≡ Err e
   by_next (Ok spots) spot e h = cc
@@ -63,11 +63,11 @@ module _ {S : Type 0} (o : Store S) (g : RegsFields) where
   parts_range true s d q e some h = bound_range (is_within_bound d q.at.word) q.at.word q.count e some h
   parts_range false s d q e some h = spots_range s d q.at.seg q.at.word q.count e h
 
-  places_range : (s : S) (d : SdwFields) (q : Request) (e : ℕ × Refusal) → 1 ≤ q.count → places o s g.dbr d q ≡ Err e → (q.at.word ≤ e.0) × (e.0 < q.at.word + q.count)
-  unfolding places
+  places_range : (s : S) (d : SdwFields) (q : Request) (e : ℕ × Refusal) → 1 ≤ q.count → spots_of_request o s g.dbr d q ≡ Err e → (q.at.word ≤ e.0) × (e.0 < q.at.word + q.count)
+  unfolding spots_of_request
   places_range s d q e some h = parts_range (is_target q.kind) s d q e some h
 
-  replied_places : (m : Midstep S) (q : Request) (d : SdwFields) → 1 ≤ q.count → o.sdw m.store g.dbr q.at.seg ≡ Ok d → has_ordered_brackets d ≡ true → (v : Result (List Spot) (ℕ × Refusal)) → places o m.store g.dbr d q ≡ v → IsReplied m q (serve_places o g m q d v)
+  replied_places : (m : Midstep S) (q : Request) (d : SdwFields) → 1 ≤ q.count → o.sdw m.store g.dbr q.at.seg ≡ Ok d → has_ordered_brackets d ≡ true → (v : Result (List Spot) (ℕ × Refusal)) → spots_of_request o m.store g.dbr d q ≡ v → IsReplied m q (serve_places o g m q d v)
   replied_places m q d some live ordered (Err e) h =
       let k = places_range m.store d q e some h in
       is_refused e.1 e.0 refl k.0 k.1 (no_place d h)
@@ -108,8 +108,8 @@ module _ {S : Type 0} (o : Store S) (g : RegsFields) where
   parts_placed true s d q ps plain some h = cc
   parts_placed false s d q ps plain some h = first_placed s d q.at.seg q.at.word q.count ps some h
 
-  pub places_placed : (s : S) (d : SdwFields) (q : Request) (ps : List Spot) → is_target q.kind ≡ false → 1 ≤ q.count → places o s g.dbr d q ≡ Ok ps → IsPlaced s d q.at.seg q.at.word
-  unfolding places
+  pub places_placed : (s : S) (d : SdwFields) (q : Request) (ps : List Spot) → is_target q.kind ≡ false → 1 ≤ q.count → spots_of_request o s g.dbr d q ≡ Ok ps → IsPlaced s d q.at.seg q.at.word
+  unfolding spots_of_request
   places_placed s d q ps plain some h = parts_placed (is_target q.kind) s d q ps plain some h
 
   -- the target of a transfer or call has no page fault
@@ -123,8 +123,8 @@ module _ {S : Type 0} (o : Store S) (g : RegsFields) where
   parts_number true s d q x why target h = bound_number (is_within_bound d q.at.word) q.at.word x why h
   parts_number false s d q x why target h = cc
 
-  places_number : (s : S) (d : SdwFields) (q : Request) (x : ℕ) (why : Refusal) → is_target q.kind ≡ true → places o s g.dbr d q ≡ Err (x, why) → why.number ≡ 20
-  unfolding places
+  places_number : (s : S) (d : SdwFields) (q : Request) (x : ℕ) (why : Refusal) → is_target q.kind ≡ true → spots_of_request o s g.dbr d q ≡ Err (x, why) → why.number ≡ 20
+  unfolding spots_of_request
   places_number s d q x why target h = parts_number (is_target q.kind) s d q x why target h
 
   other_number : (n : ℕ) → n ≡ 20 → n ≢ 17
@@ -172,9 +172,9 @@ cost_least true j k h = omega arith
 cost_least false j k h = h
 
 module _ {A S : Type 0} (o : Store S) (g : RegsFields) (post : ℕ → ℕ → A → Type 0) where
-  served_count : (m : Midstep S) (q : Request) (j k : ℕ) → cost (adds q.kind) j ≤ k → (t : Served S) → IsReplied o g m q t → length t.mid.refs + j ≤ length m.refs + k
+  served_count : (m : Midstep S) (q : Request) (j k : ℕ) → cost (adds q.kind) j ≤ k → (t : ServeResult S) → IsReplied o g m q t → length t.mid.refs + j ≤ length m.refs + k
   served_count m q j k h t (is_refused why w e low high cause) =
-      let same : length t.mid.refs ≡ length m.refs = ap (λ (x : Served S). length x.mid.refs) e in
+      let same : length t.mid.refs ≡ length m.refs = ap (λ (x : ServeResult S). length x.mid.refs) e in
       let least = cost_least (adds q.kind) j k h in
       omega arith
   served_count m q j k h t (is_answered a reply refs d live ordered spots found) =
@@ -195,7 +195,7 @@ module _ {A S : Type 0} (o : Store S) (g : RegsFields) (post : ℕ → ℕ → A
 pub few_references : FewReferencesLaw
 unfolding record_of
 few_references s =
-    references_few core_store s.regs (λ n k a. Unit {0}) 18 20 None (program s.regs) (start s) (program_plan s.regs)
+    references_few core_store s.regs (λ n k a. Unit {0}) 18 20 None (program s.regs) (start_of_step s) (program_plan s.regs)
 
 -- ---- the pages of references
 
@@ -294,9 +294,9 @@ module _ (K : ℕ → ℕ → Type 0) where
   all_known Locate q refs last follows here h = h
 
 module _ {A S : Type 0} (o : Store S) (g : RegsFields) (post : ℕ → ℕ → A → Type 0) (K : ℕ → ℕ → Type 0) where
-  known_served : (m : Midstep S) (q : Request) (last : Option AtFields) → Follows q.kind last q.at → EndsAt m.refs last → (t : Served S) → IsReplied o g m q t → Each (On K) t.mid.refs → Each (On K) m.refs
+  known_served : (m : Midstep S) (q : Request) (last : Option AtFields) → Follows q.kind last q.at → EndsAt m.refs last → (t : ServeResult S) → IsReplied o g m q t → Each (On K) t.mid.refs → Each (On K) m.refs
   known_served m q last follows ends t (is_refused why w e low high cause) h =
-      subst (Each (On K)) (ap (λ (x : Served S). x.mid.refs) e) h
+      subst (Each (On K)) (ap (λ (x : ServeResult S). x.mid.refs) e) h
   known_served m q last follows ends t (is_answered a reply refs d live ordered spots found) h =
       (was_known K q.kind q m.refs last follows ends (subst (Each (On K)) refs h)).before
 

@@ -4,9 +4,9 @@ use Rattle.std.specs.Prelude.{ℕ, ◌<◌, Bool, true, false, ◌&&◌, List, l
 use Rattle.std.proofs.lemmas.Bool.{ltb-true}
 use Rattle.m36_desc.specs.Fields.{SdwFields, DbrFields}
 use Rattle.m36_desc.specs.Access.{has_ordered_brackets}
-use Rattle.m36_model.specs.Store.{Spot, Core_word, Store, is_within_bound, placed, place, place_by, when_ordered, place_within}
+use Rattle.m36_model.specs.Store.{Spot, Core_word, Store, is_within_bound, is_placed, place, place_by, when_ordered, place_within}
 use Rattle.m36_model.specs.Place.{core_spot, spot_in_core, spot_in_core_by}
-use Rattle.m36_model.specs.Sight.{content_in, word_of}
+use Rattle.m36_model.specs.Sight.{content_in, word_if_placed}
 use Rattle.m36_model.specs.declared.outcome.Refusal.{Refusal}
 
 place_joined : (a b : Bool) (spot : Result Spot Refusal) → (a && b) ≡ true → when_ordered a (place_within b spot) ≡ spot
@@ -18,7 +18,7 @@ place_joined false b spot h = cc
 pub record IsPlaced {S : Type 0} (o : Store S) (s : S) (dbr : DbrFields) (seg w : ℕ) (p : Spot) : Type 0 where
   pub sdw : SdwFields
   pub live : o.sdw s dbr seg ≡ Ok sdw
-  pub inside : placed sdw w ≡ true
+  pub inside : is_placed sdw w ≡ true
   pub found : o.spot s dbr sdw seg w ≡ Ok p
 
 pub place_is : {S : Type 0} (o : Store S) (s : S) (dbr : DbrFields) (seg w : ℕ) (p : Spot) → IsPlaced o s dbr seg w p → place o s dbr seg w ≡ Ok p
@@ -44,7 +44,7 @@ place_parts o s dbr seg w p h = place_taken o s dbr seg w p (o.sdw s dbr seg) re
 -- the content of a word with a spot is the word at this spot
 pub content_placed : {S : Type 0} (o : Store S) (s : S) (dbr : DbrFields) (seg w : ℕ) (p : Spot) → IsPlaced o s dbr seg w p → content_in o s dbr seg w ≡ Some (o.word s p)
 unfolding content_in
-content_placed o s dbr seg w p h = ap (word_of o s) (place_is o s dbr seg w p h)
+content_placed o s dbr seg w p h = ap (word_if_placed o s) (place_is o s dbr seg w p h)
 
 -- the spot of a word in core is an address inside core
 pub record IsInside (core : List ℕ) (p : Spot) : Type 0 where

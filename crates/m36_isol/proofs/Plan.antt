@@ -16,10 +16,10 @@ use Rattle.m36_model.specs.Act as act
 use Rattle.m36_model.specs.Modification.{Point, Move, Ends, Fails, Reads, Counts, at_point, move_of_point}
 use Rattle.m36_model.specs.FirstPoint.{first_point}
 use Rattle.m36_model.specs.Tally.{indirect_only}
-use Rattle.m36_model.specs.Chain.{indirect, ChainEnd, Formation, IndirectKind, Its, Itp, Plain, found, kind_by_tag, after_word, after_tally, chain_by, chain_exhausted, chain}
+use Rattle.m36_model.specs.Chain.{indirect_request, ChainEnd, Formation, IndirectKind, Its, Itp, Plain, indirect_kind, kind_by_tag, after_word, after_tally, chain_by, chain_exhausted, chain}
 use Rattle.m36_model.specs.Transfers.{is_taken}
 use Rattle.m36_model.specs.Effect.{is_absa}
-use Rattle.m36_model.specs.Step.{Performed, Operation, request_at, with_chain_tally, reading_word, changing, addressing, transferring, operate_by_kind, operate_direct, operate_on, operate, Ending, halted, completed, fetched, operated, indirect_words, addressed, no_address, started, admitted, decode, decoded, program}
+use Rattle.m36_model.specs.Step.{Performed, Operation, request_at, with_chain_tally, reading_word, changing, addressing, transferring, operate_by_kind, operate_direct, operate_on, operate, Ending, end_halted, end_completed, execute_fetched, operate_and_end, indirect_words, form_and_operate, no_address, execute_admitted, execute_unless_barred, decode, execute_decoded, program}
 use Rattle.m36_model.specs.declared.outcome.Fault.{Fault}
 use Rattle.m36_model.specs.declared.outcome.Halt.{Halt}
 use Rattle.m36_model.specs.declared.outcome.Halt.TheVariants as halt
@@ -134,8 +134,8 @@ field_even : (w : ℕ) (b : Bool) (f : IndirectKind) → (w % 2 == 0) ≡ b → 
 field_even w true f e h = eqb-true (w % 2) 0 e
 field_even w false f e h = absurd (h refl)
 
-pair_even : (w v : ℕ) → found w v ≢ Plain → w % 2 ≡ 0
-unfolding found
+pair_even : (w v : ℕ) → indirect_kind w v ≢ Plain → w % 2 ≡ 0
+unfolding indirect_kind
 pair_even w v h = field_even w (w % 2 == 0) (kind_by_tag (field v 30 6)) refl h
 
 module _ (g : RegsFields) where
@@ -163,7 +163,7 @@ module _ (g : RegsFields) where
       let page : word / 1024 ≡ (word + 1) / 1024 = omega arith in
       same_is (at_point p word) (at_point p (word + 1)) refl page
 
-  odd_plan : (c n k : ℕ) (next : Point → Formation) → PlansOn c next → c + 1 ≤ n → c + 3 ≤ k → (p : Point) (word : ℕ) → word % 2 ≡ 0 → (point : Answer → Point) → PlansChain n k (Some (at_point p word)) (refer (indirect Odd p (word + 1)) (λ b. next (point b)))
+  odd_plan : (c n k : ℕ) (next : Point → Formation) → PlansOn c next → c + 1 ≤ n → c + 3 ≤ k → (p : Point) (word : ℕ) → word % 2 ≡ 0 → (point : Answer → Point) → PlansChain n k (Some (at_point p word)) (refer (indirect_request Odd p (word + 1)) (λ b. next (point b)))
   odd_plan c n k next h x y p word even point =
       (one_in (word + 1), (refl, refl, even), n, k, free _ n (odd_free p word even), omega arith, (λ reply. answered_plan Left n k None (λ b. next (point b)) (λ b. h n k None (point b) x y) (λ why. (omega arith, omega arith)) reply))
 
@@ -185,10 +185,10 @@ module _ (g : RegsFields) where
   move_plan c next h n k last x y p (Ends at) = (omega arith, omega arith)
   move_plan c next h n k last x y p (Fails why) = (omega arith, omega arith)
   move_plan c next h n k last x y p (Reads word held) =
-      let most = cost_more (fresh last (indirect Indirect p word)) (c + 1) in
-      (one_in word, tt, c + 1, c + 3, omega arith, omega arith, (λ reply. answered_plan Left (c + 1) (c + 3) _ _ (λ a. word_plan c (c + 1) (c + 3) next h (omega arith) (omega arith) p word held a (found word (slice_index a.words 0)) (pair_even word (slice_index a.words 0))) (λ why. (omega arith, omega arith)) reply))
+      let most = cost_more (fresh last (indirect_request Indirect p word)) (c + 1) in
+      (one_in word, tt, c + 1, c + 3, omega arith, omega arith, (λ reply. answered_plan Left (c + 1) (c + 3) _ _ (λ a. word_plan c (c + 1) (c + 3) next h (omega arith) (omega arith) p word held a (indirect_kind word (slice_index a.words 0)) (pair_even word (slice_index a.words 0))) (λ why. (omega arith, omega arith)) reply))
   move_plan c next h n k last x y p Counts =
-      let most = cost_more (fresh last (indirect Indirect p p.y)) (c + 1) in
+      let most = cost_more (fresh last (indirect_request Indirect p p.y)) (c + 1) in
       (one_in p.y, tt, c + 1, c + 3, omega arith, omega arith, (λ reply. answered_plan Left (c + 1) (c + 3) _ _ (λ a. tally_plan (c + 1) (c + 3) (omega arith) (omega arith) p (p.tag % 16) a (p.tag % 16 == indirect_only)) (λ why. (omega arith, omega arith)) reply))
 
   chain_plan : (c : ℕ) → PlansOn c (chain c g)
@@ -267,16 +267,16 @@ module _ (g : RegsFields) where
   abbrev PlansStep : ℕ → ℕ → Option AtFields → Act Ending → Type 0
   PlansStep n k last m = Plan Any n k last m
 
-  ended_plan : (e : Effect) (i w : ℕ) (c : ChainEnd) (n k : ℕ) (last : Option AtFields) (v : Result Performed Halt) → PlansStep n k last (either (completed g w c.last) (halted g (Some w) (Some c.last)) v)
+  ended_plan : (e : Effect) (i w : ℕ) (c : ChainEnd) (n k : ℕ) (last : Option AtFields) (v : Result Performed Halt) → PlansStep n k last (either (end_completed g w c.last) (end_halted g (Some w) (Some c.last)) v)
   ended_plan e i w c n k last (Ok p) = tt
   ended_plan e i w c n k last (Err h) = tt
 
-  operated_plan : (e : Effect) (i w : ℕ) (n k : ℕ) (last : Option AtFields) → 1 ≤ n → 2 ≤ k → (v : Result ChainEnd Halt) → PlansStep n k last (either (operated e i g w) (halted g (Some w) None) v)
+  operated_plan : (e : Effect) (i w : ℕ) (n k : ℕ) (last : Option AtFields) → 1 ≤ n → 2 ≤ k → (v : Result ChainEnd Halt) → PlansStep n k last (either (operate_and_end e i g w) (end_halted g (Some w) None) v)
   operated_plan e i w n k last x y (Ok c) =
       plan_then Any Any n k last (operate e i g c) _ (operate_plan e i n k last x y c) (λ m j at v done. ended_plan e i w c m j at v)
   operated_plan e i w n k last x y (Err h) = tt
 
-  addressed_plan : (e : Effect) (i w : ℕ) (last : Option AtFields) → PlansStep 17 19 last (addressed e i g w)
+  addressed_plan : (e : Effect) (i w : ℕ) (last : Option AtFields) → PlansStep 17 19 last (form_and_operate e i g w)
   addressed_plan e i w last =
       plan_then Left Any 17 19 last (chain indirect_words g (first_point g (inst_of w))) _ (chain_plan indirect_words 17 19 last (first_point g (inst_of w)) (omega arith) (omega arith)) (λ m j at v left. operated_plan e i w m j at left.0 left.1 v)
 
@@ -285,20 +285,20 @@ module _ (g : RegsFields) where
   no_address_plan effect.Drl w last = tt
   no_address_plan _ w last = tt
 
-  started_plan : (e : Effect) (i w : ℕ) (last : Option AtFields) (o : Operand) → PlansStep 17 19 last (started e i g w o)
+  started_plan : (e : Effect) (i w : ℕ) (last : Option AtFields) (o : Operand) → PlansStep 17 19 last (execute_admitted e i g w o)
   started_plan e i w last kind.N = no_address_plan e w last
   started_plan e i w last _ = addressed_plan e i w last
 
-  admitted_plan : (e : Effect) (i w : ℕ) (last : Option AtFields) (refused : Bool) → PlansStep 17 19 last (admitted e i g w refused)
+  admitted_plan : (e : Effect) (i w : ℕ) (last : Option AtFields) (refused : Bool) → PlansStep 17 19 last (execute_unless_barred e i g w refused)
   admitted_plan e i w last true = tt
   admitted_plan e i w last false = started_plan e i w last (operand_of e)
 
-  decoded_plan : (w : ℕ) (right : Bool) (last : Option AtFields) (row : Option (Effect × ℕ)) → PlansStep 17 19 last (decoded g w right row)
+  decoded_plan : (w : ℕ) (right : Bool) (last : Option AtFields) (row : Option (Effect × ℕ)) → PlansStep 17 19 last (execute_decoded g w right row)
   decoded_plan w right last None = tt
   decoded_plan w right last (Some row) =
       admitted_plan row.0 row.1 w last (is_privileged row.0 && not right)
 
-  fetched_plan : (last : Option AtFields) (reply : Result Answer Fault) → PlansStep 17 19 last (fetched g reply)
+  fetched_plan : (last : Option AtFields) (reply : Result Answer Fault) → PlansStep 17 19 last (execute_fetched g reply)
   fetched_plan last (Err f) = tt
   fetched_plan last (Ok a) = decoded_plan (slice_index a.words 0) _ last (decode (slice_index a.words 0))
 

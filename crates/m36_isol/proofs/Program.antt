@@ -4,7 +4,7 @@ use Rattle.std.proofs.Common.{◌≡◌, refl, subst}
 use Rattle.std.specs.Prelude.{Result, Ok, Err}
 use Rattle.m36_model.specs.Registers.{RegsFields}
 use Rattle.m36_model.specs.Act.{Request, Answer, Act, done, ask, and_then}
-use Rattle.m36_model.specs.Store.{Store, Midstep, Served, ProgramResult, serve, run}
+use Rattle.m36_model.specs.Store.{Store, Midstep, ServeResult, ProgramResult, serve, run}
 use Rattle.m36_model.specs.declared.outcome.Fault.{Fault}
 use Rattle.m36_model.specs.declared.outcome.Halt.{Halt}
 
@@ -28,7 +28,7 @@ Either ok halted (Ok a) = ok a
 Either ok halted (Err h) = halted h
 
 -- the replies to one request to two stores
-pub record ArePageFaultsServed {S S' : Type 0} (Alike : Midstep S → Midstep S' → Type 0) (Known : Answer → Type 0) (t : Served S) (u : Served S') : Type 0 where
+pub record ArePageFaultsServed {S S' : Type 0} (Alike : Midstep S → Midstep S' → Type 0) (Known : Answer → Type 0) (t : ServeResult S) (u : ServeResult S') : Type 0 where
   pub reply : t.reply ≡ u.reply
   pub mid : Alike t.mid u.mid
   pub known : (a : Answer) → t.reply ≡ Ok a → Known a

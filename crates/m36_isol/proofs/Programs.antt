@@ -17,7 +17,7 @@ use Rattle.m36_model.specs.Act.{Act, either}
 use Rattle.m36_model.specs.Modification.{here, halt_at}
 use Rattle.m36_model.specs.FirstPoint.{first_point, first_point_by}
 use Rattle.m36_model.specs.Chain.{ChainEnd, chain}
-use Rattle.m36_model.specs.Step.{Performed, Ending, outcome_after, halted, completed, operate, operated, indirect_words, addressed, no_address, started, admitted, decode, decoded, has_right, program}
+use Rattle.m36_model.specs.Step.{Performed, Ending, outcome_after, end_halted, end_completed, operate, operate_and_end, indirect_words, form_and_operate, no_address, execute_admitted, execute_unless_barred, decode, execute_decoded, has_right, program}
 use Rattle.m36_model.specs.Audit.{is_stack_of, IsGuarded}
 use Rattle.m36_model.specs.Isolation.{HasPointers}
 use Rattle.m36_model.specs.declared.outcome.Halt.{Halt}
@@ -74,7 +74,7 @@ module _ (sdws : ℕ → Result SdwFields Refusal) (r : ℕ) (g : RegsFields) wh
   next_by true mask h = cc
   next_by false mask h = refl
 
-  completed_meets : (e : Effect) (n w : ℕ) (c : ChainEnd) (p : Performed) → decode w ≡ Some (e, n) → (e ≡ effect.Ldbr → g.ppr.prr ≡ 0) → IsPerformed sdws r g e c p → MeetsEnd (completed g w c.last p)
+  completed_meets : (e : Effect) (n w : ℕ) (c : ChainEnd) (p : Performed) → decode w ≡ Some (e, n) → (e ≡ effect.Ldbr → g.ppr.prr ≡ 0) → IsPerformed sdws r g e c p → MeetsEnd (end_completed g w c.last p)
   completed_meets e n w c p row lowest h =
       record {
         ring = ⊎_elim (λ above. inl above) (λ fallen. inr (gone fallen)) h.ring;
@@ -119,7 +119,7 @@ module _ (sdws : ℕ → Result SdwFields Refusal) (r : ℕ) (g : RegsFields) wh
           }
 
   module _ (low : r ≤ g.ppr.prr) where
-    halted_meets : (word : Option ℕ) (at : Option FinalFields) (h : Halt) → MeetsEnd (halted g word at h)
+    halted_meets : (word : Option ℕ) (at : Option FinalFields) (h : Halt) → MeetsEnd (end_halted g word at h)
     halted_meets word at h = record { ring = inl low; dbr = inl refl; pointers = λ k. k }
 
     first_low : (b : Bool) (i : InstFields) → r ≤ (first_point_by b g i).ring
@@ -136,24 +136,24 @@ module _ (sdws : ℕ → Result SdwFields Refusal) (r : ℕ) (g : RegsFields) wh
     no_address_meets _ w = halted_meets (Some w) None (halt.Stop stop.Dis)
 
     module _ (guarded : IsGuarded g.dbr sdws) (executes : Sees sdws r g.ppr.psr) where
-      operation_meets : (e : Effect) (n w : ℕ) (c : ChainEnd) → decode w ≡ Some (e, n) → (e ≡ effect.Ldbr → g.ppr.prr ≡ 0) → (v : Result Performed Halt) → Either (IsPerformed sdws r g e c) AnyHalt v → MeetsEnd (either (completed g w c.last) (halted g (Some w) (Some c.last)) v)
+      operation_meets : (e : Effect) (n w : ℕ) (c : ChainEnd) → decode w ≡ Some (e, n) → (e ≡ effect.Ldbr → g.ppr.prr ≡ 0) → (v : Result Performed Halt) → Either (IsPerformed sdws r g e c) AnyHalt v → MeetsEnd (either (end_completed g w c.last) (end_halted g (Some w) (Some c.last)) v)
       operation_meets e n w c row lowest (Ok p) h = completed_meets e n w c p row lowest h
       operation_meets e n w c row lowest (Err k) h = halted_meets (Some w) (Some c.last) k
 
-      chain_end_meets : (e : Effect) (n w : ℕ) → decode w ≡ Some (e, n) → (e ≡ effect.Ldbr → g.ppr.prr ≡ 0) → (v : Result ChainEnd Halt) → Either (InRing r) AnyHalt v → MeetsEnd (either (operated e n g w) (halted g (Some w) None) v)
+      chain_end_meets : (e : Effect) (n w : ℕ) → decode w ≡ Some (e, n) → (e ≡ effect.Ldbr → g.ppr.prr ≡ 0) → (v : Result ChainEnd Halt) → Either (InRing r) AnyHalt v → MeetsEnd (either (operate_and_end e n g w) (end_halted g (Some w) None) v)
       chain_end_meets e n w row lowest (Ok c) h =
           meets_then (May sdws r g) (Known sdws g) (Either (IsPerformed sdws r g e c) AnyHalt) IsEnded (operate e n g c) _ (operate_meets sdws r g low executes guarded e n c h) (operation_meets e n w c row lowest)
       chain_end_meets e n w row lowest (Err k) h = halted_meets (Some w) None k
 
-      addressed_meets : (e : Effect) (n w : ℕ) → decode w ≡ Some (e, n) → (e ≡ effect.Ldbr → g.ppr.prr ≡ 0) → MeetsEnd (addressed e n g w)
+      addressed_meets : (e : Effect) (n w : ℕ) → decode w ≡ Some (e, n) → (e ≡ effect.Ldbr → g.ppr.prr ≡ 0) → MeetsEnd (form_and_operate e n g w)
       addressed_meets e n w row lowest =
           meets_then (May sdws r g) (Known sdws g) (Either (InRing r) AnyHalt) IsEnded (chain indirect_words g (first_point g (inst_of w))) _ (chain_meets sdws r g executes indirect_words (first_point g (inst_of w)) (first_point_low (inst_of w))) (chain_end_meets e n w row lowest)
 
-      started_meets : (e : Effect) (n w : ℕ) → decode w ≡ Some (e, n) → (e ≡ effect.Ldbr → g.ppr.prr ≡ 0) → (k : Operand) → MeetsEnd (started e n g w k)
+      started_meets : (e : Effect) (n w : ℕ) → decode w ≡ Some (e, n) → (e ≡ effect.Ldbr → g.ppr.prr ≡ 0) → (k : Operand) → MeetsEnd (execute_admitted e n g w k)
       started_meets e n w row lowest kind.N = no_address_meets e w
       started_meets e n w row lowest _ = addressed_meets e n w row lowest
 
-      admitted_meets : (e : Effect) (n w : ℕ) → decode w ≡ Some (e, n) → (refused : Bool) → (refused ≡ false → e ≡ effect.Ldbr → g.ppr.prr ≡ 0) → MeetsEnd (admitted e n g w refused)
+      admitted_meets : (e : Effect) (n w : ℕ) → decode w ≡ Some (e, n) → (refused : Bool) → (refused ≡ false → e ≡ effect.Ldbr → g.ppr.prr ≡ 0) → MeetsEnd (execute_unless_barred e n g w refused)
       admitted_meets e n w row true lowest = halted_meets (Some w) None (halt_at 10 (here g))
       admitted_meets e n w row false lowest = started_meets e n w row (lowest refl) (operand_of e)
 
@@ -162,7 +162,7 @@ module _ (sdws : ℕ → Result SdwFields Refusal) (r : ℕ) (g : RegsFields) wh
       ldbr_lowest e true lowest h is = lowest refl
       ldbr_lowest e false lowest h is = let k = ap is_privileged is in cc
 
-      decoded_meets : (w : ℕ) (right : Bool) → (right ≡ true → g.ppr.prr ≡ 0) → (row : Option (Effect × ℕ)) → decode w ≡ row → MeetsEnd (decoded g w right row)
+      decoded_meets : (w : ℕ) (right : Bool) → (right ≡ true → g.ppr.prr ≡ 0) → (row : Option (Effect × ℕ)) → decode w ≡ row → MeetsEnd (execute_decoded g w right row)
       decoded_meets w right lowest None e = halted_meets (Some w) None (halt.Stop stop.Operation)
       decoded_meets w right lowest (Some row) e =
           admitted_meets row.0 row.1 w e (is_privileged row.0 && not right) (ldbr_lowest row.0 right lowest)

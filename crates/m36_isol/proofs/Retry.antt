@@ -7,7 +7,7 @@ use Rattle.m36_desc.specs.Access.{has_ordered_brackets}
 use Rattle.m36_model.specs.Fields.{AtFields}
 use Rattle.m36_model.specs.Registers.{RegsFields}
 use Rattle.m36_model.specs.Act.{RequestKind, Fetch, Indirect, Odd, Read, Write, Transfer, Call, Locate, Request, Answer, Act, done, ask}
-use Rattle.m36_model.specs.Store.{Spot, Midstep, Served, violation, fault_by, is_within_bound, place, place_by, place_within, when_ordered, places, is_target, touches, with_reference, serve}
+use Rattle.m36_model.specs.Store.{Spot, Midstep, ServeResult, violation, fault_by, is_within_bound, place, place_by, place_within, when_ordered, spots_of_request, is_target, touches, with_reference, serve}
 use Rattle.m36_model.specs.Core.{core_store}
 use Rattle.m36_model.specs.Place.{core_sdw, core_spot}
 use Rattle.m36_model.specs.Flat.{Flat, flat_store}
@@ -156,7 +156,7 @@ module _ (core : List ℕ) (frames : ℕ) (laid : IsLaid core frames) where
         subst (λ (d : DbrFields). Mirrors core_store flat_store d M Pair (PageIsAbsent core)) (sym dbr) (booted_mirrors core frames laid kept)
 
     -- the page of an answered reference is in a frame
-    answered_holds : (x : Midstep (List ℕ)) (y : Midstep Flat) → Stand x y → (q : Request) → is_target q.kind ≡ false → 1 ≤ q.count → (d : SdwFields) → core_sdw x.store g.dbr q.at.seg ≡ Ok d → (spots : List Spot) → places core_store x.store g.dbr d q ≡ Ok spots → HoldsAt core q.at
+    answered_holds : (x : Midstep (List ℕ)) (y : Midstep Flat) → Stand x y → (q : Request) → is_target q.kind ≡ false → 1 ≤ q.count → (d : SdwFields) → core_sdw x.store g.dbr q.at.seg ≡ Ok d → (spots : List Spot) → spots_of_request core_store x.store g.dbr d q ≡ Ok spots → HoldsAt core q.at
     answered_holds x y k q plain some d live spots found page absent =
         let p = places_placed core_store g x.store d q spots plain some found in
         let matching = k.mirrors.matching in
@@ -173,9 +173,9 @@ module _ (core : List ℕ) (frames : ℕ) (laid : IsLaid core frames) where
       pub seg : f.at.seg ≡ q.at.seg
       pub page : f.at.word / 1024 ≡ q.at.word / 1024
 
-    fault_place : (x : Midstep (List ℕ)) (q : Request) → InPage q → (t : Served (List ℕ)) → IsReplied core_store g x q t → (f : Fault) → t.reply ≡ Err f → (f.at.seg ≡ q.at.seg) × (f.at.word / 1024 ≡ q.at.word / 1024)
+    fault_place : (x : Midstep (List ℕ)) (q : Request) → InPage q → (t : ServeResult (List ℕ)) → IsReplied core_store g x q t → (f : Fault) → t.reply ≡ Err f → (f.at.seg ≡ q.at.seg) × (f.at.word / 1024 ≡ q.at.word / 1024)
     fault_place x q inside t (is_refused why w e low high cause) f h =
-        let reply : t.reply ≡ Err (fault_by why (record { seg = q.at.seg; word = w; ring = q.at.ring })) = ap (λ (s : Served (List ℕ)). s.reply) e in
+        let reply : t.reply ≡ Err (fault_by why (record { seg = q.at.seg; word = w; ring = q.at.ring })) = ap (λ (s : ServeResult (List ℕ)). s.reply) e in
         let same : fault_by why (record { seg = q.at.seg; word = w; ring = q.at.ring }) ≡ f = cc in
         let word : w ≡ f.at.word = ap (λ (x : Fault). x.at.word) same in
         let fits = inside.0 in
@@ -219,9 +219,9 @@ module _ (core : List ℕ) (frames : ℕ) (laid : IsLaid core frames) where
         on_served post stop R x y q next asks inside (serve_mirrors core_store flat_store g M Pair (PageIsAbsent core) mirrors start x y k q inside.1)
 
     -- a target has no page
-    target_by : (x : Midstep (List ℕ)) (y : Midstep Flat) → Stand x y → (q : Request) → is_target q.kind ≡ true → (t : Served (List ℕ)) → IsReplied core_store g x q t → (f : Fault) → t.reply ≡ Err f → f.number ≢ 17
+    target_by : (x : Midstep (List ℕ)) (y : Midstep Flat) → Stand x y → (q : Request) → is_target q.kind ≡ true → (t : ServeResult (List ℕ)) → IsReplied core_store g x q t → (f : Fault) → t.reply ≡ Err f → f.number ≢ 17
     target_by x y k q target t (is_refused why w e low high cause) f h number =
-        let reply : t.reply ≡ Err (fault_by why (record { seg = q.at.seg; word = w; ring = q.at.ring })) = ap (λ (s : Served (List ℕ)). s.reply) e in
+        let reply : t.reply ≡ Err (fault_by why (record { seg = q.at.seg; word = w; ring = q.at.ring })) = ap (λ (s : ServeResult (List ℕ)). s.reply) e in
         let same : fault_by why (record { seg = q.at.seg; word = w; ring = q.at.ring }) ≡ f = cc in
         target_number core_store g x q why w (λ other live. mirrors.dead x.store y.store k.mirrors q.at.seg other live) target cause (ap (λ (x : Fault). x.number) same ∙ number)
     target_by x y k q target t (is_answered a reply refs d live ordered spots found) f h number = cc
@@ -237,7 +237,7 @@ module _ (core : List ℕ) (frames : ℕ) (laid : IsLaid core frames) where
 
     read_by : (x : Midstep (List ℕ)) (y : Midstep Flat) → Stand x y → (q : Request) → InPage q → IsReplied core_store g x q (serve core_store g x q) → (a : Answer) → (serve core_store g x q).reply ≡ Ok a → IsRead x q
     read_by x y k q inside (is_refused why w e low high cause) a h =
-        let reply = ap (λ (s : Served (List ℕ)). s.reply) e in
+        let reply = ap (λ (s : ServeResult (List ℕ)). s.reply) e in
         absurd (not_answered _ _ a reply h)
       where
         not_answered : (v : Result Answer Fault) (f : Fault) (a : Answer) → v ≡ Err f → v ≡ Ok a → ⊥

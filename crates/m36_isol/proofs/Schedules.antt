@@ -14,11 +14,11 @@ use Rattle.m36_model.specs.Run.{is_next, only_if}
 use Rattle.m36_model.specs.StoreLaw.{Each}
 use Rattle.m36_model.specs.Isolation.{EachTwo, IsGateCall, HasPointers}
 use Rattle.m36_model.specs.Laws.{IsAbove, IsAlike}
-use Rattle.m36_model.specs.Schedule.{Processes, process_of, Event, stepped, event, events_by, events, cut_events, window_of}
+use Rattle.m36_model.specs.Schedule.{Processes, process_of, Event, processes_after, event, events_by, events, cut_events, window_of}
 use Rattle.m36_model.specs.JointAudit.{IsJointlyAudited}
 use Rattle.m36_model.specs.JointIsolation.{AgreeAll, IsEventKept, JointlyIsolated}
 use Rattle.m36_model.specs.declared.record.StepRecord.{StepRecord}
-use Rattle.m36_isol.proofs.Lists.{set_other, set_same, get_beside, get_map}
+use Rattle.m36_word.proofs.Lists.{set_other, set_same, get_beside, get_map}
 use Rattle.m36_isol.proofs.Alike.{Sees, Reaches}
 use Rattle.m36_isol.proofs.Windows.{after_is}
 use Rattle.m36_isol.proofs.AuditedBy.{same_dbr}
@@ -73,7 +73,7 @@ module _ (core : List ℕ) (dbrs : List DbrFields) (audited : IsJointlyAudited c
     left = state_after core_store here
 
     abbrev next : All
-    next = stepped core_store s i g
+    next = processes_after core_store s i g
 
     above_here : IsAbove core_store (core_tables core g.dbr) r here
     above_here = above_of s sound i g at
@@ -194,7 +194,7 @@ module _ (core : List ℕ) (dbrs : List DbrFields) (audited : IsJointlyAudited c
       there_left = state_after core_store (process_of twin g)
 
       abbrev twin_next : All
-      twin_next = stepped core_store twin i g
+      twin_next = processes_after core_store twin i g
 
       alike_here : IsAlike core_store (core_tables core g.dbr) r here (process_of twin g)
       alike_here =
@@ -278,7 +278,7 @@ module _ (core : List ℕ) (dbrs : List DbrFields) (audited : IsJointlyAudited c
       let there = by_tables core g.dbr audit (process_of t h) (sound_t.each k h g.dbr at_t own).tables seg in
       record { sdw = reach.sdw; live = here ∙ sym there ∙ reach.live; opens = reach.opens; high = reach.high }
 
-  unreached_on : (first : All) → AreSound first → (s : All) (sound : AreSound s) (i : ℕ) (g : RegsFields) (at : slice_get s.regs i ≡ Some g) → UnreachedAll first s → UnreachedAll first (stepped core_store s i g)
+  unreached_on : (first : All) → AreSound first → (s : All) (sound : AreSound s) (i : ℕ) (g : RegsFields) (at : slice_get s.regs i ≡ Some g) → UnreachedAll first s → UnreachedAll first (processes_after core_store s i g)
   unreached_on first sound_first s sound i g at so_far k x h at_first at_next seg w none =
       let old = get_beside first.regs s.regs k x (sound.count ∙ sym sound_first.count) at_first in
       unreached_step s sound i g at k old.0 h old.1 at_next seg w (λ reach. none (same_reach first s sound_first sound k x old.0 at_first old.1 seg reach)) ∙ so_far k x old.0 at_first old.1 seg w none
@@ -291,9 +291,9 @@ module _ (core : List ℕ) (dbrs : List DbrFields) (audited : IsJointlyAudited c
         falls = λ below h at_h. let same : g ≡ h = cc in subst (λ (x : RegsFields). IsGateCall core_store (process_of s x) r (record_of core_store (process_of s g))) same (falls_step s sound i g at below);
       }
     where
-      tables : (k : ℕ) (h : RegsFields) (t : Tables) → slice_get (stepped core_store s i g).regs k ≡ Some h → slice_get (map (core_tables core) dbrs) k ≡ Some t → core_tables (stepped core_store s i g).store h.dbr ≡ t
+      tables : (k : ℕ) (h : RegsFields) (t : Tables) → slice_get (processes_after core_store s i g).regs k ≡ Some h → slice_get (map (core_tables core) dbrs) k ≡ Some t → core_tables (processes_after core_store s i g).store h.dbr ≡ t
       tables k h t at' there =
-          let own = get_beside (stepped core_store s i g).regs dbrs k h (sym (count_next s sound i g at)) at' in
+          let own = get_beside (processes_after core_store s i g).regs dbrs k h (sym (count_next s sound i g at)) at' in
           let its = get_map (core_tables core) dbrs k own.0 own.1 in
           let same : core_tables core own.0 ≡ t = cc in
           tables_next s sound i g at k h own.0 at' own.1 ∙ same
@@ -329,8 +329,8 @@ module _ (core : List ℕ) (dbrs : List DbrFields) (audited : IsJointlyAudited c
       let twin : All = record { regs = s.regs; store = other } in
       let twin_is = sound_other s twin sound agree in
       let told = (alike_here s sound i g at other agree).told in
-      let more = rest_by first second (is_next (record_of core_store (process_of s g)).outcome) (nat_le r (record_of core_store (process_of s g)).after.ppr.prr) (events core_store schedule (stepped core_store s i g)) (events core_store schedule (stepped core_store twin i g)) (λ high. rest (stepped core_store s i g) (stepped core_store twin i g) (sound_next s sound i g at high) (agree_next s sound i g at other agree) (unreached_on first sound_first s sound i g at so_far) (unreached_on second sound_second twin twin_is i g at so_far_other)) in
-      let left = subst (λ (e : StepRecord). AreKept first second (only_if (is_next (record_of core_store (process_of s g)).outcome && nat_le r (record_of core_store (process_of s g)).after.ppr.prr) (cut_events r (events core_store schedule (stepped core_store s i g)))) (only_if (is_next e.outcome && nat_le r e.after.ppr.prr) (cut_events r (events core_store schedule (stepped core_store twin i g))))) told more in
+      let more = rest_by first second (is_next (record_of core_store (process_of s g)).outcome) (nat_le r (record_of core_store (process_of s g)).after.ppr.prr) (events core_store schedule (processes_after core_store s i g)) (events core_store schedule (processes_after core_store twin i g)) (λ high. rest (processes_after core_store s i g) (processes_after core_store twin i g) (sound_next s sound i g at high) (agree_next s sound i g at other agree) (unreached_on first sound_first s sound i g at so_far) (unreached_on second sound_second twin twin_is i g at so_far_other)) in
+      let left = subst (λ (e : StepRecord). AreKept first second (only_if (is_next (record_of core_store (process_of s g)).outcome && nat_le r (record_of core_store (process_of s g)).after.ppr.prr) (cut_events r (events core_store schedule (processes_after core_store s i g)))) (only_if (is_next e.outcome && nat_le r e.after.ppr.prr) (cut_events r (events core_store schedule (processes_after core_store twin i g))))) told more in
       let processes = left.processes in
       let records = left.told in
       record {

@@ -9,7 +9,7 @@ use Rattle.m36_desc.specs.Access.{has_ordered_brackets}
 use Rattle.m36_model.specs.Fields.{AtFields}
 use Rattle.m36_model.specs.Registers.{RegsFields}
 use Rattle.m36_model.specs.Act.{RequestKind, Fetch, Indirect, Odd, Read, Write, Transfer, Call, Locate, Put, Request, Answer}
-use Rattle.m36_model.specs.Store.{Spot, Change, Store, Midstep, Served, spots_of, places, changes, refusing_violation, serve, serve_sdw, serve_rights, serve_places, with_odd, located_address}
+use Rattle.m36_model.specs.Store.{Spot, Change, Store, Midstep, ServeResult, spots_of, spots_of_request, changes, refusing_violation, serve, serve_sdw, serve_rights, serve_places, with_odd, located_address}
 use Rattle.m36_model.specs.StoreLaw.{Each, IsPlacedWord, IsSegmentChange, Lawful, overlay}
 use Rattle.m36_model.specs.declared.outcome.Fault.{Fault}
 use Rattle.m36_model.specs.declared.outcome.Refusal.{Refusal}
@@ -25,7 +25,7 @@ module _ {S : Type 0} (o : Store S) (g : RegsFields) (Has : S → Type 0) (Lies 
   abbrev Stand : Midstep S → Midstep S → Type 0
   Stand = Alike o Has Lies Near L.sdws L.spots r first other
 
-  abbrev Serves : Request → Served S → Served S → Type 0
+  abbrev Serves : Request → ServeResult S → ServeResult S → Type 0
   Serves q t u = ArePageFaultsServed Stand (Known L.sdws g q) t u
 
   -- marks preserve what is known of a store
@@ -76,7 +76,7 @@ module _ {S : Type 0} (o : Store S) (g : RegsFields) (Has : S → Type 0) (Lies 
   Allows kind at d = refusing_violation kind d at.ring g.ppr.prr (at.seg == g.ppr.psr) at.word ≡ None
 
   -- the replies to a kind that reads, to a Write, and to a kind that leaves the store unchanged
-  abbrev read_answer : RequestKind → AtFields → List Put → SdwFields → Midstep S → List Spot → List Reference → Served S
+  abbrev read_answer : RequestKind → AtFields → List Put → SdwFields → Midstep S → List Spot → List Reference → ServeResult S
   read_answer kind at pending d m list refs =
       record {
         reply = Ok (record {
@@ -109,7 +109,7 @@ module _ {S : Type 0} (o : Store S) (g : RegsFields) (Has : S → Type 0) (Lies 
         known = known_answer _ _ live allowed _ refl;
       }
 
-  abbrev write_answer : AtFields → SdwFields → Midstep S → List Spot → List Reference → Served S
+  abbrev write_answer : AtFields → SdwFields → Midstep S → List Spot → List Reference → ServeResult S
   write_answer at d m list refs =
       record {
         reply = Ok (record { sdw = d; first = length m.claims; place = 0; words = [] });
@@ -132,7 +132,7 @@ module _ {S : Type 0} (o : Store S) (g : RegsFields) (Has : S → Type 0) (Lies 
         known = known_answer _ _ live allowed _ refl;
       }
 
-  abbrev plain_answer : SdwFields → ℕ → Midstep S → Served S
+  abbrev plain_answer : SdwFields → ℕ → Midstep S → ServeResult S
   plain_answer d place m =
       record { reply = Ok (record { sdw = d; first = length m.claims; place = place; words = [] }); mid = m }
 
@@ -162,8 +162,8 @@ module _ {S : Type 0} (o : Store S) (g : RegsFields) (Has : S → Type 0) (Lies 
       served_reading kind at count pending d live allowed sees x y k list b.spot b.word words refs more same each
 
   -- after the places were found
-  by_list : (kind : RequestKind) (at : AtFields) (count : ℕ) (pending : List Put) → 1 ≤ count → MayRing L.sdws r g kind at.ring → (d : SdwFields) → L.sdws at.seg ≡ Ok d → Allows kind at d → (x y : Midstep S) → Stand x y → (v : Result (List Spot) (ℕ × Refusal)) → places o x.store g.dbr d (asked kind at count pending) ≡ v → Serves (asked kind at count pending) (serve_places o g x (asked kind at count pending) d v) (serve_places o g y (asked kind at count pending) d v)
-  unfolding places
+  by_list : (kind : RequestKind) (at : AtFields) (count : ℕ) (pending : List Put) → 1 ≤ count → MayRing L.sdws r g kind at.ring → (d : SdwFields) → L.sdws at.seg ≡ Ok d → Allows kind at d → (x y : Midstep S) → Stand x y → (v : Result (List Spot) (ℕ × Refusal)) → spots_of_request o x.store g.dbr d (asked kind at count pending) ≡ v → Serves (asked kind at count pending) (serve_places o g x (asked kind at count pending) d v) (serve_places o g y (asked kind at count pending) d v)
+  unfolding spots_of_request
   by_list kind at count pending some ring d live allowed x y k (Err e) found = served_refused _ _ x y k
   by_list Transfer at count pending some ring d live allowed x y k (Ok list) found = served_plain (asked Transfer at count pending) d 0 live allowed x y k
   by_list Call at count pending some ring d live allowed x y k (Ok list) found = served_plain (asked Call at count pending) d 0 live allowed x y k
@@ -190,18 +190,18 @@ module _ {S : Type 0} (o : Store S) (g : RegsFields) (Has : S → Type 0) (Lies 
       served_writing at count pending d live allowed reaches x y k list b.spot b.word words _ _ refs (each_append (IsAllowedReference L.sdws r) x.refs _ k.allowed (reaches, tt))
 
   -- both stores find the same places
-  same_places : (kind : RequestKind) (at : AtFields) (count : ℕ) (pending : List Put) (d : SdwFields) → L.sdws at.seg ≡ Ok d → has_ordered_brackets d ≡ true → (s t : S) → Has s → Has t → places o s g.dbr d (asked kind at count pending) ≡ places o t g.dbr d (asked kind at count pending)
-  unfolding places
+  same_places : (kind : RequestKind) (at : AtFields) (count : ℕ) (pending : List Put) (d : SdwFields) → L.sdws at.seg ≡ Ok d → has_ordered_brackets d ≡ true → (s t : S) → Has s → Has t → spots_of_request o s g.dbr d (asked kind at count pending) ≡ spots_of_request o t g.dbr d (asked kind at count pending)
+  unfolding spots_of_request
   same_places Transfer at count pending d live ordered s t h l = refl
   same_places Call at count pending d live ordered s t h l = refl
   same_places kind at count pending d live ordered s t h l =
       same_spots o g.dbr Has Lies Near L at.seg d live ordered s t h l at.word count
 
-  by_places : (q : Request) → May L.sdws r g q → (d : SdwFields) → L.sdws q.at.seg ≡ Ok d → Allows q.kind q.at d → (x y : Midstep S) → Stand x y → Serves q (serve_places o g x q d (places o x.store g.dbr d q)) (serve_places o g y q d (places o y.store g.dbr d q))
+  by_places : (q : Request) → May L.sdws r g q → (d : SdwFields) → L.sdws q.at.seg ≡ Ok d → Allows q.kind q.at d → (x y : Midstep S) → Stand x y → Serves q (serve_places o g x q d (spots_of_request o x.store g.dbr d q)) (serve_places o g y q d (spots_of_request o y.store g.dbr d q))
   by_places q may d live allowed x y k =
       let ordered = denied_order q.kind d q.at.ring g.ppr.prr (q.at.seg == g.ppr.psr) q.at.word allowed in
       let same = same_places q.kind q.at q.count q.pending d live ordered x.store y.store k.kept.has k.kept_other.has in
-      subst (λ (v : Result (List Spot) (ℕ × Refusal)). Serves q (serve_places o g x q d (places o x.store g.dbr d q)) (serve_places o g y q d v)) same (by_list q.kind q.at q.count q.pending may.some may.ring d live allowed x y k (places o x.store g.dbr d q) refl)
+      subst (λ (v : Result (List Spot) (ℕ × Refusal)). Serves q (serve_places o g x q d (spots_of_request o x.store g.dbr d q)) (serve_places o g y q d v)) same (by_list q.kind q.at q.count q.pending may.some may.ring d live allowed x y k (spots_of_request o x.store g.dbr d q) refl)
 
   by_rights : (q : Request) → May L.sdws r g q → (d : SdwFields) → L.sdws q.at.seg ≡ Ok d → (v : Option ℕ) → refusing_violation q.kind d q.at.ring g.ppr.prr (q.at.seg == g.ppr.psr) q.at.word ≡ v → (x y : Midstep S) → Stand x y → Serves q (serve_rights o g x q d v) (serve_rights o g y q d v)
   by_rights q may d live (Some acv) e x y k = served_refused q _ x y k

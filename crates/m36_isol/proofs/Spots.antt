@@ -5,11 +5,11 @@ use Rattle.std.proofs.lemmas.Bool.{and_from}
 use Rattle.m36_desc.specs.Fields.{SdwFields, DbrFields}
 use Rattle.m36_desc.specs.Access.{has_ordered_brackets}
 use Rattle.m36_model.specs.Act.{Put}
-use Rattle.m36_model.specs.Store.{Spot, Change, Store, is_within_bound, placed, spots_from, spots_of, changes, change_of}
+use Rattle.m36_model.specs.Store.{Spot, Change, Store, is_within_bound, is_placed, spots_from, spots_of, changes, change_of}
 use Rattle.m36_model.specs.StoreLaw.{Each, IsPlacedWord, Lawful}
 use Rattle.m36_model.specs.declared.outcome.Refusal.{Refusal}
 
-pub placed_by : (d : SdwFields) (w : ℕ) → has_ordered_brackets d ≡ true → is_within_bound d w ≡ true → placed d w ≡ true
+pub placed_by : (d : SdwFields) (w : ℕ) → has_ordered_brackets d ≡ true → is_within_bound d w ≡ true → is_placed d w ≡ true
 placed_by d w h k = and_from (has_ordered_brackets d) (is_within_bound d w) h k
 
 pub each_append : {A : Type 0} (P : A → Type 0) (xs ys : List A) → Each P xs → Each P ys → Each P (xs ++ ys)

@@ -5,7 +5,7 @@ use Rattle.std.proofs.lemmas.Bool.{eqb-false}
 use Rattle.m36_model.specs.Fields.{AtFields}
 use Rattle.m36_model.specs.Registers.{RegsFields}
 use Rattle.m36_model.specs.Act.{Request, Answer, Act, done, ask}
-use Rattle.m36_model.specs.Store.{Midstep, Served, serve, run}
+use Rattle.m36_model.specs.Store.{Midstep, ServeResult, serve, run}
 use Rattle.m36_model.specs.StoreLaw.{Each}
 use Rattle.m36_model.specs.Core.{core_store}
 use Rattle.m36_model.specs.declared.outcome.Fault.{Fault}
@@ -112,15 +112,15 @@ module _ {A : Type 0} (g : RegsFields) where
 
     -- ---- the pages of recorded references
     module _ (K : ℕ → ℕ → Type 0) (plan_post : ℕ → ℕ → A → Type 0) where
-      kept_served : (m : Midstep (List ℕ)) (q : Request) (last : Option AtFields) → Follows q.kind last q.at → EndsAt m.refs last → (t : Served (List ℕ)) → IsReplied core_store g m q t → Each (On K) t.mid.refs → Each (On K) m.refs
+      kept_served : (m : Midstep (List ℕ)) (q : Request) (last : Option AtFields) → Follows q.kind last q.at → EndsAt m.refs last → (t : ServeResult (List ℕ)) → IsReplied core_store g m q t → Each (On K) t.mid.refs → Each (On K) m.refs
       kept_served m q last follows ends t (is_refused why w e low high cause) h =
-          subst (Each (On K)) (ap (λ (x : Served (List ℕ)). x.mid.refs) e) h
+          subst (Each (On K)) (ap (λ (x : ServeResult (List ℕ)). x.mid.refs) e) h
       kept_served m q last follows ends t (is_answered a reply refs d live ordered spots found) h =
           (was_known K q.kind q m.refs last follows ends (subst (Each (On K)) refs h)).before
 
-      ends_by : (m : Midstep (List ℕ)) (q : Request) (t : Served (List ℕ)) → IsReplied core_store g m q t → (a : Answer) → t.reply ≡ Ok a → EndsAt t.mid.refs (last_by q.kind q.at)
+      ends_by : (m : Midstep (List ℕ)) (q : Request) (t : ServeResult (List ℕ)) → IsReplied core_store g m q t → (a : Answer) → t.reply ≡ Ok a → EndsAt t.mid.refs (last_by q.kind q.at)
       ends_by m q t (is_refused why w e low high cause) a h =
-          absurd (not_answered t.reply _ a (ap (λ (x : Served (List ℕ)). x.reply) e) h)
+          absurd (not_answered t.reply _ a (ap (λ (x : ServeResult (List ℕ)). x.reply) e) h)
         where
           not_answered : (v : Result Answer Fault) (f : Fault) (a : Answer) → v ≡ Err f → v ≡ Ok a → ⊥
           not_answered v f a e h = cc

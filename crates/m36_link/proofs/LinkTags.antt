@@ -1,7 +1,7 @@
 -- The tag of a link is that of its fault.
 use Rattle.std.proofs.Common.{◌≡◌, ℕ, refl, ◌∙◌, arith}
 use Rattle.m36_model.specs.Chain.{indirect_tag}
-use Rattle.m36_model.specs.Modification.{Point, move_of_point}
+use Rattle.m36_model.specs.Modification.{move_of_point}
 use Rattle.obj36_parts.specs.Halves.{word_with_halves}
 use Rattle.obj36_parts.specs.ObjectSegment.{link_head}
 use Rattle.m36_link.specs.Laws.{UnsnappedLinksFault}

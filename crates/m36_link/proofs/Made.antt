@@ -44,11 +44,6 @@ Sound laid files seg (Ok landing) = (landing.target ≡ seg) × Fresh laid files
 
 -- ---- the target of a link
 
-own_sound : (laid : List PlacedSectionFields) (files : List (List ℕ)) (ring : ℕ) (l : PlacedSectionFields) (o : PartsFields) (link : LinkFields) (p : Result ObjectPlace LinkCode)
-    → Sound laid files l.seg (own_target_by ring l o link p)
-own_sound laid files ring l o link (Ok point) = (refl, tt)
-own_sound laid files ring l o link (Err code) = tt
-
 plain_sound : (laid : List PlacedSectionFields) (files : List (List ℕ)) (ring seg : ℕ) (link : LinkFields) → Sound laid files seg (plain_target ring seg link)
 unfolding plain_target
 plain_sound laid files ring seg link = by (has_entry link.kind)

@@ -8,7 +8,7 @@ use Rattle.std.proofs.lemmas.List.Folds.{find_at}
 use Rattle.m36_desc.specs.Fields.{ItsFields}
 use Rattle.m36_desc.specs.Descriptors.{its_even, its_tag, itp_tag, tag_of}
 use Rattle.m36_model.specs.Fields.{AtFields}
-use Rattle.m36_model.specs.Chain.{Its, Itp, Plain, kind_by_tag, indirect_tag, found}
+use Rattle.m36_model.specs.Chain.{Its, Itp, Plain, kind_by_tag, indirect_tag, indirect_kind}
 use Rattle.m36_model.specs.declared.endings.LinkCode.{LinkCode}
 use Rattle.m36_model.specs.declared.endings.LinkCode.TheVariants.{L3, L4}
 use Rattle.m36_dir.specs.Fields.{SegmentFields}
@@ -169,14 +169,14 @@ section_holds laid files at l P e all = by (eqb at.seg (linkage_segment at.ring)
 
 -- ---- the law
 
-found_its : (word even : ℕ) → word % 2 ≡ 0 → tag_of even ≡ its_tag → found word even ≡ Its
-unfolding found
+found_its : (word even : ℕ) → word % 2 ≡ 0 → tag_of even ≡ its_tag → indirect_kind word even ≡ Its
+unfolding indirect_kind
 found_its word even place tag =
     ap (λ b. cond b (kind_by_tag (indirect_tag even)) Plain) (eq-eqb (word % 2) 0 place)
     ∙ ap (λ b. cond b Its (cond (eqb (tag_of even) itp_tag) Itp Plain)) (eq-eqb (tag_of even) its_tag tag)
 
 answer_stands : (known : KnownFields) (catalog : CatalogFields) (files : List (List ℕ)) (at : AtFields) (l : PlacedSectionFields) (o : Option PartsFields) (link : Option LinkFields) (s : SnapFields)
-    → l.base % 2 ≡ 0 → object_in files l.seg ≡ o → link_in files at.word l ≡ link → snap_for known catalog files at.ring l o link ≡ Ok s → found at.word s.pair.even ≡ Its
+    → l.base % 2 ≡ 0 → object_in files l.seg ≡ o → link_in files at.word l ≡ link → snap_for known catalog files at.ring l o link ≡ Ok s → indirect_kind at.word s.pair.even ≡ Its
 answer_stands known catalog files at l (Some o) (Some link) s even read is e =
     found_its at.word s.pair.even (place_even files at.word l o link even read is)
     (snap_tag files at.ring link (target_of_link known catalog files at.ring l o link) s (landing_tag known catalog files at.ring l o link) e)
@@ -187,7 +187,7 @@ pub pairs_stand : PairsAreRead
 unfolding snap_of
 pairs_stand known catalog files at s made e = by (section_at known.laid files at) refl e
   where
-    by : (v : Option PlacedSectionFields) → section_at known.laid files at ≡ v → snap_in known catalog files at v ≡ Ok s → found at.word s.pair.even ≡ Its
+    by : (v : Option PlacedSectionFields) → section_at known.laid files at ≡ v → snap_in known catalog files at v ≡ Ok s → indirect_kind at.word s.pair.even ≡ Its
     by None is e = absurd cc
     by (Some l) is e =
         let whole : IsWholeSection catalog files l = section_holds known.laid files at l (IsWholeSection catalog files) is made.laid in

@@ -2,7 +2,7 @@
 use Rattle.std.specs.Prelude.{ℕ, ◌≡◌, ◌<◌, ◌≤◌, ◌+◌, ◌%◌, List, length, slice_get, slice_index}
 use Rattle.std.specs.Prelude.{All, Some, Ok}
 use Rattle.m36_model.specs.Fields.{AtFields}
-use Rattle.m36_model.specs.Chain.{Its, found, indirect_tag}
+use Rattle.m36_model.specs.Chain.{Its, indirect_kind, indirect_tag}
 use Rattle.m36_model.specs.Faults.{fault_tag_2}
 use Rattle.m36_model.specs.Modification.{Point, Fails, halt_at, move_of_point}
 use Rattle.m36_model.specs.Registers.{RegsFields}
@@ -67,7 +67,7 @@ abbrev pub PairsAreRead : Type 0
 PairsAreRead =
     (known : KnownFields) (catalog : CatalogFields) (files : List (List ℕ)) (at : AtFields)
     (s : SnapFields) → IsConsistent catalog files known → snap_of known catalog files at ≡ Ok s
-    → found at.word s.pair.even ≡ Its
+    → indirect_kind at.word s.pair.even ≡ Its
 
 -- An answer to the link at a place may be accepted.
 abbrev pub MayBeAccepted : Type 0

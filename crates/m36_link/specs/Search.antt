@@ -1,7 +1,7 @@
 -- The search for a segment by a reference name.
 use Rattle.std.specs.Prelude.{ℕ, List, ◌∷◌, ◌++◌, Option, option_map}
 use Rattle.std.specs.Prelude.{filter_map, option_to_list, slice_get}
-use Rattle.m36_dir.specs.Catalog.{CatalogFields, found}
+use Rattle.m36_dir.specs.Catalog.{CatalogFields, find_segment}
 use Rattle.m36_link.specs.Fields.{KnownFields}
 use Rattle.m36_link.specs.Known.{catalog_number, initiated_segment}
 
@@ -12,7 +12,7 @@ directories_searched catalog from = from ∷ catalog.work ∷ catalog.libraries
 
 -- the number of the segment with a name in a directory, if there is one
 unfoldable pub find_in_directory : CatalogFields → List ℕ → ℕ → Option ℕ
-find_in_directory catalog name dir = option_map catalog_number (found catalog dir name)
+find_in_directory catalog name dir = option_map catalog_number (find_segment catalog dir name)
 
 -- The candidates in their order: the segment that is initiated under the name in the ring, and the
 -- segment of that name in each directory.

@@ -82,9 +82,6 @@ no_sign d small =
     let minus : (48 + d == 45) ≡ false = ne_eqb (48 + d) 45 (λ e. absurd (omega arith)) in
     rw (plus, minus) refl
 
-is_minus : ℕ → Bool
-is_minus b = b == 45
-
 -- the first byte of a text does not pass a test that no byte of it passes, unless it is empty
 first_is_no_minus : (text : List ℕ) → list_any (λ b. b == 45) text ≡ false → (slice_index text 0 == 45) ≡ false
 first_is_no_minus [] none = refl

@@ -1,7 +1,7 @@
 //! Disassembly: the text of a word as an instruction.
 
 ghost use Rattle.std.specs.Prelude.{◌≡◌, ◌+◌, ◌*◌, ◌≤◌, ◌<◌, ◌^◌, ◌++◌, length, codes};
-ghost use Rattle.m36_text.specs.Digits.{decimal_text, octal_text};
+ghost use Rattle.m36_text.specs.Digits.{decimal_text};
 ghost use Rattle.m36_list.specs.Disassembly.{disassembly, octal_constant, address_text};
 ghost use Rattle.m36_list.specs.Disassembly.{signed_text};
 

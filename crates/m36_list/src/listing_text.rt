@@ -1,6 +1,6 @@
 //! The listing of a source.
 
-ghost use Rattle.std.specs.Prelude.{ℕ, [], ◌+◌, ◌++◌, ◌≡◌, ◌≤◌, length, codes, IfOk, OnOk};
+ghost use Rattle.std.specs.Prelude.{[], ◌+◌, ◌++◌, ◌≡◌, ◌≤◌, length, IfOk, OnOk};
 ghost use Rattle.obj36_parts.specs.ObjectSegment.{inner_statics, head_words, segment_limit};
 ghost use Rattle.m36_list.specs.Counts.{AreCountsOf};
 ghost use Rattle.alm_lines.specs.Spots.{start};

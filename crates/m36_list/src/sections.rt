@@ -1,8 +1,7 @@
 //! The sections of an object, one line each, and the entry bound.
 
 ghost use Rattle.std.specs.Prelude.{◌+◌, ◌++◌, ◌≡◌, ◌^◌, ◌<◌, ◌≤◌, length, OnOk};
-ghost use Rattle.obj36_parts.specs.ObjectSegment.{definition_section, linkage_section};
-ghost use Rattle.obj36_parts.specs.ObjectSegment.{symbol_section, outer_statics};
+ghost use Rattle.obj36_parts.specs.ObjectSegment.{outer_statics};
 ghost use Rattle.m36_list.specs.Counts.{AreCountsOf};
 ghost use Rattle.m36_list.specs.Print.{statics_offset, section_line, static_line, value_line};
 ghost use Rattle.m36_list.specs.Print.{section_lines};

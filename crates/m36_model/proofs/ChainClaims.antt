@@ -4,10 +4,10 @@ use Rattle.std.proofs.Common.{ℕ, zero, suc, ◌≡◌, ◌+◌, refl, ap, ◌�
 use Rattle.m36_desc.specs.Fields.{SdwFields}
 use Rattle.m36_model.specs.Registers.{RegsFields}
 use Rattle.m36_model.specs.Act.{RequestKind, Fetch, Indirect, Odd, Read, Write, Transfer, Call, Locate, Whole, Request, Answer, Act, done, ask, and_then, answered}
-use Rattle.m36_model.specs.Store.{Spot, Store, Midstep, Served, ProgramResult, serve, serve_sdw, serve_rights, serve_places, refusing_violation, places, run}
+use Rattle.m36_model.specs.Store.{Spot, Store, Midstep, ServeResult, ProgramResult, serve, serve_sdw, serve_rights, serve_places, refusing_violation, spots_of_request, run}
 use Rattle.m36_model.specs.Modification.{Point, Move, Ends, Fails, Reads, Counts, move_of_point}
 use Rattle.m36_model.specs.Tally.{tally, indirect_only}
-use Rattle.m36_model.specs.Chain.{ChainEnd, IndirectKind, Its, Itp, Plain, found, indirect, its_point, itp_point, tally_end, chain, chain_by, chain_exhausted, after_word, after_tally}
+use Rattle.m36_model.specs.Chain.{ChainEnd, IndirectKind, Its, Itp, Plain, indirect_kind, indirect_request, its_point, itp_point, tally_end, chain, chain_by, chain_exhausted, after_word, after_tally}
 use Rattle.m36_model.proofs.PutLaw.{IsTallied, no_tally, tallied_at}
 use Rattle.m36_model.proofs.OperandWordsLaw.{written_words}
 use Rattle.m36_model.specs.declared.outcome.Fault.{Fault}
@@ -38,7 +38,7 @@ module _ {S : Type 0} (o : Store S) (g : RegsFields) (m : Midstep S) where
 
   same_by_rights : (q : Request) → (q.kind ≡ Write → ⊥) → (d : SdwFields) (r : Option ℕ) → Same (serve_rights o g m q d r).mid
   same_by_rights q no_write d (Some acv) = refl
-  same_by_rights q no_write d None = same_by_places q q.kind refl no_write d (places o m.store g.dbr d q)
+  same_by_rights q no_write d None = same_by_places q q.kind refl no_write d (spots_of_request o m.store g.dbr d q)
 
   same_by_sdw : (q : Request) → (q.kind ≡ Write → ⊥) → (r : Result SdwFields Refusal) → Same (serve_sdw o g m q r).mid
   same_by_sdw q no_write (Err why) = refl
@@ -50,7 +50,7 @@ module _ {S : Type 0} (o : Store S) (g : RegsFields) (m : Midstep S) where
   same_claims q no_write = same_by_sdw q no_write (o.sdw m.store g.dbr q.at.seg)
 
 -- a known reply, as a whole answer
-pub served_as : {S : Type 0} (t : Served S) (reply : Result Answer Fault) → t.reply ≡ reply → t ≡ record { reply = reply; mid = t.mid }
+pub served_as : {S : Type 0} (t : ServeResult S) (reply : Result Answer Fault) → t.reply ≡ reply → t ≡ record { reply = reply; mid = t.mid }
 served_as t reply e = λ i. record { reply = e i; mid = t.mid }
 
 one_spot : (spots : List Spot) → length spots ≡ 1 → (spot : Spot) × (spots ≡ spot ∷ [])
@@ -76,24 +76,24 @@ module _ {S : Type 0} (o : Store S) (g : RegsFields) (next : Point → Act (Resu
   unfolding run
   post_found word held a m Plain e = more _ m e
   post_found word held a m Its e =
-      let q = indirect Odd p (word + 1) in
+      let q = indirect_request Odd p (word + 1) in
       let t = serve o g m q in
       post_odd (λ odd. its_point p word held (slice_index a.words 0) odd a.sdw.r1) t.mid t.reply (same_claims o g m q (λ x. cc) ∙ e)
   post_found word held a m Itp e =
-      let q = indirect Odd p (word + 1) in
+      let q = indirect_request Odd p (word + 1) in
       let t = serve o g m q in
       post_odd (λ odd. itp_point g p word held (slice_index a.words 0) odd a.sdw.r1) t.mid t.reply (same_claims o g m q (λ x. cc) ∙ e)
 
-  post_even : (word : ℕ) (held : Option ℕ) (m : Midstep S) (reply : Result Answer Fault) → m.claims ≡ [] → Post (run o g (answered (λ a. after_word next g p word held a (found word (slice_index a.words 0))) reply) m)
+  post_even : (word : ℕ) (held : Option ℕ) (m : Midstep S) (reply : Result Answer Fault) → m.claims ≡ [] → Post (run o g (answered (λ a. after_word next g p word held a (indirect_kind word (slice_index a.words 0))) reply) m)
   unfolding run
-  post_even word held m (Ok a) e = post_found word held a m (found word (slice_index a.words 0)) e
+  post_even word held m (Ok a) e = post_found word held a m (indirect_kind word (slice_index a.words 0)) e
   post_even word held m (Err f) e = tt
 
-  post_claimed : (a : Answer) (m : Midstep S) (reply : Result Answer Fault) → m.claims ≡ [] → (serve o g m (indirect Write p p.y)).reply ≡ reply → Post (run o g (answered (λ b. done (Ok (tally_end p b.first (tally (p.tag % 16) (slice_index a.words 0))))) reply) (serve o g m (indirect Write p p.y)).mid)
+  post_claimed : (a : Answer) (m : Midstep S) (reply : Result Answer Fault) → m.claims ≡ [] → (serve o g m (indirect_request Write p p.y)).reply ≡ reply → Post (run o g (answered (λ b. done (Ok (tally_end p b.first (tally (p.tag % 16) (slice_index a.words 0))))) reply) (serve o g m (indirect_request Write p p.y)).mid)
   unfolding run
   post_claimed a m (Err f) e r = tt
   post_claimed a m (Ok b) e r =
-      let q = indirect Write p p.y in
+      let q = indirect_request Write p p.y in
       let t = serve o g m q in
       let u = written_words o g m t.mid q b refl (served_as t (Ok b) r) in
       let one = one_spot u.spots u.places.count in
@@ -104,7 +104,7 @@ module _ {S : Type 0} (o : Store S) (g : RegsFields) (next : Point → Act (Resu
   post_tally_by : (a : Answer) (m : Midstep S) (i : Bool) → m.claims ≡ [] → Post (run o g (after_tally p (p.tag % 16) a i) m)
   unfolding run
   post_tally_by a m true e = no_tally refl e
-  post_tally_by a m false e = post_claimed a m (serve o g m (indirect Write p p.y)).reply e refl
+  post_tally_by a m false e = post_claimed a m (serve o g m (indirect_request Write p p.y)).reply e refl
 
   post_tally : (m : Midstep S) (reply : Result Answer Fault) → m.claims ≡ [] → Post (run o g (answered (λ a. after_tally p (p.tag % 16) a (p.tag % 16 == indirect_only)) reply) m)
   unfolding run
@@ -116,11 +116,11 @@ module _ {S : Type 0} (o : Store S) (g : RegsFields) (next : Point → Act (Resu
   post_move (Ends last) m e = no_tally refl e
   post_move (Fails h) m e = tt
   post_move (Reads word held) m e =
-      let q = indirect Indirect p word in
+      let q = indirect_request Indirect p word in
       let t = serve o g m q in
       post_even word held t.mid t.reply (same_claims o g m q (λ x. cc) ∙ e)
   post_move Counts m e =
-      let q = indirect Indirect p p.y in
+      let q = indirect_request Indirect p p.y in
       let t = serve o g m q in post_tally t.mid t.reply (same_claims o g m q (λ x. cc) ∙ e)
 
 post_exhausted : {S : Type 0} (o : Store S) (g : RegsFields) (p : Point) (v : Move) (m : Midstep S) → m.claims ≡ [] → Post (run o g (chain_exhausted p v) m)

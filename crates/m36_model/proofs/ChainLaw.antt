@@ -6,7 +6,7 @@ use Rattle.m36_model.specs.Store.{Store, Midstep, ProgramResult, serve, run}
 use Rattle.m36_model.specs.Core.{core_store}
 use Rattle.m36_model.specs.Modification.{Point, Move, Ends, Fails, Reads, Counts, move_of_point}
 use Rattle.m36_model.specs.Tally.{tally, indirect_only}
-use Rattle.m36_model.specs.Chain.{ChainEnd, IndirectKind, Its, Itp, Plain, found, indirect, its_point, itp_point, tally_end, chain, chain_by, chain_exhausted, after_word, after_tally}
+use Rattle.m36_model.specs.Chain.{ChainEnd, IndirectKind, Its, Itp, Plain, indirect_kind, indirect_request, its_point, itp_point, tally_end, chain, chain_by, chain_exhausted, after_word, after_tally}
 use Rattle.m36_model.specs.ChainList.{Stage, ChainStep, Goes, Closes, chain_step, chain_step_by, after_odd_word, after_indirect_word, after_indirect_reference, after_tally_claim, after_tally_read_by, after_tally_read, IsChain, IsOneChain, OneChain, first_stage}
 use Rattle.m36_model.specs.Step.{indirect_words}
 use Rattle.m36_model.specs.declared.outcome.Fault.{Fault}
@@ -28,13 +28,13 @@ module _ {S : Type 0} (o : Store S) (g : RegsFields) (k : ℕ) (s : Stage S) whe
   unfolding run
   agree_found word held a m Plain = (refl, refl)
   agree_found word held a m Its =
-      agree_odd (λ odd. its_point s.point word held (slice_index a.words 0) odd a.sdw.r1) (serve o g m (indirect Odd s.point (word + 1))).mid (serve o g m (indirect Odd s.point (word + 1))).reply
+      agree_odd (λ odd. its_point s.point word held (slice_index a.words 0) odd a.sdw.r1) (serve o g m (indirect_request Odd s.point (word + 1))).mid (serve o g m (indirect_request Odd s.point (word + 1))).reply
   agree_found word held a m Itp =
-      agree_odd (λ odd. itp_point g s.point word held (slice_index a.words 0) odd a.sdw.r1) (serve o g m (indirect Odd s.point (word + 1))).mid (serve o g m (indirect Odd s.point (word + 1))).reply
+      agree_odd (λ odd. itp_point g s.point word held (slice_index a.words 0) odd a.sdw.r1) (serve o g m (indirect_request Odd s.point (word + 1))).mid (serve o g m (indirect_request Odd s.point (word + 1))).reply
 
-  agree_even : (word : ℕ) (held : Option ℕ) (m : Midstep S) (reply : Result Answer Fault) → Agrees (run o g (answered (λ a. after_word (chain k g) g s.point word held a (found word (slice_index a.words 0))) reply) m) (after_indirect_reference o g s word held m reply)
+  agree_even : (word : ℕ) (held : Option ℕ) (m : Midstep S) (reply : Result Answer Fault) → Agrees (run o g (answered (λ a. after_word (chain k g) g s.point word held a (indirect_kind word (slice_index a.words 0))) reply) m) (after_indirect_reference o g s word held m reply)
   unfolding run
-  agree_even word held m (Ok a) = agree_found word held a m (found word (slice_index a.words 0))
+  agree_even word held m (Ok a) = agree_found word held a m (indirect_kind word (slice_index a.words 0))
   agree_even word held m (Err f) = refl
 
   agree_claimed : (a : Answer) (m : Midstep S) (reply : Result Answer Fault) → Agrees (run o g (answered (λ b. done (Ok (tally_end s.point b.first (tally (s.point.tag % 16) (slice_index a.words 0))))) reply) m) (after_tally_claim s a m reply)
@@ -46,7 +46,7 @@ module _ {S : Type 0} (o : Store S) (g : RegsFields) (k : ℕ) (s : Stage S) whe
   unfolding run
   agree_tally_by a m true = refl
   agree_tally_by a m false =
-      agree_claimed a (serve o g m (indirect Write s.point s.point.y)).mid (serve o g m (indirect Write s.point s.point.y)).reply
+      agree_claimed a (serve o g m (indirect_request Write s.point s.point.y)).mid (serve o g m (indirect_request Write s.point s.point.y)).reply
 
   agree_tally : (m : Midstep S) (reply : Result Answer Fault) → Agrees (run o g (answered (λ a. after_tally s.point (s.point.tag % 16) a (s.point.tag % 16 == indirect_only)) reply) m) (after_tally_read o g s m reply)
   unfolding run
@@ -59,9 +59,9 @@ module _ {S : Type 0} (o : Store S) (g : RegsFields) (k : ℕ) (s : Stage S) whe
   agree_move e (Ends last) = refl
   agree_move e (Fails h) = refl
   agree_move e (Reads word held) =
-      let t = serve o g s.mid (indirect Indirect s.point word) in rw e (agree_even word held t.mid t.reply)
+      let t = serve o g s.mid (indirect_request Indirect s.point word) in rw e (agree_even word held t.mid t.reply)
   agree_move e Counts =
-      let t = serve o g s.mid (indirect Indirect s.point s.point.y) in rw e (agree_tally t.mid t.reply)
+      let t = serve o g s.mid (indirect_request Indirect s.point s.point.y) in rw e (agree_tally t.mid t.reply)
 
   agree : nat_lt s.count indirect_words ≡ true → Agrees (run o g (chain (suc k) g s.point) s.mid) (chain_step o g s)
   unfolding chain chain_step

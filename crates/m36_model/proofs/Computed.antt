@@ -6,7 +6,7 @@ use Rattle.m36_model.specs.Act.{and_then}
 use Rattle.m36_model.specs.Arithmetic.{modulo, sum_value, sum_carry, sum_overflow, sum, difference_value, difference_carry, difference_overflow, difference, negation, is_less, comparison, product, quotient, remainder, is_divide_check}
 use Rattle.m36_model.specs.Booleans.{bits_of, number_from, each_bit, bitwise, and_of, or_of, xor_of, and_not_of}
 use Rattle.m36_model.specs.CallReturn.{call, return_to}
-use Rattle.m36_model.specs.Chain.{found, chain}
+use Rattle.m36_model.specs.Chain.{indirect_kind, chain}
 use Rattle.m36_model.specs.Compares.{compare, test_word, test_and_clear, compare_masked, test_and, test_and_not}
 use Rattle.m36_model.specs.Core.{core_put}
 use Rattle.m36_model.specs.Effect.{exec}
@@ -22,7 +22,7 @@ use Rattle.m36_model.specs.Results.{with_value, set_zero_negative, set_zero_nega
 use Rattle.m36_model.specs.ShiftEffects.{shift_left, shift_right, shift_right_logical, rotate_left}
 use Rattle.m36_model.specs.Shifts.{left_shift, first_bits, left_shift_carry, copying_right_shift, plain_right_shift, rotation}
 use Rattle.m36_model.specs.Step.{with_chain_tally, operate, decode, program, record_of, state_after}
-use Rattle.m36_model.specs.Store.{refusing_violation, spots_of, places, changes, serve, run}
+use Rattle.m36_model.specs.Store.{refusing_violation, spots_of, spots_of_request, changes, serve, run}
 use Rattle.m36_model.specs.Stores.{store, store_zero, indicators_half, store_indicators, store_if_zero, store_if_equal}
 use Rattle.m36_model.specs.Sums.{into_register, into_register_logical, into_operand, add, add_logical, add_with_carry, sign_extended, subtract, subtract_logical, subtract_with_carry, add_one_to_storage, add_to_storage, subtract_stored, negate}
 use Rattle.m36_model.specs.Tally.{tally}
@@ -32,7 +32,7 @@ use Rattle.m36_model.specs.WorkedCalls.{CallThroughAGate, CallPastTheLimiter, Ca
 use Rattle.m36_model.specs.WorkedEffects.{ComparisonIsSigned, OverflowStoresAndFaults, MaskedOverflowGoesOn, LeastNumberHasNoNegative, SquareOfTheLeastNumber, QuotientIsCutTowardZero, DivisionByZeroIsRefused, LeftShiftSetsCarry, RightShiftCopiesTheSign, RotationComesRound, TransferSetsTheIndex, BooleansGoBitByBit, LongShiftsCrossTheWords, SignIsExtended, IndicatorsAreLoaded, IndicatorsAreStored}
 
 unfoldable pub everything : Unit {0}
-unfolding signed entry_at and_then modulo sum_value sum_carry sum_overflow sum difference_value difference_carry difference_overflow difference negation is_less comparison product quotient remainder is_divide_check bits_of number_from each_bit bitwise and_of or_of xor_of and_not_of call return_to found chain compare test_word test_and_clear compare_masked test_and test_and_not core_put exec first_point load load_complement load_and_clear indicators_of load_indicators and_register or_register xor_register and_storage or_storage xor_storage modifier_value move_of_point core_sdw core_spot with_used with_modified marks with_marks core_marked with_pr load_pointer load_base_pointer store_pointer store_base_pointer store_pointers load_pointers load_packed load_address_pair store_control load_dbr store_dbr load_absolute_address multiply divide with_value set_zero_negative set_zero_negative_carry set_zero_negative_overflow set_zero_negative_carry_overflow set_by_comparison advanced shift_left shift_right shift_right_logical rotate_left left_shift first_bits left_shift_carry copying_right_shift plain_right_shift rotation with_chain_tally operate decode program record_of state_after refusing_violation spots_of places changes serve run store store_zero indicators_half store_indicators store_if_zero store_if_equal into_register into_register_logical into_operand add add_logical add_with_carry sign_extended subtract subtract_logical subtract_with_carry add_one_to_storage add_to_storage subtract_stored negate tally is_taken registers_after_transfer transfer_if transfer_on_overflow transfer_and_set_index transfer_and_set_pointer
+unfolding signed entry_at and_then modulo sum_value sum_carry sum_overflow sum difference_value difference_carry difference_overflow difference negation is_less comparison product quotient remainder is_divide_check bits_of number_from each_bit bitwise and_of or_of xor_of and_not_of call return_to indirect_kind chain compare test_word test_and_clear compare_masked test_and test_and_not core_put exec first_point load load_complement load_and_clear indicators_of load_indicators and_register or_register xor_register and_storage or_storage xor_storage modifier_value move_of_point core_sdw core_spot with_used with_modified marks with_marks core_marked with_pr load_pointer load_base_pointer store_pointer store_base_pointer store_pointers load_pointers load_packed load_address_pair store_control load_dbr store_dbr load_absolute_address multiply divide with_value set_zero_negative set_zero_negative_carry set_zero_negative_overflow set_zero_negative_carry_overflow set_by_comparison advanced shift_left shift_right shift_right_logical rotate_left left_shift first_bits left_shift_carry copying_right_shift plain_right_shift rotation with_chain_tally operate decode program record_of state_after refusing_violation spots_of spots_of_request changes serve run store store_zero indicators_half store_indicators store_if_zero store_if_equal into_register into_register_logical into_operand add add_logical add_with_carry sign_extended subtract subtract_logical subtract_with_carry add_one_to_storage add_to_storage subtract_stored negate tally is_taken registers_after_transfer transfer_if transfer_on_overflow transfer_and_set_index transfer_and_set_pointer
 everything = tt
 
 pub load_reads_its_word : LoadReadsItsWord

@@ -9,7 +9,7 @@ use Rattle.m36_inst.specs.declared.operand.Operand.TheVariants as kind
 use Rattle.m36_model.specs.Fields.{FinalFields}
 use Rattle.m36_model.specs.Registers.{RegsFields}
 use Rattle.m36_model.specs.Act.{Read, Write, Transfer, Call, Locate, Part, Whole, Left, Right, Request, Answer, answered, refer, either}
-use Rattle.m36_model.specs.Store.{Spot, Store, Midstep, Served, ProgramResult, State, run, changes}
+use Rattle.m36_model.specs.Store.{Spot, Store, Midstep, ServeResult, ProgramResult, State, run, changes}
 use Rattle.m36_model.specs.Core.{core_store}
 use Rattle.m36_model.specs.Modification.{here, halt_at}
 use Rattle.m36_model.specs.FirstPoint.{first_point}
@@ -17,7 +17,7 @@ use Rattle.m36_model.specs.Chain.{ChainEnd, chain}
 use Rattle.m36_model.specs.Results.{OperandFields, EffectFields, words_only}
 use Rattle.m36_model.specs.Transfers.{is_taken}
 use Rattle.m36_model.specs.Effect.{exec, is_absa}
-use Rattle.m36_model.specs.Step.{Performed, operation_result, puts_from, with_chain_tally, perform, no_operand, request_at, got_word, got_words, got_place, got_nothing, got_ring, direct_word, addressing, transferring, operate_by_kind, operate_direct, operate_on, operate, Ending, outcome_of, halted, completed, operated, addressed, immediate_halt, no_address, started, admitted, decoded, fetched, indirect_words, decode, fetch_request, program, start, step_record, stepped, run_of_step, record_of, state_after}
+use Rattle.m36_model.specs.Step.{Performed, operation_result, puts_from, with_chain_tally, perform, no_operand, request_at, got_word, got_words, got_place, got_nothing, got_ring, direct_word, addressing, transferring, operate_by_kind, operate_direct, operate_on, operate, Ending, outcome_of, end_halted, end_completed, operate_and_end, form_and_operate, immediate_halt, no_address, execute_admitted, execute_unless_barred, execute_decoded, execute_fetched, indirect_words, decode, fetch_request, program, start_of_step, step_record, state_after_run, run_of_step, record_of, state_after}
 use Rattle.m36_model.specs.StepCases.{ChangedOnlyMarks, IsFetched, IsAdmitted, IsFormed, Reached, IsUnreferenced, IsReferenced, IsClaimed, IsReadAndClaimed, IsAddressed, IsTargeted, IsOperandOf, IsOperand, changes_at_spots, HasEffect, StepCase, fetch_refused, no_instruction, privilege_refused, no_address as no_address_case, address_refused, operation_refused, effected, CaseIsTheStep}
 use Rattle.m36_model.proofs.PutLaw.{IsTallied, all_changes}
 use Rattle.m36_model.proofs.OperandWordsLaw.{written_words}
@@ -72,8 +72,8 @@ module _ {S : Type 0} (o : Store S) (g : RegsFields) (e : Effect) (n : ℕ) (c :
   referenced : (q : Request) (gives : Answer → OperandFields) → (q.kind ≡ Write → ⊥) → IsReferenced o g q gives m u → Effects → Fits → Performs (run o g (refer q (λ a. perform e n g c Whole 0 (gives a))) m)
   unfolding run
   referenced q gives no_write p h b =
-      let same : u.mid.claims ≡ m.claims = ap (λ (v : Served S). v.mid.claims) (sym p.served) ∙ same_claims o g m q no_write in
-      subst (λ (v : Served S). Performs (run o g (answered (λ a. perform e n g c Whole 0 (gives a)) v.reply) v.mid)) (sym p.served) (without_words u.mid refl same p.nothing (gives p.answer) p.operand h b)
+      let same : u.mid.claims ≡ m.claims = ap (λ (v : ServeResult S). v.mid.claims) (sym p.served) ∙ same_claims o g m q no_write in
+      subst (λ (v : ServeResult S). Performs (run o g (answered (λ a. perform e n g c Whole 0 (gives a)) v.reply) v.mid)) (sym p.served) (without_words u.mid refl same p.nothing (gives p.answer) p.operand h b)
 
   claimed : (m' : Midstep S) → m'.claims ≡ m.claims → (count : ℕ) (part : Part) (got : OperandFields) → IsClaimed o g (request_at Write c count) part got m' u → Effects → Performs (run o g (refer (request_at Write c count) (λ a. perform e n g c part a.first got)) m')
   unfolding run
@@ -87,14 +87,14 @@ module _ {S : Type 0} (o : Store S) (g : RegsFields) (e : Effect) (n : ℕ) (c :
         place = inr (w.first ∙ ap length same);
         gives = done_by part p.answer.first got p.operand h u.mid ∙ (λ i. record { value = Ok (record { regs = x.regs; puts = c.pending ++ parts i; overflow = x.overflow }); mid = u.mid });
       } in
-      subst (λ (v : Served S). Performs (run o g (answered (λ a. perform e n g c part a.first got) v.reply) v.mid)) (sym p.served) all
+      subst (λ (v : ServeResult S). Performs (run o g (answered (λ a. perform e n g c part a.first got) v.reply) v.mid)) (sym p.served) all
 
   changed : (part : Part) → IsReadAndClaimed o g c part m u → Effects → Performs (run o g (refer (request_at Read c 1) (λ a. refer (request_at Write c 1) (λ b. perform e n g c part b.first (words_only a.words)))) m)
   unfolding run
   changed part p h =
       let q = request_at Read c 1 in
-      let same : p.between.claims ≡ m.claims = ap (λ (v : Served S). v.mid.claims) (sym p.read) ∙ same_claims o g m q (λ x. cc) in
-      subst (λ (v : Served S). Performs (run o g (answered (λ a. refer (request_at Write c 1) (λ b. perform e n g c part b.first (words_only a.words))) v.reply) v.mid)) (sym p.read) (claimed p.between same 1 part (words_only p.answer.words) p.write h)
+      let same : p.between.claims ≡ m.claims = ap (λ (v : ServeResult S). v.mid.claims) (sym p.read) ∙ same_claims o g m q (λ x. cc) in
+      subst (λ (v : ServeResult S). Performs (run o g (answered (λ a. refer (request_at Write c 1) (λ b. perform e n g c part b.first (words_only a.words))) v.reply) v.mid)) (sym p.read) (claimed p.between same 1 part (words_only p.answer.words) p.write h)
 
   addresses : (absa : Bool) → IsAddressed o g c absa m u → Effects → Fits → Performs (run o g (addressing e n g c absa) m)
   addresses false p h b = unreferenced no_operand p h b
@@ -133,49 +133,49 @@ module _ {S : Type 0} (o : Store S) (g : RegsFields) (e : Effect) (n : ℕ) (c :
 module _ {S : Type 0} (o : Store S) (quiet : (x : S) → o.put x [] ≡ x) (s : State S) (e : StepRecord) (t : State S) where
   -- a run of the step's program gives the record and the state
   abbrev Tells : ProgramResult Ending S → Type 0
-  Tells x = (e ≡ step_record s.regs x) × (t ≡ stepped o x)
+  Tells x = (e ≡ step_record s.regs x) × (t ≡ state_after_run o x)
 
-  halts : (m : Midstep S) (word : Option ℕ) (at : Option FinalFields) (h : Halt) → ChangedOnlyMarks s e t m word at (outcome_of h) → Tells (run o s.regs (halted s.regs word at h) m)
+  halts : (m : Midstep S) (word : Option ℕ) (at : Option FinalFields) (h : Halt) → ChangedOnlyMarks s e t m word at (outcome_of h) → Tells (run o s.regs (end_halted s.regs word at h) m)
   unfolding run changes
   halts m word at h l =
       let nothing : m.store ≡ o.put m.store [] = sym (quiet m.store) in
       (l.told, l.left ∙ (λ i. record { regs = s.regs; store = nothing i }))
 
-  on_fetched : (w : ℕ) (right : Bool) (m : Midstep S) → IsFetched o s w right m → Tells (run o s.regs (decoded s.regs w right (decode w)) m) → Tells (run_of_step o s)
+  on_fetched : (w : ℕ) (right : Bool) (m : Midstep S) → IsFetched o s w right m → Tells (run o s.regs (execute_decoded s.regs w right (decode w)) m) → Tells (run_of_step o s)
   unfolding program run
   on_fetched w right m f told =
       let got = slice_index f.answer.words 0 in
-      let by_word = subst (λ (v : ℕ). Tells (run o s.regs (decoded s.regs v right (decode v)) m)) (sym f.word_is) told in
-      let by_right = subst (λ (b : Bool). Tells (run o s.regs (decoded s.regs got b (decode got)) m)) (sym f.right_is) by_word in
-      subst (λ (v : Served S). Tells (run o s.regs (fetched s.regs v.reply) v.mid)) (sym f.served) by_right
+      let by_word = subst (λ (v : ℕ). Tells (run o s.regs (execute_decoded s.regs v right (decode v)) m)) (sym f.word_is) told in
+      let by_right = subst (λ (b : Bool). Tells (run o s.regs (execute_decoded s.regs got b (decode got)) m)) (sym f.right_is) by_word in
+      subst (λ (v : ServeResult S). Tells (run o s.regs (execute_fetched s.regs v.reply) v.mid)) (sym f.served) by_right
 
-  on_decoded : (w : ℕ) (right : Bool) (m : Midstep S) → IsFetched o s w right m → (d : Option (Effect × ℕ)) → decode w ≡ d → Tells (run o s.regs (decoded s.regs w right d) m) → Tells (run_of_step o s)
+  on_decoded : (w : ℕ) (right : Bool) (m : Midstep S) → IsFetched o s w right m → (d : Option (Effect × ℕ)) → decode w ≡ d → Tells (run o s.regs (execute_decoded s.regs w right d) m) → Tells (run_of_step o s)
   on_decoded w right m f d known told =
-      on_fetched w right m f (subst (λ (y : Option (Effect × ℕ)). Tells (run o s.regs (decoded s.regs w right y) m)) (sym known) told)
+      on_fetched w right m f (subst (λ (y : Option (Effect × ℕ)). Tells (run o s.regs (execute_decoded s.regs w right y) m)) (sym known) told)
 
-  on_admitted : (w : ℕ) (i : Effect) (n : ℕ) (m : Midstep S) → IsAdmitted o s w i n m → Tells (run o s.regs (started i n s.regs w (operand_of i)) m) → Tells (run_of_step o s)
+  on_admitted : (w : ℕ) (i : Effect) (n : ℕ) (m : Midstep S) → IsAdmitted o s w i n m → Tells (run o s.regs (execute_admitted i n s.regs w (operand_of i)) m) → Tells (run_of_step o s)
   on_admitted w i n m a told =
-      on_decoded w a.right m a.fetched (Some (i, n)) a.decoded (subst (λ (b : Bool). Tells (run o s.regs (admitted i n s.regs w b) m)) (sym a.allowed) told)
+      on_decoded w a.right m a.fetched (Some (i, n)) a.decoded (subst (λ (b : Bool). Tells (run o s.regs (execute_unless_barred i n s.regs w b) m)) (sym a.allowed) told)
 
   at_once_tells : (i : Effect) (w : ℕ) (m : Midstep S) → ChangedOnlyMarks s e t m (Some w) None (outcome_of (immediate_halt i s.regs)) → Tells (run o s.regs (no_address i s.regs w) m)
   at_once_tells effect.Mme w m l = halts m (Some w) None (halt_at 2 (here s.regs)) l
   at_once_tells effect.Drl w m l = halts m (Some w) None (halt_at 6 (here s.regs)) l
   at_once_tells _ w m l = halts m (Some w) None (halt.Stop stop.Dis) l
 
-  starts : (i : Effect) (n w : ℕ) (m : Midstep S) (k : Operand) → forms_address k ≡ true → Tells (run o s.regs (addressed i n s.regs w) m) → Tells (run o s.regs (started i n s.regs w k) m)
+  starts : (i : Effect) (n w : ℕ) (m : Midstep S) (k : Operand) → forms_address k ≡ true → Tells (run o s.regs (form_and_operate i n s.regs w) m) → Tells (run o s.regs (execute_admitted i n s.regs w k) m)
   starts i n w m kind.N f told = cc
   starts i n w m _ f told = told
 
-  on_address : (w : ℕ) (i : Effect) (n : ℕ) (before : Midstep S) → IsAdmitted o s w i n before → forms_address (operand_of i) ≡ true → (v : Result ChainEnd Halt) (m : Midstep S) → run o s.regs (chain indirect_words s.regs (first_point s.regs (inst_of w))) before ≡ record { value = v; mid = m } → Tells (run o s.regs (either (operated i n s.regs w) (halted s.regs (Some w) None) v) m) → Tells (run_of_step o s)
+  on_address : (w : ℕ) (i : Effect) (n : ℕ) (before : Midstep S) → IsAdmitted o s w i n before → forms_address (operand_of i) ≡ true → (v : Result ChainEnd Halt) (m : Midstep S) → run o s.regs (chain indirect_words s.regs (first_point s.regs (inst_of w))) before ≡ record { value = v; mid = m } → Tells (run o s.regs (either (operate_and_end i n s.regs w) (end_halted s.regs (Some w) None) v) m) → Tells (run_of_step o s)
   on_address w i n before a f v m known told =
       let act = chain indirect_words s.regs (first_point s.regs (inst_of w)) in
-      let k = either (operated i n s.regs w) (halted s.regs (Some w) None) in
+      let k = either (operate_and_end i n s.regs w) (end_halted s.regs (Some w) None) in
       let ends = subst (λ (y : ProgramResult (Result ChainEnd Halt) S). Tells (run o s.regs (k y.value) y.mid)) (sym known) told in
       on_admitted w i n before a (starts i n w before (operand_of i) f (subst Tells (sym (run_then o s.regs act k before)) ends))
 
-  on_operation : (w : ℕ) (i : Effect) (n : ℕ) (c : ChainEnd) (m : Midstep S) → IsFormed o s w i n c m → (r : ProgramResult (Result Performed Halt) S) → run o s.regs (operate i n s.regs c) m ≡ r → Tells (run o s.regs (either (completed s.regs w c.last) (halted s.regs (Some w) (Some c.last)) r.value) r.mid) → Tells (run_of_step o s)
+  on_operation : (w : ℕ) (i : Effect) (n : ℕ) (c : ChainEnd) (m : Midstep S) → IsFormed o s w i n c m → (r : ProgramResult (Result Performed Halt) S) → run o s.regs (operate i n s.regs c) m ≡ r → Tells (run o s.regs (either (end_completed s.regs w c.last) (end_halted s.regs (Some w) (Some c.last)) r.value) r.mid) → Tells (run_of_step o s)
   on_operation w i n c m f r known told =
-      let k = either (completed s.regs w c.last) (halted s.regs (Some w) (Some c.last)) in
+      let k = either (end_completed s.regs w c.last) (end_halted s.regs (Some w) (Some c.last)) in
       let ends = subst (λ (y : ProgramResult (Result Performed Halt) S). Tells (run o s.regs (k y.value) y.mid)) (sym known) told in
       on_address w i n f.before f.admitted f.forms (Ok c) m f.formed (subst Tells (sym (run_then o s.regs (operate i n s.regs c) k m)) ends)
 
@@ -183,7 +183,7 @@ module _ {S : Type 0} (o : Store S) (quiet : (x : S) → o.put x [] ≡ x) (s : 
   tallies : (w : ℕ) (i : Effect) (n : ℕ) (c : ChainEnd) (m : Midstep S) → IsFormed o s w i n c m → IsTallied c m.claims
   tallies w i n c m f =
       let fetch = f.admitted.fetched in
-      let none : f.before.claims ≡ [] = ap (λ (v : Served S). v.mid.claims) (sym fetch.served) ∙ same_claims o s.regs (start s) (fetch_request s.regs) (λ x. cc) in
+      let none : f.before.claims ≡ [] = ap (λ (v : ServeResult S). v.mid.claims) (sym fetch.served) ∙ same_claims o s.regs (start_of_step s) (fetch_request s.regs) (λ x. cc) in
       let post = chain_claims o s.regs indirect_words (first_point s.regs (inst_of w)) f.before none in
       subst (λ (r : ProgramResult (Result ChainEnd Halt) S). PostOf r.value r.mid) f.formed post
 
@@ -203,14 +203,14 @@ module _ {S : Type 0} (o : Store S) (quiet : (x : S) → o.put x [] ≡ x) (s : 
   case_tells : StepCase o s e t → Tells (run_of_step o s)
   unfolding program run
   case_tells (fetch_refused f m served l) =
-      subst (λ (v : Served S). Tells (run o s.regs (fetched s.regs v.reply) v.mid)) (sym served) (halts m None None (halt.Fault f) l)
+      subst (λ (v : ServeResult S). Tells (run o s.regs (execute_fetched s.regs v.reply) v.mid)) (sym served) (halts m None None (halt.Fault f) l)
   case_tells (no_instruction w right m f none l) =
       on_decoded w right m f None none (halts m (Some w) None (halt.Stop stop.Operation) l)
   case_tells (privilege_refused w m i n f row privileged l) =
       let refusing_violation : (is_privileged i && not false) ≡ true = ap (λ (b : Bool). b && true) privileged in
-      on_decoded w false m f (Some (i, n)) row (subst (λ (b : Bool). Tells (run o s.regs (admitted i n s.regs w b) m)) (sym refusing_violation) (halts m (Some w) None (halt_at 10 (here s.regs)) l))
+      on_decoded w false m f (Some (i, n)) row (subst (λ (b : Bool). Tells (run o s.regs (execute_unless_barred i n s.regs w b) m)) (sym refusing_violation) (halts m (Some w) None (halt_at 10 (here s.regs)) l))
   case_tells (no_address_case w m i n a none l) =
-      on_admitted w i n m a (subst (λ (k : Operand). Tells (run o s.regs (started i n s.regs w k) m)) (sym none) (at_once_tells i w m l))
+      on_admitted w i n m a (subst (λ (k : Operand). Tells (run o s.regs (execute_admitted i n s.regs w k) m)) (sym none) (at_once_tells i w m l))
   case_tells (address_refused w before m i n h a forms known l) =
       on_address w i n before a forms (Err h) m known (halts m (Some w) None h l)
   case_tells (operation_refused w before m i n c h f known l) =

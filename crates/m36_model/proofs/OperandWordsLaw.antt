@@ -3,7 +3,7 @@ use Rattle.std.proofs.Common.{ℕ, zero, suc, ◌≡◌, ◌+◌, ◌<◌, refl,
 use Rattle.m36_desc.specs.Fields.{SdwFields, DbrFields}
 use Rattle.m36_model.specs.Registers.{RegsFields}
 use Rattle.m36_model.specs.Act.{RequestKind, Read, Write, Request, Answer}
-use Rattle.m36_model.specs.Store.{Spot, Store, Midstep, Served, serve, serve_sdw, serve_rights, serve_places, refusing_violation, places, spots_from, spots_of, changes, is_within_bound, reads, after_marks, located_address, with_claims, spots_of_request_by, bound_only, is_target}
+use Rattle.m36_model.specs.Store.{Spot, Store, Midstep, ServeResult, serve, serve_sdw, serve_rights, serve_places, refusing_violation, spots_of_request, spots_from, spots_of, changes, is_within_bound, reads, after_marks, located_address, with_claims, spots_of_request_by, bound_only, is_target}
 use Rattle.m36_model.specs.Core.{core_store}
 use Rattle.m36_model.specs.OperandWords.{ArePlaces, AreReadWords, AreWrittenWords, ReadsWordsInOrder, WritesWordsInOrder}
 use Rattle.m36_model.specs.declared.outcome.Refusal.{Refusal}
@@ -66,17 +66,17 @@ module _ {S : Type 0} (o : Store S) (s : S) (dbr : DbrFields) (d : SdwFields) (s
 pub record IsAnswered {S : Type 0} (o : Store S) (g : RegsFields) (m : Midstep S) (q : Request) (a : Answer) (after : Midstep S) : Type 0 where
   pub spots : List Spot
   pub found : o.sdw m.store g.dbr q.at.seg ≡ Ok a.sdw
-  pub placed : places o m.store g.dbr a.sdw q ≡ Ok spots
+  pub placed : spots_of_request o m.store g.dbr a.sdw q ≡ Ok spots
   pub words : a.words ≡ (if reads q.kind then map (o.word (o.put after.store (changes m.claims q.pending))) spots else [])
   pub first : a.first ≡ length m.claims
   pub claims : after.claims ≡ with_claims q.kind spots m.claims
 
 module _ {S : Type 0} (o : Store S) (g : RegsFields) (m : Midstep S) (q : Request) (a : Answer) (after : Midstep S) where
-  by_places : (d : SdwFields) (r : Result (List Spot) (ℕ × Refusal)) → o.sdw m.store g.dbr q.at.seg ≡ Ok d → places o m.store g.dbr d q ≡ r → serve_places o g m q d r ≡ record { reply = Ok a; mid = after } → IsAnswered o g m q a after
-  by_places d (Err x) e p h = let no_reply = ap (λ (t : Served S). t.reply) h in cc
+  by_places : (d : SdwFields) (r : Result (List Spot) (ℕ × Refusal)) → o.sdw m.store g.dbr q.at.seg ≡ Ok d → spots_of_request o m.store g.dbr d q ≡ r → serve_places o g m q d r ≡ record { reply = Ok a; mid = after } → IsAnswered o g m q a after
+  by_places d (Err x) e p h = let no_reply = ap (λ (t : ServeResult S). t.reply) h in cc
   by_places d (Ok spots) e p h =
-      let reply = ap (λ (t : Served S). t.reply) h in
-      let mid = ap (λ (t : Served S). t.mid) h in
+      let reply = ap (λ (t : ServeResult S). t.reply) h in
+      let mid = ap (λ (t : ServeResult S). t.mid) h in
       let s = after_marks o m.store g.dbr q in
       let given : Answer =
       record {
@@ -98,11 +98,11 @@ module _ {S : Type 0} (o : Store S) (g : RegsFields) (m : Midstep S) (q : Reques
       }
 
   by_rights : (d : SdwFields) (r : Option ℕ) → o.sdw m.store g.dbr q.at.seg ≡ Ok d → serve_rights o g m q d r ≡ record { reply = Ok a; mid = after } → IsAnswered o g m q a after
-  by_rights d (Some acv) e h = let no_reply = ap (λ (t : Served S). t.reply) h in cc
-  by_rights d None e h = by_places d (places o m.store g.dbr d q) e refl h
+  by_rights d (Some acv) e h = let no_reply = ap (λ (t : ServeResult S). t.reply) h in cc
+  by_rights d None e h = by_places d (spots_of_request o m.store g.dbr d q) e refl h
 
   by_sdw : (r : Result SdwFields Refusal) → o.sdw m.store g.dbr q.at.seg ≡ r → serve_sdw o g m q r ≡ record { reply = Ok a; mid = after } → IsAnswered o g m q a after
-  by_sdw (Err why) e h = let no_reply = ap (λ (t : Served S). t.reply) h in cc
+  by_sdw (Err why) e h = let no_reply = ap (λ (t : ServeResult S). t.reply) h in cc
   by_sdw (Ok d) e h =
       by_rights d (refusing_violation q.kind d q.at.ring g.ppr.prr (q.at.seg == g.ppr.psr) q.at.word) e h
 
@@ -116,11 +116,11 @@ module _ {S : Type 0} (o : Store S) (s : S) (dbr : DbrFields) (d : SdwFields) (q
   spots_by false e h = h
 
   -- every word has a place, except for targets of transfers and calls
-  placed_words : is_target q.kind ≡ false → places o s dbr d q ≡ Ok spots → spots_of o s dbr d q.at.seg q.at.word q.count ≡ Ok spots
-  unfolding places
+  placed_words : is_target q.kind ≡ false → spots_of_request o s dbr d q ≡ Ok spots → spots_of o s dbr d q.at.seg q.at.word q.count ≡ Ok spots
+  unfolding spots_of_request
   placed_words e h = spots_by (is_target q.kind) e h
 
-are_places : {S : Type 0} (o : Store S) (s : S) (g : RegsFields) (q : Request) (d : SdwFields) (spots : List Spot) → is_target q.kind ≡ false → places o s g.dbr d q ≡ Ok spots → ArePlaces o s g q d spots
+are_places : {S : Type 0} (o : Store S) (s : S) (g : RegsFields) (q : Request) (d : SdwFields) (spots : List Spot) → is_target q.kind ≡ false → spots_of_request o s g.dbr d q ≡ Ok spots → ArePlaces o s g q d spots
 are_places o s g q d spots e h =
     let u = are_spots o s g.dbr d q.at.seg q.count q.at.word spots (placed_words o s g.dbr d q spots e h) in
     record { count = u.count; inside = u.inside; each = u.each }

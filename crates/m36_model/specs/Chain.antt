@@ -39,8 +39,8 @@ abbrev pub ends_plain : FinalFields → Formation
 ends_plain last = done (Ok (without_tally last))
 
 -- the request for an indirect word, in the segment and the ring of its point
-abbrev pub indirect : RequestKind → Point → ℕ → Request
-indirect kind p word = record { kind = kind; at = at_point p word; count = 1; pending = [] }
+abbrev pub indirect_request : RequestKind → Point → ℕ → Request
+indirect_request kind p word = record { kind = kind; at = at_point p word; count = 1; pending = [] }
 
 -- The kinds of indirect words. At an even word number, tag 43 makes a word the even word of an ITS
 -- pair, and tag 41 that of an ITP pair. Every other word is a plain indirect word.
@@ -58,8 +58,8 @@ abbrev pub indirect_tag : ℕ → ℕ
 indirect_tag w = tag_of w
 
 -- what an indirect word is, by its word number and its tag
-unfoldable pub found : ℕ → ℕ → IndirectKind
-found word w = if word % 2 == 0 then kind_by_tag (indirect_tag w) else Plain
+unfoldable pub indirect_kind : ℕ → ℕ → IndirectKind
+indirect_kind word w = if word % 2 == 0 then kind_by_tag (indirect_tag w) else Plain
 
 -- The point after a plain indirect word: y and the tag are those of the word. Segment, ring and bit
 -- number do not change (the bit number: this project's choice).
@@ -113,10 +113,10 @@ abbrev pub after_word :
 after_word next g p word held a Plain =
     next (plain_point p word held (slice_index a.words 0) a.sdw.r1)
 after_word next g p word held a Its =
-    refer (indirect Odd p (word + 1)) (λ b.
+    refer (indirect_request Odd p (word + 1)) (λ b.
     next (its_point p word held (slice_index a.words 0) (slice_index b.words 0) a.sdw.r1))
 after_word next g p word held a Itp =
-    refer (indirect Odd p (word + 1)) (λ b.
+    refer (indirect_request Odd p (word + 1)) (λ b.
     next (itp_point g p word held (slice_index a.words 0) (slice_index b.words 0) a.sdw.r1))
 
 -- The final address after a tally word: the computed address, in the same segment and ring, with
@@ -139,7 +139,7 @@ tally_end p claim counted =
 abbrev pub after_tally : Point → ℕ → Answer → Bool → Formation
 after_tally p td a true = ends_plain (tally_final p (tally_address (slice_index a.words 0)))
 after_tally p td a false =
-    refer (indirect Write p p.y) (λ b.
+    refer (indirect_request Write p p.y) (λ b.
     done (Ok (tally_end p b.first (tally td (slice_index a.words 0)))))
 
 -- the chain from a point at which an indirect word may be read, by what its tag does; `next` is the
@@ -148,10 +148,10 @@ abbrev pub chain_by : (Point → Formation) → RegsFields → Point → Move �
 chain_by next g p (Ends last) = ends_plain last
 chain_by next g p (Fails h) = done (Err h)
 chain_by next g p (Reads word held) =
-    refer (indirect Indirect p word) (λ a.
-    after_word next g p word held a (found word (slice_index a.words 0)))
+    refer (indirect_request Indirect p word) (λ a.
+    after_word next g p word held a (indirect_kind word (slice_index a.words 0)))
 chain_by next g p Counts =
-    refer (indirect Indirect p p.y) (λ a.
+    refer (indirect_request Indirect p p.y) (λ a.
     after_tally p (p.tag % 16) a (p.tag % 16 == indirect_only))
 
 -- The halt by a 17th indirect word: a lockup fault at this word. The word is not read, nor are the

@@ -10,7 +10,7 @@ use Rattle.m36_model.specs.Store.{Store, Midstep, ProgramResult, serve, run}
 use Rattle.m36_model.specs.Core.{core_store}
 use Rattle.m36_model.specs.Modification.{Point, Move, Ends, Fails, Reads, Counts, move_of_point}
 use Rattle.m36_model.specs.Tally.{tally, tally_address, indirect_only}
-use Rattle.m36_model.specs.Chain.{ChainEnd, without_tally, IndirectKind, Its, Itp, Plain, found, indirect}
+use Rattle.m36_model.specs.Chain.{ChainEnd, without_tally, IndirectKind, Its, Itp, Plain, indirect_kind, indirect_request}
 use Rattle.m36_model.specs.Chain.{plain_point, its_point, itp_point, tally_final, tally_end, lockup}
 use Rattle.m36_model.specs.Chain.{chain}
 use Rattle.m36_model.specs.Step.{indirect_words}
@@ -52,11 +52,11 @@ abbrev pub after_indirect_word :
 after_indirect_word o g s word held a m Plain =
     goes_on_at s (plain_point s.point word held (slice_index a.words 0) a.sdw.r1) m
 after_indirect_word o g s word held a m Its =
-    let t = serve o g m (indirect Odd s.point (word + 1)) in
+    let t = serve o g m (indirect_request Odd s.point (word + 1)) in
     after_odd_word s (λ odd. its_point s.point word held (slice_index a.words 0) odd a.sdw.r1) t.mid
     t.reply
 after_indirect_word o g s word held a m Itp =
-    let t = serve o g m (indirect Odd s.point (word + 1)) in
+    let t = serve o g m (indirect_request Odd s.point (word + 1)) in
     after_odd_word s (λ odd. itp_point g s.point word held (slice_index a.words 0) odd a.sdw.r1) t.mid
     t.reply
 
@@ -65,14 +65,14 @@ abbrev pub after_indirect_reference :
     {S : Type 0} → Store S → RegsFields → Stage S → ℕ → Option ℕ → Midstep S → Result Answer Fault
     → ChainStep S
 after_indirect_reference o g s word held m (Ok a) =
-    after_indirect_word o g s word held a m (found word (slice_index a.words 0))
+    after_indirect_word o g s word held a m (indirect_kind word (slice_index a.words 0))
 after_indirect_reference o g s word held m (Err f) = refused_with (halt.Fault f) m
 
 -- what follows a point that reads an indirect word, if one more may be read (true); otherwise the
 -- lockup
 abbrev pub at_indirect_word : {S : Type 0} → Store S → RegsFields → Stage S → ℕ → Option ℕ → Bool → ChainStep S
 at_indirect_word o g s word held true =
-    let t = serve o g s.mid (indirect Indirect s.point word) in
+    let t = serve o g s.mid (indirect_request Indirect s.point word) in
     after_indirect_reference o g s word held t.mid t.reply
 at_indirect_word o g s word held false = refused_with (lockup s.point word) s.mid
 
@@ -89,7 +89,7 @@ abbrev pub after_tally_read_by :
 after_tally_read_by o g s a m true =
     ends_with (without_tally (tally_final s.point (tally_address (slice_index a.words 0)))) m
 after_tally_read_by o g s a m false =
-    let t = serve o g m (indirect Write s.point s.point.y) in after_tally_claim s a t.mid t.reply
+    let t = serve o g m (indirect_request Write s.point s.point.y) in after_tally_claim s a t.mid t.reply
 
 -- what follows the reference to the tally word: as `after_tally_read_by`, or the refusal of this word
 abbrev pub after_tally_read :
@@ -101,7 +101,7 @@ after_tally_read o g s m (Err f) = refused_with (halt.Fault f) m
 -- otherwise the lockup
 abbrev pub at_tally_word : {S : Type 0} → Store S → RegsFields → Stage S → Bool → ChainStep S
 at_tally_word o g s true =
-    let t = serve o g s.mid (indirect Indirect s.point s.point.y) in after_tally_read o g s t.mid t.reply
+    let t = serve o g s.mid (indirect_request Indirect s.point s.point.y) in after_tally_read o g s t.mid t.reply
 at_tally_word o g s false = refused_with (lockup s.point s.point.y) s.mid
 
 -- what follows a point, by what its tag does

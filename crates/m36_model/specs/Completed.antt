@@ -6,7 +6,7 @@ use Rattle.m36_model.specs.Registers.{RegsFields}
 use Rattle.m36_model.specs.Act.{Request, Answer, Act, done, ask}
 use Rattle.m36_model.specs.Store.{Store, Midstep, State, serve, touches, with_reference}
 use Rattle.m36_model.specs.Core.{core_store}
-use Rattle.m36_model.specs.Step.{program, start, run_of_step}
+use Rattle.m36_model.specs.Step.{program, start_of_step, run_of_step}
 use Rattle.m36_model.specs.declared.outcome.Fault.{Fault}
 use Rattle.m36_model.specs.declared.place.Reference.{Reference}
 
@@ -17,10 +17,10 @@ completed_by q (Ok a) = if touches q.kind then q ∷ [] else []
 completed_by q (Err f) = []
 
 -- the requests that a run completes, in order
-unfoldable pub completed : {A S : Type 0} → Store S → RegsFields → Act A → Midstep S → List Request
-completed o g (done a) m = []
-completed o g (ask q next) m =
-    let t = serve o g m q in completed_by q t.reply ++ completed o g (next t.reply) t.mid
+unfoldable pub completed_requests : {A S : Type 0} → Store S → RegsFields → Act A → Midstep S → List Request
+completed_requests o g (done a) m = []
+completed_requests o g (ask q next) m =
+    let t = serve o g m q in completed_by q t.reply ++ completed_requests o g (next t.reply) t.mid
 
 -- the store with the marks of requests, one after another
 unfoldable pub with_marks_of : {S : Type 0} → Store S → DbrFields → S → List Request → S
@@ -36,13 +36,13 @@ references_of refs (q ∷ more) = references_of (with_reference q.kind q refs) m
 
 -- The run of a step from a state sets exactly the marks of the requests that it completes, and
 -- records their references.
-pub record IsMarked {S : Type 0} (o : Store S) (s : State S) : Type 0 where
+pub record HasMarksOfCompleted {S : Type 0} (o : Store S) (s : State S) : Type 0 where
   pub marks :
       (run_of_step o s).mid.store
-      ≡ with_marks_of o s.regs.dbr s.store (completed o s.regs (program s.regs) (start s))
+      ≡ with_marks_of o s.regs.dbr s.store (completed_requests o s.regs (program s.regs) (start_of_step s))
   pub references :
-      (run_of_step o s).mid.refs ≡ references_of [] (completed o s.regs (program s.regs) (start s))
+      (run_of_step o s).mid.refs ≡ references_of [] (completed_requests o s.regs (program s.regs) (start_of_step s))
 
 -- In every step, exactly the marks of the completed references are set before words are written.
 abbrev pub MarksOfCompletedReferences : Type 0
-MarksOfCompletedReferences = (s : State (List ℕ)) → IsMarked core_store s
+MarksOfCompletedReferences = (s : State (List ℕ)) → HasMarksOfCompleted core_store s

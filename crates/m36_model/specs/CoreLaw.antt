@@ -22,12 +22,12 @@ IsPtwWord core dbr a =
     ⊎ ((seg : ℕ) × (page : ℕ) × IsPageWord core dbr seg page a)
 
 -- `new` is `old` with its used bit turned on, and perhaps its modified bit
-abbrev pub IsMarked : ℕ → ℕ → Type 0
-IsMarked old new = (new ≡ marked_word false old) ⊎ (new ≡ marked_word true old)
+abbrev pub IsPtwMarked : ℕ → ℕ → Type 0
+IsPtwMarked old new = (new ≡ marked_word false old) ⊎ (new ≡ marked_word true old)
 
 -- The core word at an address is unchanged, or is a PTW on which marks were turned on.
 abbrev pub IsSameExceptMarks : List ℕ → DbrFields → ℕ → ℕ → ℕ → Type 0
-IsSameExceptMarks core dbr a old new = (new ≡ old) ⊎ (IsPtwWord core dbr a × IsMarked old new)
+IsSameExceptMarks core dbr a old new = (new ≡ old) ⊎ (IsPtwWord core dbr a × IsPtwMarked old new)
 
 -- core is unchanged, except for marks on PTWs
 pub record IsMarkedFrom (core : List ℕ) (dbr : DbrFields) (old new : List ℕ) : Type 0 where

@@ -99,8 +99,8 @@ findings_of_process i findings = as_joint_findings (Some i) findings
 
 -- the finding of a condition between processes as a list of one; an empty list if the condition
 -- holds
-abbrev pub between : ℕ → Option ℕ → List JointFindingFields
-between condition place = as_joint_findings None (numbered_finding condition place)
+abbrev pub joint_finding : ℕ → Option ℕ → List JointFindingFields
+joint_finding condition place = as_joint_findings None (numbered_finding condition place)
 
 -- the findings of the processes from number i on, in order
 abbrev pub AreFindingsFrom : ℕ → List ℕ → List DbrFields → List JointFindingFields → Type 0
@@ -120,4 +120,4 @@ pub record AreJointFindings (core : List ℕ) (dbrs : List DbrFields)
   pub finds_second : Finds (IsJointTable core dbrs) second
   pub third : Option ℕ
   pub finds_third : Finds (IsJointSegment core dbrs) third
-  pub listed : findings ≡ own ++ between 2 second ++ between 3 third
+  pub listed : findings ≡ own ++ joint_finding 2 second ++ joint_finding 3 third

@@ -39,8 +39,8 @@ state_after_all after s [] = s
 state_after_all after s (x ∷ more) = state_after_all after (after x) more
 
 -- the records of a run
-abbrev pub told : {S : Type 0} → Store S → ℕ → State S → List StepRecord
-told o n s = map (λ v. v.told) (run_steps o n s)
+abbrev pub records_of_run : {S : Type 0} → Store S → ℕ → State S → List StepRecord
+records_of_run o n s = map (λ v. v.told) (run_steps o n s)
 
 -- the steps up to the first one that ends in a ring below r
 unfoldable pub cut_below : {S : Type 0} → ℕ → List (RunStep S) → List (RunStep S)

@@ -25,8 +25,8 @@ pub record Event (S : Type 0) : Type 0 where
 
 -- The processes after a step of process i, whose registers are g. The registers of the others do
 -- not change.
-abbrev pub stepped : {S : Type 0} → Store S → Processes S → ℕ → RegsFields → Processes S
-stepped o s i g =
+abbrev pub processes_after : {S : Type 0} → Store S → Processes S → ℕ → RegsFields → Processes S
+processes_after o s i g =
     record {
       regs = slice_set s.regs i (state_after o (process_of s g)).regs;
       store = (state_after o (process_of s g)).store;
@@ -35,7 +35,7 @@ stepped o s i g =
 -- the event of a step of process i, whose registers are g
 abbrev pub event : {S : Type 0} → Store S → Processes S → ℕ → RegsFields → Event S
 event o s i g =
-    record { process = i; before = s; told = record_of o (process_of s g); after = stepped o s i g }
+    record { process = i; before = s; told = record_of o (process_of s g); after = processes_after o s i g }
 
 -- The events of a schedule that begins with process i: a step of this process, and then the events
 -- of `rest`. A number that no process has (None) is no event.
@@ -43,7 +43,7 @@ abbrev pub events_by :
     {S : Type 0} → Store S → Processes S → ℕ → Option RegsFields → (Processes S → List (Event S))
     → List (Event S)
 events_by o s i None rest = rest s
-events_by o s i (Some g) rest = event o s i g ∷ rest (stepped o s i g)
+events_by o s i (Some g) rest = event o s i g ∷ rest (processes_after o s i g)
 
 -- The events of a schedule, which is a list of process numbers. Each event is a step of its
 -- process, even if this has stopped or faulted before.

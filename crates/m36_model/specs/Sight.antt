@@ -9,13 +9,13 @@ abbrev pub IsLive : {S : Type 0} → Store S → State S → ℕ → SdwFields �
 IsLive o s seg d = o.sdw s.store s.regs.dbr seg ≡ Ok d
 
 -- the word at a spot, if there is one
-abbrev pub word_of : {S : Type 0} → Store S → S → Result Spot Refusal → Option ℕ
-word_of o s (Ok spot) = Some (o.word s spot)
-word_of o s (Err e) = None
+abbrev pub word_if_placed : {S : Type 0} → Store S → S → Result Spot Refusal → Option ℕ
+word_if_placed o s (Ok spot) = Some (o.word s spot)
+word_if_placed o s (Err e) = None
 
 -- the word of a segment, or None if it has no place
 unfoldable pub content_in : {S : Type 0} → Store S → S → DbrFields → ℕ → ℕ → Option ℕ
-content_in o s dbr seg w = word_of o s (place o s dbr seg w)
+content_in o s dbr seg w = word_if_placed o s (place o s dbr seg w)
 
 -- the content of word w of a segment, in a state
 abbrev pub content : {S : Type 0} → Store S → State S → ℕ → ℕ → Option ℕ

@@ -251,8 +251,8 @@ outcome_of (halt.Fault f) = Faulted f
 outcome_of (halt.Stop s) = Stopped s
 
 -- The end of a step that is refused or stops: the registers are unchanged, and nothing is written.
-abbrev pub halted : RegsFields → Option ℕ → Option FinalFields → Halt → Act Ending
-halted g word at h =
+abbrev pub end_halted : RegsFields → Option ℕ → Option FinalFields → Halt → Act Ending
+end_halted g word at h =
     done (record { word = word; at = at; after = g; puts = []; outcome = outcome_of h })
 
 -- The outcome of a step whose effect happened: an overflow fault (true), or the next instruction.
@@ -266,8 +266,8 @@ abbrev pub outcome_after : Bool → Bool → RegsFields → Outcome
 outcome_after overflow mask g = outcome_by (overflow && not mask) g
 
 -- the end of a step whose operation was performed
-abbrev pub completed : RegsFields → ℕ → FinalFields → Performed → Act Ending
-completed g w last e =
+abbrev pub end_completed : RegsFields → ℕ → FinalFields → Performed → Act Ending
+end_completed g w last e =
     done (record {
       word = Some w;
       at = Some last;
@@ -277,9 +277,9 @@ completed g w last e =
     })
 
 -- performs the operation, once the address is formed, and ends the step
-abbrev pub operated : Effect → ℕ → RegsFields → ℕ → ChainEnd → Act Ending
-operated e n g w c =
-    otherwise (operate e n g c) (completed g w c.last) (halted g (Some w) (Some c.last))
+abbrev pub operate_and_end : Effect → ℕ → RegsFields → ℕ → ChainEnd → Act Ending
+operate_and_end e n g w c =
+    otherwise (operate e n g c) (end_completed g w c.last) (end_halted g (Some w) (Some c.last))
 
 -- the most indirect words that one address may have (this project's choice)
 abbrev pub indirect_words : ℕ
@@ -290,9 +290,9 @@ abbrev pub formation : RegsFields → InstFields → Formation
 formation g i = chain indirect_words g (first_point g i)
 
 -- forms the address, performs the operation, and ends the step
-abbrev pub addressed : Effect → ℕ → RegsFields → ℕ → Act Ending
-addressed e n g w =
-    otherwise (formation g (inst_of w)) (operated e n g w) (halted g (Some w) None)
+abbrev pub form_and_operate : Effect → ℕ → RegsFields → ℕ → Act Ending
+form_and_operate e n g w =
+    otherwise (formation g (inst_of w)) (operate_and_end e n g w) (end_halted g (Some w) None)
 
 -- the fault or stop with which MME, DRL or DIS ends the step
 abbrev pub immediate_halt : Effect → RegsFields → Halt
@@ -302,21 +302,21 @@ immediate_halt _ g = halt.Stop stop.Dis
 
 -- The end of a step of MME, DRL or DIS. They form no address (this project's choice).
 abbrev pub no_address : Effect → RegsFields → ℕ → Act Ending
-no_address e g w = halted g (Some w) None (immediate_halt e g)
+no_address e g w = end_halted g (Some w) None (immediate_halt e g)
 
 -- executes an instruction that may be executed, in the word w, by how it references its operand
-abbrev pub started : Effect → ℕ → RegsFields → ℕ → Operand → Act Ending
-started e n g w kind.N = no_address e g w
-started e n g w _ = addressed e n g w
+abbrev pub execute_admitted : Effect → ℕ → RegsFields → ℕ → Operand → Act Ending
+execute_admitted e n g w kind.N = no_address e g w
+execute_admitted e n g w _ = form_and_operate e n g w
 
 -- whether an instruction is privileged and there is no right to it
 abbrev pub is_barred : Effect → Bool → Bool
 is_barred e right = is_privileged e && not right
 
 -- executes an instruction, unless it is barred (true): then it is an illegal procedure
-abbrev pub admitted : Effect → ℕ → RegsFields → ℕ → Bool → Act Ending
-admitted e n g w true = halted g (Some w) None (halt_here illegal_procedure g)
-admitted e n g w false = started e n g w (operand_of e)
+abbrev pub execute_unless_barred : Effect → ℕ → RegsFields → ℕ → Bool → Act Ending
+execute_unless_barred e n g w true = end_halted g (Some w) None (halt_here illegal_procedure g)
+execute_unless_barred e n g w false = execute_admitted e n g w (operand_of e)
 
 -- the effect of a row, and the number of the register in the name of its instruction
 abbrev pub effect_and_number : Row → Effect × ℕ
@@ -328,9 +328,9 @@ unfoldable pub decode : ℕ → Option (Effect × ℕ)
 decode w = option_map effect_and_number (row_at (inst_of w).code (inst_of w).bit27)
 
 -- executes the instruction that was decoded from the word w; the machine stops if there is none
-abbrev pub decoded : RegsFields → ℕ → Bool → Option (Effect × ℕ) → Act Ending
-decoded g w privileged None = halted g (Some w) None (halt.Stop stop.Operation)
-decoded g w privileged (Some row) = admitted row.0 row.1 g w (is_barred row.0 privileged)
+abbrev pub execute_decoded : RegsFields → ℕ → Bool → Option (Effect × ℕ) → Act Ending
+execute_decoded g w privileged None = end_halted g (Some w) None (halt.Stop stop.Operation)
+execute_decoded g w privileged (Some row) = execute_unless_barred row.0 row.1 g w (is_barred row.0 privileged)
 
 -- The right to privileged instructions: the segment that has the instruction is privileged, and the
 -- ring is 0.
@@ -338,10 +338,10 @@ abbrev pub has_right : SdwFields → ℕ → Bool
 has_right d ring = d.privileged && (ring == 0)
 
 -- executes the instruction that was fetched, or ends with the fault of the fetch
-abbrev pub fetched : RegsFields → Result Answer Fault → Act Ending
-fetched g (Err f) = halted g None None (halt.Fault f)
-fetched g (Ok a) =
-    decoded g (slice_index a.words 0) (has_right a.sdw g.ppr.prr) (decode (slice_index a.words 0))
+abbrev pub execute_fetched : RegsFields → Result Answer Fault → Act Ending
+execute_fetched g (Err f) = end_halted g None None (halt.Fault f)
+execute_fetched g (Ok a) =
+    execute_decoded g (slice_index a.words 0) (has_right a.sdw g.ppr.prr) (decode (slice_index a.words 0))
 
 -- the request for the instruction word, in the ring of execution
 abbrev pub fetch_request : RegsFields → Request
@@ -349,7 +349,7 @@ fetch_request g = record { kind = Fetch; at = here g; count = 1; pending = [] }
 
 -- the program of one step, which depends only on the registers
 unfoldable pub program : RegsFields → Act Ending
-program g = ask (fetch_request g) (fetched g)
+program g = ask (fetch_request g) (execute_fetched g)
 
 -- the record of a step, from the run of its program over a store; g are the registers before it
 abbrev pub step_record : {S : Type 0} → RegsFields → ProgramResult Ending S → StepRecord
@@ -365,17 +365,17 @@ step_record g t =
 
 -- the state after a step: all words of an instruction are written together, once nothing can refuse
 -- it
-abbrev pub stepped : {S : Type 0} → Store S → ProgramResult Ending S → State S
-stepped o t =
+abbrev pub state_after_run : {S : Type 0} → Store S → ProgramResult Ending S → State S
+state_after_run o t =
     record { regs = t.value.after; store = o.put t.mid.store (changes t.mid.claims t.value.puts) }
 
 -- the state within a step at its beginning: nothing is claimed or completed
-abbrev pub start : {S : Type 0} → State S → Midstep S
-start s = initial_midstep s.store
+abbrev pub start_of_step : {S : Type 0} → State S → Midstep S
+start_of_step s = initial_midstep s.store
 
 -- the run of a step's program over a store
 abbrev pub run_of_step : {S : Type 0} → Store S → State S → ProgramResult Ending S
-run_of_step o s = run o s.regs (program s.regs) (start s)
+run_of_step o s = run o s.regs (program s.regs) (start_of_step s)
 
 -- the record of a step
 unfoldable pub record_of : {S : Type 0} → Store S → State S → StepRecord
@@ -383,4 +383,4 @@ record_of o s = step_record s.regs (run_of_step o s)
 
 -- the state after a step
 unfoldable pub state_after : {S : Type 0} → Store S → State S → State S
-state_after o s = stepped o (run_of_step o s)
+state_after o s = state_after_run o (run_of_step o s)

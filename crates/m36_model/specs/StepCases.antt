@@ -31,7 +31,7 @@ use Rattle.m36_model.specs.WordsPut.{words_written, part_written}
 use Rattle.m36_model.specs.Step.{with_chain_tally, no_operand, request_at, got_word, got_words, got_place}
 use Rattle.m36_model.specs.Step.{got_nothing, got_ring, direct_word, operate, outcome_of}
 use Rattle.m36_model.specs.Step.{outcome_after, formation, decode, has_right, fetch_request}
-use Rattle.m36_model.specs.Step.{immediate_halt, is_barred, start, record_of, state_after}
+use Rattle.m36_model.specs.Step.{immediate_halt, is_barred, start_of_step, record_of, state_after}
 use Rattle.m36_model.specs.declared.outcome.Fault.{Fault}
 use Rattle.m36_model.specs.declared.outcome.Halt.{Halt}
 use Rattle.m36_model.specs.declared.outcome.Halt.TheVariants as halt
@@ -61,7 +61,7 @@ pub record IsFetched {S : Type 0} (o : Store S) (s : State S) (word : ℕ) (righ
     (m : Midstep S) : Type 0 where
   pub answer : Answer
   pub served :
-      serve o s.regs (start s) (fetch_request s.regs) ≡ record { reply = Ok answer; mid = m }
+      serve o s.regs (start_of_step s) (fetch_request s.regs) ≡ record { reply = Ok answer; mid = m }
   pub word_is : slice_index answer.words 0 ≡ word
   pub right_is : has_right answer.sdw s.regs.ppr.prr ≡ right
 
@@ -212,7 +212,7 @@ pub data StepCase {S : Type 0} (o : Store S) (s : State S) (e : StepRecord)
     (t : State S) : Type 0 where
   fetch_refused :
       (f : Fault) (m : Midstep S)
-      → serve o s.regs (start s) (fetch_request s.regs) ≡ record { reply = Err f; mid = m }
+      → serve o s.regs (start_of_step s) (fetch_request s.regs) ≡ record { reply = Err f; mid = m }
       → ChangedOnlyMarks s e t m None None (Faulted f) → StepCase o s e t
   no_instruction :
       (word : ℕ) (right : Bool) (m : Midstep S) → IsFetched o s word right m → decode word ≡ None

@@ -143,8 +143,8 @@ past_bound = violation out_of_segment_bounds
 
 -- Whether a word may have a place: the brackets of its descriptor are in order, and it is within
 -- the bound.
-abbrev pub placed : SdwFields → ℕ → Bool
-placed d word = has_ordered_brackets d && is_within_bound d word
+abbrev pub is_placed : SdwFields → ℕ → Bool
+is_placed d word = has_ordered_brackets d && is_within_bound d word
 
 -- the spot that is given, if the word is within the bound (true); otherwise the refusal
 abbrev pub place_within : Bool → Result Spot Refusal → Result Spot Refusal
@@ -213,9 +213,9 @@ spots_of_request_by true target spots = target
 spots_of_request_by false target spots = spots
 
 -- the spots of a request, or the first word that is refused and why
-unfoldable pub places :
+unfoldable pub spots_of_request :
     {S : Type 0} → Store S → S → DbrFields → SdwFields → Request → Result (List Spot) (ℕ × Refusal)
-places o s dbr d q =
+spots_of_request o s dbr d q =
     spots_of_request_by (is_target q.kind) (bound_only (is_within_bound d q.at.word) q.at.word)
     (spots_of o s dbr d q.at.seg q.at.word q.count)
 
@@ -241,12 +241,12 @@ changes claims [] = []
 changes claims (p ∷ puts) = change_of p (slice_get claims p.claim) (changes claims puts)
 
 -- the reply to a request, and the state within the step after it
-pub record Served (S : Type 0) : Type 0 where
+pub record ServeResult (S : Type 0) : Type 0 where
   pub reply : Result Answer Fault
   pub mid : Midstep S
 
 -- the reply to a request that is refused at a word; the state is unchanged
-abbrev pub refused_reply : {S : Type 0} → Midstep S → Request → ℕ → Refusal → Served S
+abbrev pub refused_reply : {S : Type 0} → Midstep S → Request → ℕ → Refusal → ServeResult S
 refused_reply m q word why = record { reply = Err (fault_in q.at word why); mid = m }
 
 -- the store after the marks of a request
@@ -298,7 +298,7 @@ located_address _ _ = 0
 -- earlier claims, and its reference follows earlier references.
 abbrev pub answered_with :
     {S : Type 0} → Store S → S → List Spot → List Reference → Request → SdwFields → List Spot
-    → Served S
+    → ServeResult S
 answered_with o s claims refs q d spots =
     record {
       reply = Ok (record {
@@ -319,27 +319,27 @@ answered_with o s claims refs q d spots =
 -- the reply after the rights were checked: the fault of the places, or the answer
 abbrev pub serve_places :
     {S : Type 0} → Store S → RegsFields → Midstep S → Request → SdwFields
-    → Result (List Spot) (ℕ × Refusal) → Served S
+    → Result (List Spot) (ℕ × Refusal) → ServeResult S
 serve_places o g m q d (Err e) = refused_reply m q e.0 e.1
 serve_places o g m q d (Ok spots) =
     answered_with o (after_marks o m.store g.dbr q) m.claims m.refs q d spots
 
 -- the reply after the descriptor was found: the access violation, or as `serve_places`
 abbrev pub serve_rights :
-    {S : Type 0} → Store S → RegsFields → Midstep S → Request → SdwFields → Option ℕ → Served S
+    {S : Type 0} → Store S → RegsFields → Midstep S → Request → SdwFields → Option ℕ → ServeResult S
 serve_rights o g m q d (Some acv) = refused_reply m q q.at.word (violation acv)
-serve_rights o g m q d None = serve_places o g m q d (places o m.store g.dbr d q)
+serve_rights o g m q d None = serve_places o g m q d (spots_of_request o m.store g.dbr d q)
 
 -- the reply to a reference: the refusal of its descriptor, or as `serve_rights`
 abbrev pub serve_sdw :
-    {S : Type 0} → Store S → RegsFields → Midstep S → Request → Result SdwFields Refusal → Served S
+    {S : Type 0} → Store S → RegsFields → Midstep S → Request → Result SdwFields Refusal → ServeResult S
 serve_sdw o g m q (Err why) = refused_reply m q q.at.word why
 serve_sdw o g m q (Ok d) =
     serve_rights o g m q d (refusing_violation q.kind d q.at.ring g.ppr.prr (q.at.seg == g.ppr.psr) q.at.word)
 
 -- Serves a reference. Checked in this order: descriptor, brackets, rights, bound and place. Then
 -- its marks are set, and its words are read.
-unfoldable pub serve : {S : Type 0} → Store S → RegsFields → Midstep S → Request → Served S
+unfoldable pub serve : {S : Type 0} → Store S → RegsFields → Midstep S → Request → ServeResult S
 serve o g m q = serve_sdw o g m q (o.sdw m.store g.dbr q.at.seg)
 
 -- a store that sets no marks

@@ -4,7 +4,7 @@ use Rattle.std.specs.Prelude.{◌≡◌, ℕ, Bool, true, false, ◌&&◌, ◌==
 use Rattle.std.specs.Prelude.{Some, Result, Ok}
 use Rattle.m36_desc.specs.Fields.{SdwFields, DbrFields}
 use Rattle.m36_model.specs.Act.{RequestKind}
-use Rattle.m36_model.specs.Store.{Spot, Core_word, Segment_word, Change, Store, with_part_written, placed}
+use Rattle.m36_model.specs.Store.{Spot, Core_word, Segment_word, Change, Store, with_part_written, is_placed}
 use Rattle.m36_model.specs.Sight.{content_in}
 use Rattle.m36_model.specs.declared.outcome.Refusal.{Refusal}
 
@@ -31,7 +31,7 @@ pub record IsPlacedWord (sdws : ℕ → Result SdwFields Refusal)
     (spots : SdwFields → ℕ → ℕ → Result Spot Refusal) (seg w : ℕ) (spot : Spot) : Type 0 where
   pub sdw : SdwFields
   pub live : sdws seg ≡ Ok sdw
-  pub inside : placed sdw w ≡ true
+  pub inside : is_placed sdw w ≡ true
   pub found : spots sdw seg w ≡ Ok spot
 
 -- the change is of a word of a segment
@@ -50,7 +50,7 @@ pub record Lawful {S : Type 0} (o : Store S) (dbr : DbrFields) (Has : S → Type
   pub spots : SdwFields → ℕ → ℕ → Result Spot Refusal
   pub sdw_is : (s : S) → Has s → (seg : ℕ) → o.sdw s dbr seg ≡ sdws seg
   pub spot_is :
-      (s : S) → Has s → (seg w : ℕ) (d : SdwFields) → sdws seg ≡ Ok d → placed d w ≡ true
+      (s : S) → Has s → (seg w : ℕ) (d : SdwFields) → sdws seg ≡ Ok d → is_placed d w ≡ true
       → o.spot s dbr d seg w ≡ spots d seg w
   pub lies : (seg w : ℕ) (p : Spot) → IsPlacedWord sdws spots seg w p → Lies p
   -- Second: the word at the spot of a word of a segment is its content.

@@ -17,13 +17,13 @@ use Rattle.m36_model.specs.declared.outcome.Outcome.{Outcome}
 use Rattle.m36_model.specs.declared.outcome.Outcome.TheVariants.{Faulted}
 
 -- core with these words at these addresses
-abbrev pub placed : List (ℕ × ℕ) → List ℕ → List ℕ
-placed [] core = core
-placed (w ∷ words) core = placed words (slice_set core w.0 w.1)
+abbrev pub with_words_at : List (ℕ × ℕ) → List ℕ → List ℕ
+with_words_at [] core = core
+with_words_at (w ∷ words) core = with_words_at words (slice_set core w.0 w.1)
 
 -- core of `size` words, with these words at these addresses, and zeros elsewhere
 abbrev pub core_of : ℕ → List (ℕ × ℕ) → List ℕ
-core_of size words = placed words (replicate size 0)
+core_of size words = with_words_at words (replicate size 0)
 
 -- consecutive words with their addresses, the first of which is `place`
 abbrev pub words_from : ℕ → List ℕ → List (ℕ × ℕ)

@@ -4,7 +4,6 @@ mod Causes
 pub mod Completes
 mod Consumed
 mod FilesGiven
-pub mod FilesKept
 mod FilesNamed
 pub mod Fronts
 pub mod Gathered

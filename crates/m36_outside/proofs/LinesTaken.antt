@@ -79,9 +79,6 @@ pub takes_line_on :
     → now ≡ old ++ line ∷ [] → new ≡ now ++ left → new ≡ old ++ line ∷ left
 takes_line_on old now new left line one two = takes_lines_on old now new (line ∷ []) left one two
 
--- what a function that puts several lines takes by `using`
-pub ruleset lines_taken = (takes_no_lines, takes_lines_on, takes_some_of_line, takes_lines_more, takes_lines_longer, takes_some_of_lines, takes_line_more, takes_line_on)
-
 -- Of the pieces `all`, taken from `start` on, `left` are still to be taken after `now`.
 pub record CompletesLines (now start left all : List (List ℕ)) : Type 0 where
   pub whole : (new : List (List ℕ)) → new ≡ now ++ left → new ≡ start ++ all
@@ -101,13 +98,6 @@ completes_lines_rest now next start before first left all run begins took = reco
   cut = λ new some. run.cut new (subst (λ due. TakesSome now new due) (sym begins) (takes_lines_more now next new first left took some));
 }
 
--- some of the next lines were taken, and a prefix of one
-pub completes_lines_cut :
-    (now new start before first left all : List (List ℕ))
-    → CompletesLines now start before all → before ≡ first ++ left → TakesSome now new first → TakesSome start new all
-completes_lines_cut now new start before first left all run begins some =
-    run.cut new (subst (λ due. TakesSome now new due) (sym begins) (takes_lines_longer now new first left some))
-
 -- the last lines were taken as a whole, or some of them
 pub completes_lines_whole :
     (now new start left all : List (List ℕ)) → CompletesLines now start left all → new ≡ now ++ left → new ≡ start ++ all
@@ -117,10 +107,3 @@ pub completes_lines_cut_last :
     (now new start left all : List (List ℕ))
     → CompletesLines now start left all → TakesSome now new left → TakesSome start new all
 completes_lines_cut_last now new start left all before some = before.cut new some
-
--- none is left
-pub completes_no_lines : (now start all : List (List ℕ)) → CompletesLines now start [] all → now ≡ start ++ all
-completes_no_lines now start all before = before.whole now (takes_no_lines now)
-
--- what a run that puts its lines in a loop takes by `using`
-pub ruleset lines_completing = (completes_lines_all, completes_lines_rest, completes_lines_cut, completes_lines_whole, completes_lines_cut_last, completes_no_lines)

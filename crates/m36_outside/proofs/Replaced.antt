@@ -6,7 +6,7 @@ use Rattle.std.specs.declared.io.ErrorKind.TheVariants.{AlreadyExists}
 use Rattle.m36_outside.specs.NameCalls.{ErrorUnless, LogsFailure, MakesNone, MakesSpare, ReplaceCalls, SpareErrors, SpareUsed}
 use Rattle.m36_outside.specs.NameCalls.{spare_name, refused_tries}
 use Rattle.m36_outside.specs.Signals.{Signals, GivesUp}
-use Rattle.m36_outside.specs.System.{FileHasError, NotesWrite}
+use Rattle.m36_outside.specs.System.{FileHasError}
 use Rattle.m36_outside.specs.declared.name_calls.NameCall.{NameCall}
 use Rattle.m36_outside.specs.declared.name_calls.NameCall.TheVariants.{Make, Rename, Remove}
 use Rattle.m36_outside.specs.declared.sink.Put.{Put}
@@ -93,20 +93,6 @@ makes_none_of_all count calls calls' errors errors' noted refused = record {
 
 -- ---- the spare file is written, renamed and removed
 
--- it could not be written
-pub filled_not :
-    (done : Bool) (old failed new : List ErrorKind)
-    → GivesUp old failed → ErrorUnless done failed new → LogsFailure old new
-filled_not done old failed new cause removal =
-    record { failed = failed; cause = inl cause; removal = (done, removal) }
-
--- it could not be renamed
-pub renamed_not :
-    (done : Bool) (old failed new : List ErrorKind)
-    → ErrorUnless false old failed → ErrorUnless done failed new → LogsFailure old new
-renamed_not done old failed new cause removal =
-    record { failed = failed; cause = inr (old, signals_none old, cause); removal = (done, removal) }
-
 fails_after :
     (old now failed : List ErrorKind) → Signals old now
     → GivesUp now failed ⊎ ((before : List ErrorKind) × Signals now before × ErrorUnless false before failed)
@@ -134,20 +120,7 @@ pub removed :
 removed spare name done old now new same noted =
     (done, inl (noted ∙ ap (λ l. l ++ Remove spare done ∷ []) same))
 
-pub removed_after :
-    (spare name : List ℕ) (done : Bool) (old now new : List NameCall)
-    → now ≡ old ++ Rename spare name false ∷ [] → new ≡ now ++ Remove spare done ∷ []
-    → SpareUsed Failed spare name old new
-removed_after spare name done old now new first noted =
-    (done, inr (noted ∙ ap (λ l. l ++ Remove spare done ∷ []) first))
-
 -- ---- the file
-
--- the file that was written took the content, or a prefix of it
-pub notes_write :
-    (put : Put) (old new : List (List ℕ)) (content : List ℕ) → new ≡ old → put ≡ Failed → NotesWrite put old new content
-notes_write put old new content same failed =
-    subst (λ p. NotesWrite p old new content) (sym failed) (record { why = inl same })
 
 replaced :
     (put : Put) (spare name : List ℕ) (calls now new : List NameCall) (errors errors' : List ErrorKind)

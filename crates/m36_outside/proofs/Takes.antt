@@ -3,7 +3,6 @@ use Rattle.std.proofs.Common.{◌≡◌, ℕ, List, [], ◌∷◌, ◌++◌, Opt
 use Rattle.std.proofs.lemmas.List.{append-nil, append_assoc, take-append-drop}
 use Rattle.m36_outside.specs.Passing.{TakesPart, PutTakes, joined}
 use Rattle.m36_outside.specs.Put.{PutResult}
-use Rattle.m36_outside.specs.System.{NotesDone}
 use Rattle.m36_outside.specs.Written.{Grew, GrewWithin}
 use Rattle.m36_outside.specs.declared.sink.Put.{Put}
 use Rattle.m36_outside.specs.declared.sink.Put.TheVariants.{Done, Failed}
@@ -115,13 +114,5 @@ pub put_takes :
     → PutTakes answer (Some (joined old)) (Some (joined new)) old new whole
 put_takes Done old new whole before after grown none took = takes_whole old new whole before after grown none took
 put_takes Failed old new whole before after within none took = takes_written old new whole before after within none took
-
--- all that a file took is logged as one entry
-pub notes_done :
-    (answer : Put) (old new : List (List ℕ)) (whole before after : List ℕ)
-    → PutResult answer (Some before) (Some after) whole → before ≡ [] → new ≡ old ++ after ∷ []
-    → NotesDone answer old new whole
-notes_done Done old new whole before after grown none took = takes_whole old new whole before after grown none took
-notes_done Failed old new whole before after within none took = tt
 
 pub ruleset takes = (takes_nothing, takes_front, takes_written, takes_whole, writes_whole, writes_part, writes_all)

@@ -28,14 +28,14 @@ put_fails sink piece = next_fails sink.puts || nat_lt (room_left sink) (length p
 
 -- what is taken of a piece: nothing if the number of the put is listed, otherwise as many of its
 -- first bytes as fit
-abbrev pub taken : MemSinkFields → List ℕ → List ℕ
-taken sink piece = if next_fails sink.puts then [] else take (room_left sink) piece
+abbrev pub taken_prefix : MemSinkFields → List ℕ → List ℕ
+taken_prefix sink piece = if next_fails sink.puts then [] else take (room_left sink) piece
 
 -- the output after a put
 abbrev pub after_put : MemSinkFields → List ℕ → MemSinkFields
 after_put sink piece = record {
-  bytes = sink.bytes ++ taken sink piece;
-  pieces = sink.pieces ++ taken sink piece ∷ [];
+  bytes = sink.bytes ++ taken_prefix sink piece;
+  pieces = sink.pieces ++ taken_prefix sink piece ∷ [];
   room = sink.room;
   puts = after_call sink.puts;
   faults = if put_fails sink piece then raised sink.faults else sink.faults;

@@ -6,7 +6,7 @@ ghost use Rattle.m36_outside.specs.ReadAnswer.{IsWithinLimit, ReadHasCause};
 ghost use Rattle.m36_outside.specs.System.{ReadHasError, WriteHasError, WriteTakes, WriteCalls, NamesFile, NamesNoFile, open_refusal_of, write_answer_of};
 ghost use Rattle.m36_outside.specs.WriteAnswer.{WriteResult, WriteHasCause};
 
-use crate::faults::{after_put, after_read};
+use crate::faults::{count_after_put, count_after_read};
 use crate::file_logs::FileLogs;
 use crate::folder::{Folder, ReadAnswer, WriteAnswer};
 use crate::folder_calls::FolderCalls;
@@ -120,7 +120,7 @@ impl<R: Files + Drop> Folder for DirFolder<R> {
     {
         let answer = read_file(&self.rt, alloc, name, &mut self.notes);
         self.calls.note_read(name, &answer);
-        self.read_faults = after_read(self.read_faults, &answer);
+        self.read_faults = count_after_read(self.read_faults, &answer);
         answer
     }
 
@@ -144,7 +144,7 @@ impl<R: Files + Drop> Folder for DirFolder<R> {
         let put = write_file(&self.rt, name, content, &mut self.notes);
         let answer = write_answer(put);
         self.calls.note_write(name, content, answer);
-        self.write_faults = after_put(self.write_faults, put);
+        self.write_faults = count_after_put(self.write_faults, put);
         answer
     }
 }

@@ -21,7 +21,7 @@ pub fn raise(count: u64) -> u64
 }
 
 /// The count after a put with this answer.
-pub fn after_put(count: u64, answer: Put) -> u64
+pub fn count_after_put(count: u64, answer: Put) -> u64
     ensures cause { PutHasCause answer count result }
     ensures later { count ≤ result }
     ensures bound { result < 2 ^ 64 }
@@ -33,7 +33,7 @@ pub fn after_put(count: u64, answer: Put) -> u64
 }
 
 /// The count after a call for a piece with this answer.
-pub fn after_piece(count: u64, answer: Piece) -> u64
+pub fn count_after_piece(count: u64, answer: Piece) -> u64
     ensures cause { PieceHasCause answer count result }
     ensures later { count ≤ result }
     ensures bound { result < 2 ^ 64 }
@@ -46,7 +46,7 @@ pub fn after_piece(count: u64, answer: Piece) -> u64
 
 /// The count after a read with this answer.
 #[tactic(auto, using(crate::proofs::Causes::read_without_fault))]
-pub fn after_read(count: u64, answer: &ReadAnswer) -> u64
+pub fn count_after_read(count: u64, answer: &ReadAnswer) -> u64
     ensures cause { ReadHasCause answer.now count result }
     ensures later { count ≤ result }
     ensures bound { result < 2 ^ 64 }

@@ -5,7 +5,7 @@ ghost use Rattle.m36_outside.specs.Passing.{PieceGives};
 ghost use Rattle.m36_outside.specs.Piece.{PieceResult, PieceHasCause};
 ghost use Rattle.m36_outside.specs.System.{PieceHasError};
 
-use crate::faults::after_piece;
+use crate::faults::count_after_piece;
 use crate::lines::{Lines, Piece};
 use crate::logged::LoggedReader;
 use crate::reading::read_piece;
@@ -66,7 +66,7 @@ impl<R: Input + Drop> Lines for StdLines<R> {
         ensures error { PieceHasError result self.old.errors self.new.errors }
     {
         let answer = read_piece(&mut self.reader, into);
-        self.faults = after_piece(self.faults, answer);
+        self.faults = count_after_piece(self.faults, answer);
         answer
     }
 }

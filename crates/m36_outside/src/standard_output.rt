@@ -6,7 +6,7 @@ ghost use Rattle.m36_outside.specs.Put.{PutResult, PutHasCause};
 ghost use Rattle.m36_outside.specs.System.{PutHasError};
 
 use crate::block::{Block, TakenPart};
-use crate::faults::after_put;
+use crate::faults::count_after_put;
 use crate::log::Log;
 use crate::sink::{Put, Sink};
 use crate::text::Text;
@@ -79,7 +79,7 @@ impl<R: Print + Drop> Sink for StdSink<R> {
             &mut self.errors,
         );
         self.taken.note(&taken);
-        self.faults = after_put(self.faults, answer);
+        self.faults = count_after_put(self.faults, answer);
         answer
     }
 
@@ -109,7 +109,7 @@ impl<R: Print + Drop> Sink for StdSink<R> {
             block,
             taken: &taken,
         });
-        self.faults = after_put(self.faults, answer);
+        self.faults = count_after_put(self.faults, answer);
         answer
     }
 }

@@ -1,17 +1,17 @@
 -- The code of the pager evicts a page, or takes one in.
-use Rattle.std.proofs.Common.{ℕ, ◌≡◌, ◌≢◌, ◌+◌, ◌-◌, ◌*◌, ◌/◌, ◌%◌, ◌^◌, ◌<◌, ◌≤◌, ◌⊎◌, Bool, true, false, List, length, get_or, set, Option, Some, None, refl, sym, ap, subst, inl, inr, ◌∙◌, arith}
+use Rattle.std.proofs.Common.{ℕ, ◌≡◌, ◌≢◌, ◌+◌, ◌-◌, ◌*◌, ◌/◌, ◌%◌, ◌^◌, ◌<◌, ◌≤◌, ◌⊎◌, true, List, length, get_or, set, Option, Some, None, refl, sym, ap, subst, inl, inr, ◌∙◌, arith}
 use Rattle.std.specs.Prelude.{position, All, IsSome}
 use Rattle.std.proofs.lemmas.Bool.{cases_eq, cases_lt, ltb-true}
 use Rattle.std.proofs.lemmas.List.{get_or-set_same, get_or-set_other, length-set}
 use Rattle.std.proofs.lemmas.List.Elements.{All-get_or}
 use Rattle.m36_page.specs.Fields.{TableFields, PagerFields}
 use Rattle.m36_page.specs.Copied.{IsCopied}
-use Rattle.m36_page.specs.Residence.{is_table_of, table_of, has_page_in, spot_in, kept_in, has_page, spot_of, kept_word, absent_ptw, resident_ptw, frame_of, Holds, IsPager, AgreesWithCore, IsConsistent, HasPtwPlaces}
-use Rattle.m36_page.specs.Changes.{IsSameShape, KeepsContents, OthersStay}
-use Rattle.m36_page.proofs.Frames.{held_inside, bounded}
+use Rattle.m36_page.specs.Residence.{is_table_of, table_of, has_page_in, spot_in, kept_in, has_page, spot_of, kept_word, absent_ptw, resident_ptw, frame_of, Holds, IsPager, IsConsistent}
+use Rattle.m36_page.specs.Changes.{OthersStay}
+use Rattle.m36_page.proofs.Frames.{held_inside}
 use Rattle.m36_page.proofs.Tables.{found, words_pages, words_spots, words_kept, words_were, words_others, words_whole}
 use Rattle.m36_page.specs.Moved.{HasWords, IsEvicted, IsTakenIn, IsEmptied}
-use Rattle.m36_page.proofs.Moves.{resident_frame, away_kept, away_settled, away_frame, away_out, same_page}
+use Rattle.m36_page.proofs.Moves.{resident_frame, away_kept, away_settled, away_frame, away_out, same_page, same_some}
 
 -- ---- evicted
 
@@ -97,9 +97,6 @@ same_spots p new e s q = ap (λ ts. spot_in (table_of ts s) q) e
 same_words : (p new : PagerFields) → new.tables ≡ p.tables → (s w : ℕ) → kept_word new s w ≡ kept_word p s w
 unfolding kept_word
 same_words p new e s w = ap (λ ts. kept_in (table_of ts s) w) e
-
-same_some : (a b : ℕ × ℕ) → Some a ≡ Some b → a ≡ b
-same_some a b e = cc
 
 pub taken_from : (p : PagerFields) (core : List ℕ) (new : PagerFields) (mid now : List ℕ) (k seg page i : ℕ) (d : TableFields)
     → IsConsistent p core → has_page p seg page ≡ true → frame_of p core seg page ≡ None
@@ -240,23 +237,6 @@ emptied p core new now k seg page s away = record {
             ap (λ y. frame_of new now y q) same.0 ∙ ap (λ y. frame_of new now seg y) same.1 ∙ away_out p core new now k seg page away
         | inr other ↦ away_frame p core new now k seg page x q s away has other ∙ e
       ];
-}
-
-pub emptied_none : (p : PagerFields) (core : List ℕ) (k : ℕ) → IsConsistent p core → get_or p.holders k None ≡ None → IsEmptied p core p core k
-emptied_none p core k s none = record {
-  kept = record {
-    shape = record { first = refl; frames = refl; pages = λ x q. refl; spots = λ x q. refl };
-    size = refl;
-    content = λ x w. refl;
-    others = λ a out. refl;
-  };
-  settled = s;
-  empty_frame = none;
-  spot = λ x q h. absurd (held_some p k x q h none);
-  same = λ still. (refl, refl);
-  others = record { holders = λ j other. refl; words = λ a out. refl; kept = λ x w out. refl };
-  stays = λ x q frame has e apart. e;
-  out = λ x q has e. e;
 }
 
 -- ---- the place of a page table word

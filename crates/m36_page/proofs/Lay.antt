@@ -1,23 +1,20 @@
 -- Page table words that are laid out.
-use Rattle.std.proofs.Common.{ℕ, ◌≡◌, ◌≢◌, ◌+◌, ◌-◌, ◌*◌, ◌<◌, ◌≤◌, ◌⊎◌, Bool, true, List, [], ◌∷◌, length, get_or, map, replicate, Option, Some, None, refl, sym, ap, subst, inl, inr, ◌∙◌, arith}
+use Rattle.std.proofs.Common.{ℕ, ◌≡◌, ◌≢◌, ◌+◌, ◌-◌, ◌*◌, ◌<◌, ◌≤◌, ◌⊎◌, true, List, [], ◌∷◌, length, get_or, map, Some, refl, sym, ap, subst, inl, inr, ◌∙◌, arith}
 use Rattle.std.specs.Prelude.{slice_get, position, All}
 use Rattle.std.proofs.lemmas.Bool.{cases_lt, cases_eq}
-use Rattle.std.proofs.lemmas.Option.{slice_get-get_or, slice_get_within, get_or_from_slice_get}
-use Rattle.std.proofs.lemmas.List.Elements.{All-get_or, All-nil, All-cons}
+use Rattle.std.proofs.lemmas.Option.{slice_get-get_or}
+use Rattle.std.proofs.lemmas.List.Elements.{All-nil, All-cons}
 use Rattle.m36_model.specs.Core.{unmarked}
 use Rattle.m36_page.specs.declared.table.PageTable.{PageTable}
 use Rattle.m36_page.specs.Fields.{TableFields, PagerFields}
 use Rattle.m36_page.specs.Copied.{IsFilled}
-use Rattle.m36_page.specs.Residence.{is_table_of, has_page, spot_of, absent_ptw, Holds, IsPager, AgreesWithCore, HasFrames}
-use Rattle.m36_page.specs.Changes.{IsTableWord, AreAbsent, AllEmpty}
-use Rattle.m36_page.specs.Given.{filled_table, initial_pager, are_placed}
+use Rattle.m36_page.specs.Residence.{is_table_of, has_page, spot_of, absent_ptw, AgreesWithCore}
+use Rattle.m36_page.specs.Changes.{AreAbsent, AllEmpty}
+use Rattle.m36_page.specs.Given.{filled_table, are_placed}
 use Rattle.m36_page.proofs.Frames.{absent_unmarked}
 use Rattle.m36_page.proofs.Tables.{found, placed}
 use Rattle.m36_page.proofs.Built.{has_table, spot_by, page_inside}
-use Rattle.m36_page.proofs.Placed.{position_some, split, below_end, never_held}
-
-pub absent_none : (tables : List TableFields) (core : List ℕ) → AreAbsent tables 0 core core
-absent_none tables core = record { size = refl; absent = λ j t q few at inside. absurd (omega arith); others = λ a out. refl }
+use Rattle.m36_page.proofs.Placed.{position_some, split, below_end}
 
 same_table : (t u : TableFields) → Some t ≡ Some u → t ≡ u
 same_table t u e = cc
@@ -66,21 +63,6 @@ absent_more tables i core mid now t lt is so_far filled =
           filled.outside a elsewhere ∙ so_far.others a out;
     }
 
-pub absent_all : (tables : List TableFields) (i : ℕ) (core now : List ℕ) → length tables ≤ i → AreAbsent tables i core now
-    → AreAbsent tables (length tables) core now
-absent_all tables i core now le all = record {
-  size = all.size;
-  absent = λ j t q few at inside. all.absent j t q (omega (arith, few, le)) at inside;
-  others = all.others;
-}
-
-pub room_at : (tables : List TableFields) (core mid : List ℕ) (i : ℕ) (t : TableFields) → All (λ t. t.at + t.pages ≤ length core) tables
-    → i < length tables → t ≡ get_or tables i t → length mid ≡ length core → t.at + t.pages ≤ length mid
-room_at tables core mid i t room lt is size =
-    let P : TableFields → Type 0 = λ x. x.at + x.pages ≤ length core in
-    let here : t.at + t.pages ≤ length core = subst P (sym is) (All-get_or P tables i t lt room) in
-    omega (arith, here, size)
-
 none_table : TableFields
 none_table = record { seg = 0; at = 0; pages = 0; words = [] }
 
@@ -103,9 +85,6 @@ laid_reads p core now empty_frame laid = record {
 }
 
 -- ---- a pager that was given
-
-pub empty_given : (first frames : ℕ) (tables : List PageTable) → AllEmpty (initial_pager first frames tables)
-empty_given first frames tables k s q h = never_held first frames tables k s q h
 
 pub below_given : (first : ℕ) (tables : List PageTable) → are_placed first tables ≡ true
     → All (λ (t : TableFields). t.at + t.pages ≤ 1024 * first) (map filled_table tables)

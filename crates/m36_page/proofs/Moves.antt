@@ -1,12 +1,12 @@
 -- Pages that move.
-use Rattle.std.proofs.Common.{ℕ, ◌≡◌, ◌≢◌, ◌+◌, ◌-◌, ◌*◌, ◌/◌, ◌%◌, ◌^◌, ◌<◌, ◌≤◌, ◌⊎◌, Bool, true, false, List, length, get_or, Option, Some, None, refl, sym, ap, subst, inl, inr, ◌∙◌, arith}
+use Rattle.std.proofs.Common.{ℕ, ◌≡◌, ◌≢◌, ◌+◌, ◌-◌, ◌*◌, ◌/◌, ◌%◌, ◌^◌, ◌<◌, ◌≤◌, ◌⊎◌, true, List, length, get_or, Some, None, refl, sym, ap, subst, inl, inr, ◌∙◌, arith}
 use Rattle.std.proofs.lemmas.Bool.{cases_eq, cases_lt}
 use Rattle.m36_model.specs.Core.{unmarked}
-use Rattle.m36_page.specs.Fields.{TableFields, PagerFields}
-use Rattle.m36_page.specs.Residence.{has_page, spot_of, kept_word, absent_ptw, resident_ptw, frame_in, frame_of, word_in, page_word, content_of, Holds, IsPager, NamesFrame, AgreesWithCore, HasFrames, IsConsistent}
-use Rattle.m36_page.specs.Changes.{IsSameShape, IsPtwPlace, IsChangeable, KeepsContents}
+use Rattle.m36_page.specs.Fields.{PagerFields}
+use Rattle.m36_page.specs.Residence.{has_page, spot_of, kept_word, absent_ptw, resident_ptw, frame_in, frame_of, word_in, page_word, Holds, IsPager, AgreesWithCore, IsConsistent}
+use Rattle.m36_page.specs.Changes.{IsPtwPlace, IsChangeable, KeepsContents}
 use Rattle.m36_page.specs.Moved.{IsEvicted, IsTakenIn}
-use Rattle.m36_page.proofs.Frames.{frame_absent, frame_resident, absent_unmarked, resident_unmarked, bounded, IsIn, IsOut, whereabouts, content_same, word_stays}
+use Rattle.m36_page.proofs.Frames.{frame_absent, frame_resident, absent_unmarked, resident_unmarked, bounded, whereabouts, content_same, word_stays}
 
 -- ---- `KeepsContents` twice
 
@@ -163,7 +163,7 @@ one_frame p core k j seg page reads h i =
     let b = reads.frames j seg page i in
     omega (arith, a, b)
 
-same_some : (a b : ℕ × ℕ) → Some a ≡ Some b → a ≡ b
+pub same_some : (a b : ℕ × ℕ) → Some a ≡ Some b → a ≡ b
 same_some a b e = cc
 
 away_reads : (p : PagerFields) (core : List ℕ) (new : PagerFields) (now : List ℕ) (k seg page : ℕ)

@@ -1,8 +1,8 @@
 -- The parts of the pager.
 use Rattle.std.proofs.Common.{ℕ, ◌≡◌, ◌≢◌, ◌+◌, ◌-◌, ◌*◌, ◌/◌, ◌%◌, ◌^◌, ◌<◌, ◌≤◌, ◌⊎◌, Bool, true, false, List, length, get_or, set, Option, Some, None, refl, sym, ap, subst, inl, inr, ◌∙◌, arith}
-use Rattle.std.specs.Prelude.{nat_lt, option_and_then, slice_get, position, All, IsSome, IfNone, IfSome, is_some}
+use Rattle.std.specs.Prelude.{nat_lt, option_and_then, slice_get, position, All, IsSome, IfNone, is_some}
 use Rattle.std.specs.List.{list_any}
-use Rattle.std.proofs.lemmas.Bool.{cases_eq, eq-eqb, and_from}
+use Rattle.std.proofs.lemmas.Bool.{eq-eqb, and_from}
 use Rattle.std.proofs.lemmas.List.{get_or-set_same, get_or-set_other, length-set}
 use Rattle.std.proofs.lemmas.Option.{slice_get-get_or, get_or_from_slice_get}
 use Rattle.std.proofs.lemmas.List.Elements.{All-from_get_or, All-get_or}
@@ -18,7 +18,7 @@ use Rattle.m36_page.specs.Changes.{IsPtwPlace, KeepsContents, refers_to_page, is
 use Rattle.m36_page.specs.Moved.{HasWords, IsEvicted, IsTakenIn, IsEmptied}
 use Rattle.m36_page.proofs.Frames.{held_inside, unused_unmarked, marked_as}
 use Rattle.m36_page.proofs.Tables.{found, words_were}
-use Rattle.m36_page.proofs.Moves.{kept_then, marks_kept, marks_settled, marks_frame, AreMarks, resident_frame, frame_range, taken_kept, taken_settled, taken_in, taken_frame, taken_other}
+use Rattle.m36_page.proofs.Moves.{kept_then, marks_kept, marks_settled, marks_frame, AreMarks, resident_frame, frame_range, taken_kept, taken_in, taken_frame, taken_other}
 use Rattle.m36_page.proofs.Built.{has_table, spot_by, page_room, away_from, taken_from, taken_holders}
 
 abbrev pub parts : ℕ → List (Option (ℕ × ℕ)) → List TableFields → PagerFields

@@ -1,18 +1,18 @@
 -- A word of a segment that is set.
-use Rattle.std.proofs.Common.{ℕ, ◌≡◌, ◌≢◌, ◌+◌, ◌-◌, ◌*◌, ◌/◌, ◌%◌, ◌^◌, ◌<◌, ◌≤◌, ◌⊎◌, Bool, true, false, List, length, get_or, set, Option, Some, None, refl, sym, ap, subst, inl, inr, ◌∙◌, arith}
+use Rattle.std.proofs.Common.{ℕ, ◌≡◌, ◌≢◌, ◌+◌, ◌-◌, ◌*◌, ◌/◌, ◌%◌, ◌^◌, ◌<◌, ◌≤◌, ◌⊎◌, true, List, length, get_or, set, Option, Some, None, refl, sym, ap, subst, inl, inr, ◌∙◌, arith}
 use Rattle.std.specs.Prelude.{position}
 use Rattle.std.proofs.lemmas.Bool.{cases_eq, cases_Bool}
 use Rattle.std.proofs.lemmas.List.{get_or-set_same, get_or-set_other, length-set}
 use Rattle.m36_model.specs.Core.{unmarked}
 use Rattle.m36_page.specs.Fields.{TableFields, PagerFields}
 use Rattle.std.specs.Bool.{then_some}
-use Rattle.m36_page.specs.Residence.{is_table_of, has_page, spot_of, kept_word, resident_ptw, frame_in, frame_of, word_in, page_word, content_of, Holds, IsPager, NamesFrame, AgreesWithCore, IsConsistent, HasPtwPlaces}
-use Rattle.m36_page.specs.Changes.{IsSameShape, IsChangeable, IsSet}
+use Rattle.m36_page.specs.Residence.{is_table_of, has_page, spot_of, kept_word, resident_ptw, frame_in, frame_of, page_word, content_of, IsPager, NamesFrame, AgreesWithCore, IsConsistent, HasPtwPlaces}
+use Rattle.m36_page.specs.Changes.{IsSameShape, IsSet}
 use Rattle.m36_page.specs.Moved.{HasWords, IsKeptWordSet}
-use Rattle.m36_page.proofs.Frames.{held_inside, content_same, word_stays}
-use Rattle.m36_page.proofs.Tables.{found, words_pages, words_spots, words_kept, words_were, words_others, words_whole}
-use Rattle.m36_page.proofs.Moves.{frame_range}
-use Rattle.m36_page.proofs.Parts.{parts, content_none, content_some, content_kept}
+use Rattle.m36_page.proofs.Frames.{held_inside, word_stays}
+use Rattle.m36_page.proofs.Tables.{words_pages, words_spots, words_kept, words_were, words_others, words_whole}
+use Rattle.m36_page.proofs.Moves.{frame_range, same_some}
+use Rattle.m36_page.proofs.Parts.{parts, content_some, content_kept}
 
 -- the content of a word that is not the one that is set
 content_other : (old : PagerFields) (core : List ℕ) (new : PagerFields) (now : List ℕ) (s w : ℕ)
@@ -41,9 +41,6 @@ frame_same : (p : PagerFields) (core : List ℕ) (s q a v : ℕ) → IsConsisten
 unfolding frame_of
 frame_same p core s q a v settled has above =
     ap frame_in (get_or-set_other core a (spot_of p s q) v 0 (spot_apart p core s q a settled has above))
-
-same_some : (a b : ℕ × ℕ) → Some a ≡ Some b → a ≡ b
-same_some a b e = cc
 
 same_word : (w word : ℕ) → w / 1024 ≡ word / 1024 → w % 1024 ≡ word % 1024 → w ≡ word
 same_word w word high low = omega (arith, high, low)

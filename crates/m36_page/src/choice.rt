@@ -1,6 +1,6 @@
 //! Chooses the frame whose page is evicted.
 
-ghost use Rattle.std.specs.Prelude.{ℕ, ◌≡◌, ◌+◌, ◌≤◌, ◌<◌, true, false, length, slice_index_or, slice_index, slice_get, Some, None, IsSome, IfSome, IfNone};
+ghost use Rattle.std.specs.Prelude.{◌≡◌, ◌+◌, ◌≤◌, ◌<◌, true, false, length, slice_index, Some, None, IsSome, IfSome, IfNone};
 ghost use Rattle.m36_desc.specs.Descriptors.{ptw_of};
 ghost use Rattle.m36_page.specs.Changes.{refers_to_page, is_pinned};
 ghost use Rattle.m36_page.specs.Choice.{IsUnpinned, ArePinned, IsHeldSpot, ClearsMarksAt, AreInCore};

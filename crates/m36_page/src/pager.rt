@@ -1,10 +1,9 @@
 //! The pager.
 
-ghost use Rattle.std.specs.Prelude.{ℕ, ◌≡◌, ◌≢◌, ◌+◌, ◌-◌, ◌^◌, ◌*◌, ◌/◌, ◌<◌, ◌≤◌, ◌⊎◌, Bool, true, false, ◌&&◌, nat_eq, if◌then◌else◌, length, slice_index_or, slice_set, replicate, IfOk, Some, None, IsSome, IfSome, IfNone, OnOk, OnErr};
-ghost use Rattle.m36_model.specs.Core.{unmarked};
+ghost use Rattle.std.specs.Prelude.{ℕ, ◌≡◌, ◌≢◌, ◌+◌, ◌-◌, ◌^◌, ◌*◌, ◌/◌, ◌<◌, ◌≤◌, ◌⊎◌, true, false, ◌&&◌, if◌then◌else◌, length, slice_index_or, slice_set, replicate, IfOk, Some, None, IsSome, IfSome, IfNone, OnOk, OnErr};
 ghost use Rattle.m36_page.specs.Residence.{has_page, spot_of, kept_word, frame_of, content_of, Holds, IsPager, AgreesWithCore, AllEndBelow, HasFrames, IsConsistent};
 ghost use Rattle.m36_page.specs.Changes.{IsBrought, IsSet, IsUnpinnedPtwPlace, AllPinned, AllEmpty, AreAbsent};
-ghost use Rattle.m36_page.specs.Choice.{IsUnpinned, ClearsMarksAt, AreInCore};
+ghost use Rattle.m36_page.specs.Choice.{IsUnpinned, ClearsMarksAt};
 ghost use Rattle.m36_page.specs.Given.{are_placed, initial_pager};
 ghost use Rattle.m36_page.specs.Moved.{IsEvicted, IsTakenIn, IsEmptied, IsKeptWordSet};
 

@@ -3,7 +3,6 @@
 ghost use Rattle.std.specs.Prelude.{◌≡◌, ◌+◌, ◌<◌, ◌≤◌, ◌^◌, slice_index, slice_set, length};
 ghost use Rattle.m36_word.specs.Field.{frames_reached};
 ghost use Rattle.m36_desc.specs.Descriptors.{ptw_of};
-ghost use Rattle.m36_model.specs.Core.{unmarked};
 ghost use Rattle.m36_page.specs.Copied.{IsFilled};
 ghost use Rattle.m36_page.specs.Residence.{frame_in, absent_ptw, resident_ptw};
 

@@ -8,7 +8,7 @@ use Rattle.m36_outside.specs.declared.sink.Put.{Put}
 use Rattle.m36_outside.proofs.Gathered.{lines_added, lines_lost}
 use Rattle.m36_outside.proofs.LinesTaken.{CompletesLines, completes_lines_all, completes_lines_whole, completes_lines_cut_last}
 use Rattle.m36_model.specs.Core.{core_store}
-use Rattle.m36_model.specs.Schedule.{Processes, process_of, stepped}
+use Rattle.m36_model.specs.Schedule.{Processes, process_of, processes_after}
 use Rattle.m36_model.specs.Step.{record_of}
 use Rattle.m36_model.specs.declared.record.StepRecord.{StepRecord}
 use Rattle.m36_procs.specs.EventResult.{EventResult, IsEvent}
@@ -61,7 +61,7 @@ pieces_more all first before after later start now next gathered gathered' n i l
     let own = get_of s.regs i (next_named (length s.regs) i left more so_far.named begins) in
     let is : IsEvent i s new told own.0 = says own.0 own.1 in
     let line : event_line (n + 1) i told ≡ event_line (n + 1) i (record_of core_store (process_of s own.0)) = ap (event_line (n + 1) i) is.told_is in
-    let here : pieces_from (length all) (n + 1) left s ≡ event_line (n + 1) i told ∷ pieces_from (length all) (n + 1 + 1) more new = ap (λ l. pieces_from (length all) (n + 1) l s) begins ∙ pieces_first (length all) (n + 1) i more s own.0 own.1 ∙ ap (λ l. l ∷ pieces_from (length all) (n + 1 + 1) more (stepped core_store s i own.0)) (sym line) ∙ ap (λ p. event_line (n + 1) i told ∷ pieces_from (length all) (n + 1 + 1) more p) (sym is.state) in
+    let here : pieces_from (length all) (n + 1) left s ≡ event_line (n + 1) i told ∷ pieces_from (length all) (n + 1 + 1) more new = ap (λ l. pieces_from (length all) (n + 1) l s) begins ∙ pieces_first (length all) (n + 1) i more s own.0 own.1 ∙ ap (λ l. l ∷ pieces_from (length all) (n + 1 + 1) more (processes_after core_store s i own.0)) (sym line) ∙ ap (λ p. event_line (n + 1) i told ∷ pieces_from (length all) (n + 1 + 1) more p) (sym is.state) in
     lines_added after later now next start gathered gathered' (event_line (n + 1) i told) (pieces_from (length all) (n + 1) left s) (pieces_from (length all) (n + 1 + 1) more new) (schedule_pieces all first) pieces here added
 
 -- the line of an event, or one before it, was not taken whole
@@ -77,8 +77,8 @@ pieces_cut all first before after later start now new gathered n i left more s s
     let own = get_of s.regs i (next_named (length s.regs) i left more so_far.named begins) in
     let is : IsEvent i s s' told own.0 = says own.0 own.1 in
     let line : event_line (n + 1) i told ≡ event_line (n + 1) i (record_of core_store (process_of s own.0)) = ap (event_line (n + 1) i) is.told_is in
-    let here : pieces_from (length all) (n + 1) left s ≡ event_line (n + 1) i told ∷ pieces_from (length all) (n + 1 + 1) more (stepped core_store s i own.0) = ap (λ l. pieces_from (length all) (n + 1) l s) begins ∙ pieces_first (length all) (n + 1) i more s own.0 own.1 ∙ ap (λ l. l ∷ pieces_from (length all) (n + 1 + 1) more (stepped core_store s i own.0)) (sym line) in
-    lines_lost after later now new start gathered (event_line (n + 1) i told) (pieces_from (length all) (n + 1) left s) (pieces_from (length all) (n + 1 + 1) more (stepped core_store s i own.0)) (schedule_pieces all first) pieces here lost
+    let here : pieces_from (length all) (n + 1) left s ≡ event_line (n + 1) i told ∷ pieces_from (length all) (n + 1 + 1) more (processes_after core_store s i own.0) = ap (λ l. pieces_from (length all) (n + 1) l s) begins ∙ pieces_first (length all) (n + 1) i more s own.0 own.1 ∙ ap (λ l. l ∷ pieces_from (length all) (n + 1 + 1) more (processes_after core_store s i own.0)) (sym line) in
+    lines_lost after later now new start gathered (event_line (n + 1) i told) (pieces_from (length all) (n + 1) left s) (pieces_from (length all) (n + 1 + 1) more (processes_after core_store s i own.0)) (schedule_pieces all first) pieces here lost
 
 -- all events were made: the last line is left
 pieces_ended :

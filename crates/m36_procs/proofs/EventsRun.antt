@@ -10,7 +10,7 @@ use Rattle.m36_outside.proofs.Completes.{Completes, completes_all}
 use Rattle.m36_outside.proofs.Gathered.{completes_added, completes_lost, completes_finished, completes_finished_cut}
 use Rattle.m36_model.specs.Core.{core_store}
 use Rattle.m36_model.specs.Registers.{RegsFields}
-use Rattle.m36_model.specs.Schedule.{Processes, Event, process_of, stepped, event, events, events_by}
+use Rattle.m36_model.specs.Schedule.{Processes, Event, process_of, processes_after, event, events, events_by}
 use Rattle.m36_model.specs.Step.{record_of}
 use Rattle.m36_model.specs.declared.record.StepRecord.{StepRecord}
 use Rattle.m36_procs.specs.EventResult.{EventResult, IsEvent}
@@ -22,13 +22,13 @@ use Rattle.m36_procs.specs.ScheduleText.{event_line, event_pieces, end_line, pie
 pub events_first :
     (i : ℕ) (schedule : List ℕ) (s : Processes (List ℕ)) (g : RegsFields)
     → slice_get s.regs i ≡ Some g
-    → events core_store (i ∷ schedule) s ≡ event core_store s i g ∷ events core_store schedule (stepped core_store s i g)
+    → events core_store (i ∷ schedule) s ≡ event core_store s i g ∷ events core_store schedule (processes_after core_store s i g)
 unfolding events
 events_first i schedule s g there = ap (λ o. events_by core_store s i o (events core_store schedule)) there
 
 last_first :
     (i : ℕ) (schedule : List ℕ) (s : Processes (List ℕ)) (g : RegsFields)
-    → slice_get s.regs i ≡ Some g → last_state (i ∷ schedule) s ≡ last_state schedule (stepped core_store s i g)
+    → slice_get s.regs i ≡ Some g → last_state (i ∷ schedule) s ≡ last_state schedule (processes_after core_store s i g)
 unfolding last_state
 last_first i schedule s g there = ap (state_after_events s) (events_first i schedule s g there)
 
@@ -43,10 +43,10 @@ pub pieces_first :
     (total n i : ℕ) (schedule : List ℕ) (s : Processes (List ℕ)) (g : RegsFields)
     → slice_get s.regs i ≡ Some g
     → pieces_from total n (i ∷ schedule) s
-    ≡ event_line n i (record_of core_store (process_of s g)) ∷ pieces_from total (n + 1) schedule (stepped core_store s i g)
+    ≡ event_line n i (record_of core_store (process_of s g)) ∷ pieces_from total (n + 1) schedule (processes_after core_store s i g)
 pieces_first total n i schedule s g there =
     ap (λ e. event_pieces n e ++ end_line total ∷ []) (events_first i schedule s g there)
-    ∙ ap (λ t. t ++ end_line total ∷ []) (piece_first n (event core_store s i g) (events core_store schedule (stepped core_store s i g)))
+    ∙ ap (λ t. t ++ end_line total ∷ []) (piece_first n (event core_store s i g) (events core_store schedule (processes_after core_store s i g)))
 
 pub pieces_last : (total n : ℕ) (s : Processes (List ℕ)) → pieces_from total n [] s ≡ end_line total ∷ []
 unfolding events event_pieces
@@ -60,7 +60,7 @@ text_first :
     (total n i : ℕ) (schedule : List ℕ) (s : Processes (List ℕ)) (g : RegsFields)
     → slice_get s.regs i ≡ Some g
     → text_from total n (i ∷ schedule) s
-    ≡ event_line n i (record_of core_store (process_of s g)) ++ text_from total (n + 1) schedule (stepped core_store s i g)
+    ≡ event_line n i (record_of core_store (process_of s g)) ++ text_from total (n + 1) schedule (processes_after core_store s i g)
 text_first total n i schedule s g there = ap joined (pieces_first total n i schedule s g there)
 
 text_last : (total n : ℕ) (s : Processes (List ℕ)) → text_from total n [] s ≡ end_line total
@@ -139,7 +139,7 @@ runs_more all first start now next pieces pieces' gathered gathered' n i left mo
     let own = get_of s.regs i (next_named (length s.regs) i left more so_far.named begins) in
     let is : IsEvent i s new told own.0 = says own.0 own.1 in
     let line : event_line (n + 1) i told ≡ event_line (n + 1) i (record_of core_store (process_of s own.0)) = ap (event_line (n + 1) i) is.told_is in
-    let here : text_from (length all) (n + 1) left s ≡ event_line (n + 1) i told ++ text_from (length all) (n + 1 + 1) more new = ap (λ l. text_from (length all) (n + 1) l s) begins ∙ text_first (length all) (n + 1) i more s own.0 own.1 ∙ ap (λ l. l ++ text_from (length all) (n + 1 + 1) more (stepped core_store s i own.0)) (sym line) ∙ ap (λ p. event_line (n + 1) i told ++ text_from (length all) (n + 1 + 1) more p) (sym is.state) in
+    let here : text_from (length all) (n + 1) left s ≡ event_line (n + 1) i told ++ text_from (length all) (n + 1 + 1) more new = ap (λ l. text_from (length all) (n + 1) l s) begins ∙ text_first (length all) (n + 1) i more s own.0 own.1 ∙ ap (λ l. l ++ text_from (length all) (n + 1 + 1) more (processes_after core_store s i own.0)) (sym line) ∙ ap (λ p. event_line (n + 1) i told ++ text_from (length all) (n + 1 + 1) more p) (sym is.state) in
     record {
       text = completes_added now next start pieces pieces' gathered gathered' (event_line (n + 1) i told) (text_from (length all) (n + 1) left s) (text_from (length all) (n + 1 + 1) more new) (schedule_text all first) so_far.text here added;
       made = so_far.made ++ i ∷ [];
@@ -162,13 +162,13 @@ runs_cut all first start now next pieces pieces' gathered n i left more s new to
     let own = get_of s.regs i (next_named (length s.regs) i left more so_far.named begins) in
     let is : IsEvent i s new told own.0 = says own.0 own.1 in
     let line : event_line (n + 1) i told ≡ event_line (n + 1) i (record_of core_store (process_of s own.0)) = ap (event_line (n + 1) i) is.told_is in
-    let here : text_from (length all) (n + 1) left s ≡ event_line (n + 1) i told ++ text_from (length all) (n + 1 + 1) more (stepped core_store s i own.0) = ap (λ l. text_from (length all) (n + 1) l s) begins ∙ text_first (length all) (n + 1) i more s own.0 own.1 ∙ ap (λ l. l ++ text_from (length all) (n + 1 + 1) more (stepped core_store s i own.0)) (sym line) in
+    let here : text_from (length all) (n + 1) left s ≡ event_line (n + 1) i told ++ text_from (length all) (n + 1 + 1) more (processes_after core_store s i own.0) = ap (λ l. text_from (length all) (n + 1) l s) begins ∙ text_first (length all) (n + 1) i more s own.0 own.1 ∙ ap (λ l. l ++ text_from (length all) (n + 1 + 1) more (processes_after core_store s i own.0)) (sym line) in
     record {
       made = so_far.made ++ i ∷ [];
       rest = more;
       schedule_is = all_more all so_far.made i left more so_far.all_is begins;
       state = stand_behind (so_far.made ++ i ∷ []) first new (made_more so_far.made i first s new told own.0 so_far.further own.1 is);
-      grew = completes_lost now next start pieces pieces' gathered (event_line (n + 1) i told) (text_from (length all) (n + 1) left s) (text_from (length all) (n + 1 + 1) more (stepped core_store s i own.0)) (schedule_text all first) so_far.text here lost;
+      grew = completes_lost now next start pieces pieces' gathered (event_line (n + 1) i told) (text_from (length all) (n + 1) left s) (text_from (length all) (n + 1 + 1) more (processes_after core_store s i own.0)) (schedule_text all first) so_far.text here lost;
     }
 
 ended_text :

@@ -1,6 +1,6 @@
 //! The processes on one core.
 
-ghost use Rattle.std.specs.Prelude.{ℕ, ◌≡◌, ◌<◌, length, slice_get, slice_set, IfOk, Some};
+ghost use Rattle.std.specs.Prelude.{ℕ, ◌≡◌, ◌<◌, length, slice_get, slice_set, Some};
 ghost use Rattle.m36_procs.specs.EventResult.{EventResult};
 
 use m36_core::Core;
@@ -97,8 +97,8 @@ impl ProcessSet {
     }
 
     /// An empty record for `step_into` to overwrite.
-    pub(crate) fn untold(&self) -> StepRecord {
-        self.machine.untold()
+    pub(crate) fn empty_record(&self) -> StepRecord {
+        self.machine.empty_record()
     }
 
     /// Takes one step of process i, and overwrites the record.

@@ -104,7 +104,7 @@ impl Procs {
         ensures schedule { self.new.schedule ≡ self.old.schedule }
     {
         let processes = &mut self.processes;
-        let mut told = processes.untold();
+        let mut told = processes.empty_record();
         processes.step_into(i, &mut told);
         told
     }
@@ -128,7 +128,7 @@ impl Procs {
 
     /// An empty record for `event_into` to overwrite.
     pub fn new_record(&self) -> StepRecord {
-        self.processes.untold()
+        self.processes.empty_record()
     }
 
     /// As `event`, but overwrites `step` with the record.

@@ -81,7 +81,7 @@ pub(crate) fn run_schedule<S: Sink>(
     ensures count { length processes.new.regs ≡ length processes.old.regs }
 {
     let mut block = Block::new();
-    let mut told = processes.untold();
+    let mut told = processes.empty_record();
     let mut n: u64 = 0;
     let mut rest = schedule;
     'events: while let Some((process, more)) = rest.split_first() {

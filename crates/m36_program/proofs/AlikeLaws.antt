@@ -201,7 +201,7 @@ performs_quiet_text {may = may} p files result end old new old' new' never alike
     (sym (no_inputs may one.events result never (goes_trail p one.events result one.goes))) tt)
 
 -- If the pieces are a prefix of a list, what is written grows by a prefix of its concatenation.
-written_within :
+pub written_within :
     (answer : Put) (first all left : List (List ℕ)) (old new : SinkState)
     → all ≡ first ++ left → PutsPieces answer first old new → GrewWithin old.written new.written (joined all)
 written_within Done first all left old new is put =

@@ -8,7 +8,7 @@ use Rattle.m36_world.specs.Follow.{Follow, outputs}
 use Rattle.m36_program.specs.Gathered.{Gathers, Loses}
 use Rattle.m36_world.proofs.Following.{follow_on, follow_none, follow_one}
 
-outputs_both : (first more : List (List ℕ)) → outputs (first ++ more) ≡ outputs first ++ outputs more
+pub outputs_both : (first more : List (List ℕ)) → outputs (first ++ more) ≡ outputs first ++ outputs more
 outputs_both [] more = refl
 outputs_both (piece ∷ first) more = ap (λ events. Output piece ∷ events) (outputs_both first more)
 
@@ -21,6 +21,9 @@ follow_pieces first more old between new one two =
     (follow_on (outputs first) (outputs more) old between new one two)
 
 -- ---- pieces are added
+
+pub gathers_none : (block : List (List ℕ)) (seen : Seen) → Gathers block block [] seen seen
+gathers_none block seen = record { handed = []; is = append-nil block; follow = follow_none seen }
 
 -- there was room
 pub gathers_here : (old new more : List (List ℕ)) (seen : Seen) → new ≡ old ++ more → Gathers old new more seen seen

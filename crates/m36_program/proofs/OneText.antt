@@ -27,6 +27,7 @@ use Rattle.m36_program.specs.Found.{found_in}
 use Rattle.m36_program.specs.Alike.{EndsAlike, ReadsAlike, WritesAlike, PutsAlike, TakesAlike, Alike, IsEnd, OneText}
 use Rattle.m36_program.specs.Alike.{SameInput, inputs_of}
 use Rattle.m36_program.proofs.GoesLaws.{goes_failed, fails_with}
+use Rattle.m36_program.proofs.SplitLaws.{same_pieces}
 
 -- ---- results that are not an end
 
@@ -275,9 +276,6 @@ failed_with p [] files end new on fails =
     λ q events old alike told follow input goes. nothing_put (pieces_of events) (Err WriteFault) end
     (λ P ended. absurd ended)
 failed_with p (piece ∷ pieces) files end new on fails = on fails
-
-same_pieces : (first more : List (List ℕ)) → OutputFailed first ∷ [] ≡ OutputFailed more ∷ [] → first ≡ more
-same_pieces first more is = cc
 
 text_failed :
     {may : May} {A : Type 0} (p : Program may A) (pieces : List (List ℕ)) (files : Files) (end : Result A Status)

@@ -216,14 +216,27 @@ pub performs_unless :
 performs_unless p result old new none performs =
     ends_unless result old new (performs_given p result old new performs) none (performs_cause p result old new performs)
 
-same_value : {A : Type 0} (a b : A) → (let r : Option (Result A Status) = Some (Ok a) in r) ≡ Some (Ok b) → a ≡ b
+pub pieces_both : (first more : List Event) → pieces_of (first ++ more) ≡ pieces_of first ++ pieces_of more
+pieces_both [] more = refl
+pieces_both (FileRead name answer ∷ first) more = pieces_both first more
+pieces_both (FileWrite name content answer ∷ first) more = pieces_both first more
+pieces_both (Output piece ∷ first) more = ap (λ l. piece ∷ l) (pieces_both first more)
+pieces_both (OutputFailed pieces ∷ first) more =
+    ap (λ l. pieces ++ l) (pieces_both first more) ∙ sym (append_assoc pieces (pieces_of first) (pieces_of more))
+pieces_both (Input piece ∷ first) more = pieces_both first more
+pieces_both (InputFailed ∷ first) more = pieces_both first more
+
+pub same_value : {A : Type 0} (a b : A) → (let r : Option (Result A Status) = Some (Ok a) in r) ≡ Some (Ok b) → a ≡ b
 same_value a b is = cc
 
-ok_err :
+pub same_err : {A : Type 0} (s t : Status) → (let r : Option (Result A Status) = Some (Err s) in r) ≡ Some (Err t) → s ≡ t
+same_err s t is = cc
+
+pub ok_err :
     {A P : Type 0} (a : A) (s : Status) → (let r : Option (Result A Status) = Some (Ok a) in r) ≡ Some (Err s) → P
 ok_err a s is = absurd (cc)
 
-err_end : (A B : Type 0) (result : Result B Status) (s : Status) → result ≡ Err s → IsEnd result → IsEnd {A = A} (Err s)
+pub err_end : (A B : Type 0) (result : Result B Status) (s : Status) → result ≡ Err s → IsEnd result → IsEnd {A = A} (Err s)
 err_end A B result s is ended = let end : IsEnd {A = B} (Err s) = subst (IsEnd {A = B}) is ended in end
 
 -- A call that ends, with the value that the files give.

@@ -77,7 +77,7 @@ unfolding Goes
 fail_by piece p next [] result on fails = inl (inr (record { pieces = []; only = refl; rest = refl }))
 fail_by piece p next (q ∷ pieces) result on fails = fail_more piece p next (q ∷ pieces) result (λ goes. goes) (on fails)
 
-same_pieces : (first more : List (List ℕ)) → OutputFailed first ∷ [] ≡ OutputFailed more ∷ [] → first ≡ more
+pub same_pieces : (first more : List (List ℕ)) → OutputFailed first ∷ [] ≡ OutputFailed more ∷ [] → first ≡ more
 same_pieces first more is = cc
 
 split_failed :

@@ -1,6 +1,6 @@
 //! Tables of definitions by their names.
 
-ghost use Rattle.std.specs.Prelude.{ℕ, ◌≡◌, ◌^◌, ◌<◌, [], IfOk, OnOk, option_map};
+ghost use Rattle.std.specs.Prelude.{ℕ, ◌≡◌, ◌^◌, ◌<◌, [], IfOk, OnOk};
 ghost use Rattle.m36_relocate.specs.Exports.{export_named, export_after, with_export, is_symbol, with_definition, with_own_definition, with_own_definitions, relocated_def, with_relocated_definition, with_relocated_definitions};
 
 use crate::layout::{Relocation, relocated_place};

@@ -1,6 +1,6 @@
 //! Relocates parts of words: halves, and bits 3 to 17.
 
-ghost use Rattle.std.specs.Prelude.{ℕ, ◌≡◌, ◌+◌, ◌-◌, ◌*◌, ◌/◌, ◌%◌, ◌^◌, ◌<◌, slice_index};
+ghost use Rattle.std.specs.Prelude.{◌≡◌, ◌+◌, ◌-◌, ◌*◌, ◌/◌, ◌%◌, ◌^◌, ◌<◌, slice_index};
 ghost use Rattle.obj36_parts.specs.Halves.{bits_3_to_17};
 ghost use Rattle.m36_relocate.specs.Words.{with_offset, relocated_negative, biased_offset, relocated_word, part_fits, is_relocation_in, start_of, word_index_of, with_word_relocated, with_relocation_applied, relocated_words, one_fits, all_fit};
 

@@ -11,11 +11,11 @@ status_of (BadFile bad) = status.BadFile bad
 status_of NoMemory = status.NoMemory
 
 -- the result of a rule: its value, or the refusal of a file
-abbrev pub Early : Type 0 → Type 0
-Early A = Result A Refusal
+abbrev pub RuleResult : Type 0 → Type 0
+RuleResult A = Result A Refusal
 
 -- The result of a call is that of the rule, or memory ran out.
-abbrev pub IsRuleResult : {A : Type 0} → Result A Refusal → Early A → Type 0
+abbrev pub IsRuleResult : {A : Type 0} → Result A Refusal → RuleResult A → Type 0
 IsRuleResult (Ok a) rule = rule ≡ Ok a
 IsRuleResult (Err (BadFile bad)) rule = rule ≡ Err (BadFile bad)
 IsRuleResult (Err NoMemory) rule = ⊤

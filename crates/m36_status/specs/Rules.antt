@@ -10,7 +10,7 @@ use Rattle.m36_status.specs.declared.status.Code.{Code}
 use Rattle.m36_status.specs.declared.status.Code.TheVariants as code
 use Rattle.m36_status.specs.declared.refusal.Refusal.{Refusal}
 use Rattle.m36_status.specs.declared.refusal.Refusal.TheVariants.{BadFile, NoMemory}
-use Rattle.m36_status.specs.Refusing.{Early}
+use Rattle.m36_status.specs.Refusing.{RuleResult}
 
 -- the refusal of a file, by its name, a code, a place and a column
 abbrev pub file_refusal_at : List ℕ → Code → ℕ → ℕ → Refusal
@@ -24,13 +24,13 @@ file_refusal name code at = file_refusal_at name code at 0
 -- ---- words
 
 -- F3 if there are more words than a segment can have
-abbrev pub check_word_count : List ℕ → List ℕ → Early (List ℕ)
+abbrev pub check_word_count : List ℕ → List ℕ → RuleResult (List ℕ)
 check_word_count name words =
     if nat_lt segment_limit (length words) then Err (file_refusal name code.F3 0) else Ok words
 
 -- The words of a file, from the result of unpacking its bytes: T3 or T4 if they are no packed
 -- words, F3 if there are more words than a segment can have.
-abbrev pub words_or_refusal : List ℕ → Result (List ℕ) PackFault → Early (List ℕ)
+abbrev pub words_or_refusal : List ℕ → Result (List ℕ) PackFault → RuleResult (List ℕ)
 words_or_refusal name (Ok words) = check_word_count name words
 words_or_refusal name (Err (pack.T3 count)) = Err (file_refusal name code.T3 count)
 words_or_refusal name (Err (pack.T4 place)) = Err (file_refusal name code.T4 place)
@@ -51,6 +51,6 @@ object_refusal name (fault.O8 at) = file_refusal name code.O8 at
 object_refusal name fault.NoMemory = NoMemory
 
 -- The object of a file, from the result of decoding its words: O1 to O8 if they are no object.
-abbrev pub object_or_refusal : List ℕ → Result PartsFields ObjectFault → Early PartsFields
+abbrev pub object_or_refusal : List ℕ → Result PartsFields ObjectFault → RuleResult PartsFields
 object_or_refusal name (Ok parts) = Ok parts
 object_or_refusal name (Err fault) = Err (object_refusal name fault)

@@ -5,7 +5,7 @@
 //! that a command writes.
 //!
 //! A *rule* computes something from the bytes of files, without a read: a value, or the refusal of
-//! a file (`Early`). [`words_in`] unpacks the words of a file (T3, T4, F3), and [`object_in`]
+//! a file (`RuleResult`). [`words_in`] unpacks the words of a file (T3, T4, F3), and [`object_in`]
 //! decodes the object of words (O1 to O8); `specs/Rules.antt` has their rules. `IsRuleResult`
 //! (`specs/Refusing.antt`) is the contract of a call that computes a rule: its result is that of
 //! the rule, or memory ran out. `m36_program` and `m36_files` make programs of reads and rules.

@@ -25,7 +25,7 @@ use Rattle.m36_model.specs.Fields.{FinalFields}
 use Rattle.m36_model.specs.Modification.{here}
 use Rattle.m36_model.specs.Registers.{RegsFields}
 use Rattle.m36_model.specs.Results.{ring_only, yields_registers}
-use Rattle.m36_model.specs.Step.{Ending, no_operand, outcome_after, outcome_by, aligned_at, operate_by_kind, writing, decode, decoded, effect_and_number, has_right, program}
+use Rattle.m36_model.specs.Step.{Ending, no_operand, outcome_after, outcome_by, aligned_at, operate_by_kind, writing, decode, execute_decoded, effect_and_number, has_right, program}
 use Rattle.m36_model.specs.Store.{Core_word, serve, changes}
 use Rattle.m36_model.specs.Transfers.{is_taken}
 use Rattle.m36_model.specs.declared.place.Reference.{Reference}
@@ -35,7 +35,7 @@ use Rattle.m36_walk.specs.Memory.{Memory}
 use Rattle.m36_walk.specs.Served.{midstep_with, sdw_in, request, served_with_result, result_at_target, Reads, ServesClaim, ServesWord}
 use Rattle.m36_walk.specs.Words.{run_changes}
 use Rattle.m36_fastpath.specs.FastPath.{IsQuietEffect, operand_of_word, operand_of_pair}
-use Rattle.m36_ea.specs.Formed.{run_formation, ended, without_tally}
+use Rattle.m36_ea.specs.Formed.{run_formation, formation_end, without_tally}
 use Rattle.m36_step.specs.Ended.{EndsAs, end_in_record, code_end}
 use Rattle.m36_step.specs.Operated.{part_of}
 use Rattle.m36_step.specs.Quick.{next_end, EndsWithNext, Operates, Addresses, Decodes, IsNoLdbr, Steps}
@@ -314,7 +314,7 @@ module _ (Has : List Reference → Type 0) (Tells : List Reference → Ended →
 
   module _ (core core' : List ℕ) (after : RegsFields) where
     -- from the address on
-    pub addressed_on : (last : FinalFields) (i : InstFields) → i ≡ inst_of w → ((core : List ℕ) (refs : List Reference) → run_formation g i core refs ≡ ended core refs (Ok (without_tally last)))
+    pub addressed_on : (last : FinalFields) (i : InstFields) → i ≡ inst_of w → ((core : List ℕ) (refs : List Reference) → run_formation g i core refs ≡ formation_end core refs (Ok (without_tally last)))
         → Operates Has Tells q g w last core core' after → Addresses Has Tells q g w core core' after
     addressed_on last i is forms goes refs has =
         let t = goes refs has in
@@ -329,7 +329,7 @@ module _ (Has : List Reference → Type 0) (Tells : List Reference → Ended →
     pub decoded_on : q ≡ quick_row_of w → IsQuick q → (q.group ≡ group.Other → ⊥) → Addresses Has Tells q g w core core' after → Decodes Has Tells g w core core' after
     decoded_on is row other goes privileged refs has =
         let formed = forms_by q.group q.effect (fits q q.group row refl) other in
-        let same = ap (λ (x : Option (Effect × ℕ)). decoded g w privileged x) (decode_quick w q is other) ∙ unprivileged q.effect q.reg w g privileged formed.privileged formed.forms in
+        let same = ap (λ (x : Option (Effect × ℕ)). execute_decoded g w privileged x) (decode_quick w q is other) ∙ unprivileged q.effect q.reg w g privileged formed.privileged formed.forms in
         subst (λ (a : Act Ending). EndsWithNext Tells g a (midstep_with core [] refs) core' after w) (sym same) (goes refs has)
 
 -- The whole step.

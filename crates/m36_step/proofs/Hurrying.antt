@@ -1,19 +1,17 @@
 -- Quick steps, one after another.
-use Rattle.std.proofs.Common.{ℕ, zero, suc, ◌≡◌, ◌+◌, ◌<◌, ◌∙◌, refl, sym, ap, subst, List, [], below_none, below_more, arith, None, Some}
+use Rattle.std.proofs.Common.{ℕ, zero, suc, ◌≡◌, ◌+◌, ◌<◌, ◌∙◌, refl, sym, ap, subst, List, [], below_more, arith, None, Some}
 use Rattle.m36_model.specs.Core.{core_store}
 use Rattle.m36_model.specs.Laws.{ExecutesLdbr}
 use Rattle.m36_model.specs.Step.{record_of, state_after}
 use Rattle.m36_model.specs.Store.{State}
 use Rattle.m36_model.specs.declared.outcome.Outcome.{Outcome}
 use Rattle.m36_model.specs.declared.outcome.Outcome.TheVariants.{Next}
-use Rattle.m36_model.specs.declared.place.Reference.{Reference}
 use Rattle.m36_model.specs.declared.record.StepRecord.{StepRecord}
 use Rattle.m36_step.specs.Answers.{IsStepWithNext}
-use Rattle.m36_step.specs.Hurry.{repeated, state_after_steps}
+use Rattle.m36_step.specs.Hurry.{apply_repeatedly, state_after_steps}
 use Rattle.m36_step.specs.MachineFields.{MachineFields}
 use Rattle.m36_step.specs.MachineTurn.{machine_turn, machine_after, turn_given_end, after_given_end, end_by_outcome}
-use Rattle.m36_step.specs.Quick.{IsNoLdbr, Steps, next_end}
-use Rattle.m36_step.specs.declared.ended.Ended.{Ended}
+use Rattle.m36_step.specs.Quick.{Steps, next_end}
 use Rattle.m36_step.proofs.Ends.{step_told, step_left}
 
 -- `taken` steps lead from the first state to this one; each has the outcome Next and is not an LDBR
@@ -62,17 +60,17 @@ one_more start before later taken t steps =
 -- Turns of a machine whose run has not ended, if each step has the outcome Next.
 pub turns_repeated :
     (m : MachineFields) (taken : ℕ) → m.ended ≡ None → ((n : ℕ) → n < taken → (record_of core_store (state_after_steps n m.state)).outcome ≡ Next)
-    → repeated machine_after taken m ≡ record { state = state_after_steps taken m.state; ended = None }
-unfolding repeated state_after_steps machine_after
+    → apply_repeatedly machine_after taken m ≡ record { state = state_after_steps taken m.state; ended = None }
+unfolding apply_repeatedly state_after_steps machine_after
 turns_repeated m zero going on = λ i. record { state = m.state; ended = going i }
 turns_repeated m (suc taken) going on =
-    let before : repeated machine_after taken m ≡ record { state = state_after_steps taken m.state; ended = None } = turns_repeated m taken going (λ n h. on n (omega arith)) in
+    let before : apply_repeatedly machine_after taken m ≡ record { state = state_after_steps taken m.state; ended = None } = turns_repeated m taken going (λ n h. on n (omega arith)) in
     let next = on taken (omega arith) in
     ap (λ (x : MachineFields). after_given_end x.ended x.state) before ∙ ap (λ (o : Outcome). record { state = state_after core_store (state_after_steps taken m.state); ended = end_by_outcome o }) next
 
 pub turns_on :
     (m : MachineFields) (taken : ℕ) → m.ended ≡ None → ((n : ℕ) → n < taken → (record_of core_store (state_after_steps n m.state)).outcome ≡ Next)
-    → (n : ℕ) → n < taken → IsStepWithNext (machine_turn (repeated machine_after n m))
+    → (n : ℕ) → n < taken → IsStepWithNext (machine_turn (apply_repeatedly machine_after n m))
 unfolding machine_turn
 turns_on m taken going on n h =
     let there = turns_repeated m n going (λ k l. on k (omega arith)) in

@@ -14,7 +14,7 @@ use Rattle.m36_model.specs.Effect.{exec, is_absa}
 use Rattle.m36_model.specs.Fields.{FinalFields}
 use Rattle.m36_model.specs.Registers.{RegsFields}
 use Rattle.m36_model.specs.Results.{OperandFields, ring_only}
-use Rattle.m36_model.specs.Step.{Performed, no_operand, puts_from, operation_result, perform, with_chain_tally, operate, operate_on, operated, addressed, started, admitted, operate_by_kind, operate_direct, direct_word, addressing, transferring, writing, request_at, outcome_after}
+use Rattle.m36_model.specs.Step.{Performed, no_operand, puts_from, operation_result, perform, with_chain_tally, operate, operate_on, operate_and_end, form_and_operate, execute_admitted, execute_unless_barred, operate_by_kind, operate_direct, direct_word, addressing, transferring, writing, request_at, outcome_after}
 use Rattle.m36_model.specs.Store.{Spot, Core_word, serve, run, changes}
 use Rattle.m36_model.specs.Transfers.{is_taken}
 use Rattle.m36_model.specs.declared.effects.Formed.{Formed}
@@ -103,12 +103,12 @@ module _ (e : Effect) (n w : ℕ) (g : RegsFields) (last : FinalFields) where
     no_words = refl
 
     ends_unwritten : run core_store g (operate e n g c) (midstep_with core [] refs) ≡ record { value = Ok (record { regs = g'; puts = puts_from Whole 0 []; overflow = overflow }); mid = midstep_with core' [] refs' }
-        → EndsFormed g (operated e n g w c) core f refs core' refs' g' end
+        → EndsFormed g (operate_and_end e n g w c) core f refs core' refs' g' end
     ends_unwritten runs =
         operation_performed g e n w f core refs core' refs' g' held.Empty (operated_at 0 overflow) core' end (runs ∙ no_words) nothing_put is
 
     ends_written : (place word : ℕ) (core'' : List ℕ) → run core_store g (operate e n g c) (midstep_with core [] refs) ≡ record { value = Ok (record { regs = g'; puts = puts_from Whole 0 (word ∷ []); overflow = overflow }); mid = midstep_with core' (run_from place 1) refs' }
-        → core'' ≡ slice_set core' place word → EndsFormed g (operated e n g w c) core f refs core'' refs' g' end
+        → core'' ≡ slice_set core' place word → EndsFormed g (operate_and_end e n g w c) core f refs core'' refs' g' end
     ends_written place word core'' runs stored =
         operation_performed g e n w f core refs core' refs' g' (held.One word) (operated_at place overflow) core'' end runs
         (stored ∙ put_one_word core' place word ∙ sym (ap (core_put core') (changes_of_run [] place (word ∷ [])))) is
@@ -117,7 +117,7 @@ module _ (e : Effect) (n w : ℕ) (g : RegsFields) (last : FinalFields) where
     -- A word is read.
     pub read_ends : (got : ℕ) → operand_of e ≡ kind.R → last.direct ≡ None → ServesRead g f 1 m refs core' refs' (Ok (got ∷ []))
         → Ok (record { regs = g'; put = []; overflow = overflow }) ≡ exec e n g last (operand_of_word got)
-        → EndsFormed g (operated e n g w c) m.core f refs core' refs' g' end
+        → EndsFormed g (operate_and_end e n g w c) m.core f refs core' refs' g' end
     read_ends got k none served effect =
         ends_unwritten m.core refs core' refs' g' overflow end is
         (ap (λ p. run core_store g p (midstep_with m.core [] refs)) (operates_by kind.R k none)
@@ -127,7 +127,7 @@ module _ (e : Effect) (n w : ℕ) (g : RegsFields) (last : FinalFields) where
     -- A word is stored.
     pub stored_ends : (place word : ℕ) (core'' : List ℕ) → operand_of e ≡ kind.W → last.direct ≡ None → ServesWrite g f 1 m refs core' refs' (Ok place)
         → Ok (record { regs = g'; put = word ∷ []; overflow = overflow }) ≡ exec e n g last no_operand
-        → core'' ≡ slice_set core' place word → EndsFormed g (operated e n g w c) m.core f refs core'' refs' g' end
+        → core'' ≡ slice_set core' place word → EndsFormed g (operate_and_end e n g w c) m.core f refs core'' refs' g' end
     stored_ends place word core'' k none served effect stored =
         ends_written m.core refs core' refs' g' overflow end is place word core''
         (ap (λ p. run core_store g p (midstep_with m.core [] refs)) (operates_by kind.W k none)
@@ -138,7 +138,7 @@ module _ (e : Effect) (n w : ℕ) (g : RegsFields) (last : FinalFields) where
     -- A half of a word is stored.
     pub half_ends : (p : code.Part) (k : Operand) → operand_of e ≡ k → operate_by_kind e n g c k ≡ writing e n g c 1 (part_of p) → (place word : ℕ) (core'' : List ℕ) → last.direct ≡ None → ServesWrite g f 1 m refs core' refs' (Ok place)
         → Ok (record { regs = g'; put = word ∷ []; overflow = overflow }) ≡ exec e n g last no_operand
-        → core'' ≡ put_one core' (Core_word place) (part_of p) word → EndsFormed g (operated e n g w c) m.core f refs core'' refs' g' end
+        → core'' ≡ put_one core' (Core_word place) (part_of p) word → EndsFormed g (operate_and_end e n g w c) m.core f refs core'' refs' g' end
     unfolding core_put changes run_from
     half_ends p k kind by place word core'' none served effect stored =
         operation_performed g e n w f m.core refs core' refs' g' (held.One word) (record { place = place; part = p; overflow = overflow }) core'' end
@@ -150,7 +150,7 @@ module _ (e : Effect) (n w : ℕ) (g : RegsFields) (last : FinalFields) where
     -- A pair is read, with the first ring bracket of its segment.
     pub pair_read_ends : (got : Pair) (ring : ℕ) → operand_of e ≡ kind.R2 → last.direct ≡ None → ServesRead g f 2 m refs core' refs' (Ok (pair_words got)) → ring ≡ (sdw_in m last.at.seg).r1
         → Ok (record { regs = g'; put = []; overflow = overflow }) ≡ exec e n g last (operand_of_pair got ring)
-        → EndsFormed g (operated e n g w c) m.core f refs core' refs' g' end
+        → EndsFormed g (operate_and_end e n g w c) m.core f refs core' refs' g' end
     pair_read_ends got ring k none served first effect =
         ends_unwritten m.core refs core' refs' g' overflow end is
         (ap (λ p. run core_store g p (midstep_with m.core [] refs)) (operates_by kind.R2 k none)
@@ -161,7 +161,7 @@ module _ (e : Effect) (n w : ℕ) (g : RegsFields) (last : FinalFields) where
     -- A pair is stored.
     pub pair_stored_ends : (place : ℕ) (put : Pair) (core'' : List ℕ) → operand_of e ≡ kind.W2 → last.direct ≡ None → ServesWrite g f 2 m refs core' refs' (Ok place)
         → Ok (record { regs = g'; put = pair_words put; overflow = overflow }) ≡ exec e n g last no_operand
-        → core'' ≡ core_put core' (run_changes place (pair_words put)) → EndsFormed g (operated e n g w c) m.core f refs core'' refs' g' end
+        → core'' ≡ core_put core' (run_changes place (pair_words put)) → EndsFormed g (operate_and_end e n g w c) m.core f refs core'' refs' g' end
     pair_stored_ends place put core'' k none served effect stored =
         operation_performed g e n w f m.core refs core' refs' g' (held.Two put) (operated_at place overflow) core'' end
         (ap (λ p. run core_store g p (midstep_with m.core [] refs)) (operates_by kind.W2 k none)
@@ -179,7 +179,7 @@ module _ (e : Effect) (n w : ℕ) (g : RegsFields) (last : FinalFields) where
 
       pub changed_ends : (place word : ℕ) (after : List ℕ) → ServesWrite g f 1 m' refs' core'' refs'' (Ok place)
           → Ok (record { regs = g'; put = word ∷ []; overflow = overflow }) ≡ exec e n g last (operand_of_word got)
-          → after ≡ slice_set core'' place word → EndsFormed g (operated e n g w c) m.core f refs after refs'' g' end
+          → after ≡ slice_set core'' place word → EndsFormed g (operate_and_end e n g w c) m.core f refs after refs'' g' end
       changed_ends place word after held effect stored =
           ends_written m.core refs core'' refs'' g' overflow end is place word after
           (changes_by ∙ run_ask g (request_at Write c 1) _ (midstep_with m'.core [] refs') _ held
@@ -191,7 +191,7 @@ module _ (e : Effect) (n w : ℕ) (g : RegsFields) (last : FinalFields) where
   module _ (core : List ℕ) (refs : List Reference) (g' : RegsFields) (overflow : Bool) (end : Ended) (is : end ≡ done_end g' overflow) where
     pub direct_ends : (operand : ℕ) → operand_of e ≡ kind.R → last.direct ≡ Some operand → takes_direct e ≡ true
         → Ok (record { regs = g'; put = []; overflow = overflow }) ≡ exec e n g last (operand_of_word operand)
-        → EndsFormed g (operated e n g w c) core f refs core refs g' end
+        → EndsFormed g (operate_and_end e n g w c) core f refs core refs g' end
     unfolding operate
     direct_ends operand k some takes effect =
         let by : operate e n g c ≡ perform e n g c Whole 0 (operand_of_word operand) =
@@ -202,7 +202,7 @@ module _ (e : Effect) (n w : ℕ) (g : RegsFields) (last : FinalFields) where
 
     pub address_ends : operand_of e ≡ kind.A → last.direct ≡ None → is_absa e ≡ false
         → Ok (record { regs = g'; put = []; overflow = overflow }) ≡ exec e n g last no_operand
-        → EndsFormed g (operated e n g w c) core f refs core refs g' end
+        → EndsFormed g (operate_and_end e n g w c) core f refs core refs g' end
     address_ends k none other effect =
         let by : operate e n g c ≡ perform e n g c Whole 0 no_operand =
         operates_by kind.A k none ∙ ap (λ (b : Bool). addressing e n g c b) other in
@@ -215,7 +215,7 @@ module _ (e : Effect) (n w : ℕ) (g : RegsFields) (last : FinalFields) where
 
     pub stays_ends : operand_of e ≡ kind.T → last.direct ≡ None → false ≡ is_taken e g
         → Ok (record { regs = g'; put = []; overflow = overflow }) ≡ exec e n g last no_operand
-        → EndsFormed g (operated e n g w c) core f refs core refs g' end
+        → EndsFormed g (operate_and_end e n g w c) core f refs core refs g' end
     stays_ends k none t effect =
         ends_unwritten core refs core refs g' overflow end is
         (ap (λ p. run core_store g p (midstep_with core [] refs)) (transfers_by false k none t) ∙ performs no_operand g' [] overflow core [] refs effect)
@@ -223,7 +223,7 @@ module _ (e : Effect) (n w : ℕ) (g : RegsFields) (last : FinalFields) where
     pub target_ends : (d : SdwFields) → operand_of e ≡ kind.T → last.direct ≡ None → true ≡ is_taken e g
         → serve core_store g (midstep_with core [] refs) (request Transfer last.at 1 []) ≡ served_with_result (request Transfer last.at 1 []) core [] refs (result_at_target d (Ok (tt {0})))
         → Ok (record { regs = g'; put = []; overflow = overflow }) ≡ exec e n g last no_operand
-        → EndsFormed g (operated e n g w c) core f refs core refs g' end
+        → EndsFormed g (operate_and_end e n g w c) core f refs core refs g' end
     target_ends d k none t served effect =
         ends_unwritten core refs core refs g' overflow end is
         (ap (λ p. run core_store g p (midstep_with core [] refs)) (transfers_by true k none t)
@@ -234,7 +234,7 @@ module _ (e : Effect) (n w : ℕ) (g : RegsFields) (last : FinalFields) where
     pub call_ends : (d : SdwFields) (ring : ℕ) → operand_of e ≡ kind.Call6 → last.direct ≡ None
         → serve core_store g (midstep_with core [] refs) (request Call last.at 1 []) ≡ served_with_result (request Call last.at 1 []) core [] refs (result_at_target d (Ok ring)) → ring ≡ ring_after_call d last.at.ring
         → Ok (record { regs = g'; put = []; overflow = overflow }) ≡ exec e n g last (ring_only ring)
-        → EndsFormed g (operated e n g w c) core f refs core refs g' end
+        → EndsFormed g (operate_and_end e n g w c) core f refs core refs g' end
     call_ends d ring k none served is_ring effect =
         ends_unwritten core refs core refs g' overflow end is
         (ap (λ p. run core_store g p (midstep_with core [] refs)) (operates_by kind.Call6 k none)
@@ -243,11 +243,11 @@ module _ (e : Effect) (n w : ℕ) (g : RegsFields) (last : FinalFields) where
         ∙ performs (ring_only ring) g' [] overflow core [] refs effect)
 
 module _ (e : Effect) (n w : ℕ) (g : RegsFields) where
-  starts_addressed : (k : Operand) → (k ≡ kind.N → ⊥) → started e n g w k ≡ addressed e n g w
+  starts_addressed : (k : Operand) → (k ≡ kind.N → ⊥) → execute_admitted e n g w k ≡ form_and_operate e n g w
   starts_addressed kind.N forms = absurd (forms refl)
   starts_addressed _ forms = refl
 
   -- an instruction that forms an address and is not privileged
-  pub unprivileged : (privileged : Bool) → is_privileged e ≡ false → (operand_of e ≡ kind.N → ⊥) → admitted e n g w (is_privileged e && not privileged) ≡ addressed e n g w
+  pub unprivileged : (privileged : Bool) → is_privileged e ≡ false → (operand_of e ≡ kind.N → ⊥) → execute_unless_barred e n g w (is_privileged e && not privileged) ≡ form_and_operate e n g w
   unprivileged privileged none forms =
-      ap (λ (b : Bool). admitted e n g w (b && not privileged)) none ∙ starts_addressed (operand_of e) forms
+      ap (λ (b : Bool). execute_unless_barred e n g w (b && not privileged)) none ∙ starts_addressed (operand_of e) forms

@@ -5,11 +5,10 @@ use Rattle.m36_model.specs.Registers.{RegsFields}
 use Rattle.m36_model.specs.Shown.{shown_of}
 use Rattle.m36_model.specs.Step.{record_of, state_after}
 use Rattle.m36_model.specs.Store.{State}
-use Rattle.m36_model.specs.declared.place.Reference.{Reference}
 use Rattle.m36_model.specs.declared.record.Shown.{Shown}
 use Rattle.m36_model.specs.declared.record.StepRecord.{StepRecord}
 use Rattle.m36_step.specs.Ended.{code_end}
-use Rattle.m36_step.specs.Quick.{Steps, next_end}
+use Rattle.m36_step.specs.Quick.{Steps}
 use Rattle.m36_step.specs.Shown.{shown_end, EndsShown}
 use Rattle.m36_step.specs.declared.ended.Ended.{Ended}
 use Rattle.m36_step.proofs.Ends.{step_told, step_left}

@@ -29,7 +29,7 @@ use Rattle.m36_walk.specs.Served.{sdw_in, Reads, ServesClaim}
 use Rattle.m36_walk.specs.Words.{with_pending}
 use Rattle.m36_walk.specs.declared.words.Pending.{Pending}
 use Rattle.m36_fastpath.specs.FastPath.{IsQuietEffect, operand_of_word}
-use Rattle.m36_ea.specs.Formed.{run_formation, ended, midstep_after_address, without_tally}
+use Rattle.m36_ea.specs.Formed.{run_formation, formation_end, midstep_after_address, without_tally}
 use Rattle.m36_ea.specs.declared.quick.Counting.{Counting}
 use Rattle.m36_ea.proofs.Runs.{run_ask, run_done}
 use Rattle.m36_step.specs.Quick.{next_end, counted_address, Operates, OperatesCounted, Addresses}
@@ -42,7 +42,7 @@ use Rattle.m36_step.proofs.GoingOn.{fits, on_end}
 module _ (Has : List Reference → Type 0) (Tells : List Reference → Ended → Type 0) (q : Quick) (g : RegsFields) (w : ℕ) where
   module _ (core core' : List ℕ) (after : RegsFields) (i : InstFields) (is : i ≡ inst_of w) (Later : List Reference → Type 0) where
     -- from an address that reads an indirect word
-    pub through_on : (last : FinalFields) (r : Reference) → ((refs : List Reference) → run_formation g i core refs ≡ ended core (refs ++ r ∷ []) (Ok (without_tally last)))
+    pub through_on : (last : FinalFields) (r : Reference) → ((refs : List Reference) → run_formation g i core refs ≡ formation_end core (refs ++ r ∷ []) (Ok (without_tally last)))
         → ((refs : List Reference) → Has refs → Later (refs ++ r ∷ [])) → Operates Later Tells q g w last core core' after → Addresses Has Tells q g w core core' after
     through_on last r forms refer goes refs has =
         let one = refs ++ r ∷ [] in
@@ -55,7 +55,7 @@ module _ (Has : List Reference → Type 0) (Tells : List Reference → Ended →
         }
 
     -- from an address that counts a tally word
-    pub counted_on : (c : Counting) (r s : Reference) → ((refs : List Reference) → run_formation g i core refs ≡ ended core ((refs ++ r ∷ []) ++ s ∷ []) (Ok (counted_address c)))
+    pub counted_on : (c : Counting) (r s : Reference) → ((refs : List Reference) → run_formation g i core refs ≡ formation_end core ((refs ++ r ∷ []) ++ s ∷ []) (Ok (counted_address c)))
         → ((refs : List Reference) → Has refs → Later ((refs ++ r ∷ []) ++ s ∷ [])) → OperatesCounted Later Tells q g w c core core' after → Addresses Has Tells q g w core core' after
     counted_on c r s forms refer goes refs has =
         let two = (refs ++ r ∷ []) ++ s ∷ [] in

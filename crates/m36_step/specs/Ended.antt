@@ -6,7 +6,7 @@ use Rattle.m36_model.specs.Registers.{RegsFields}
 use Rattle.m36_model.specs.Act.{Act}
 use Rattle.m36_model.specs.Store.{ProgramResult, run}
 use Rattle.m36_model.specs.Core.{core_store}
-use Rattle.m36_model.specs.Step.{Ending, stepped, outcome_of, outcome_after}
+use Rattle.m36_model.specs.Step.{Ending, state_after_run, outcome_of, outcome_after}
 use Rattle.m36_model.specs.declared.effects.Formed.{Formed}
 use Rattle.m36_model.specs.declared.outcome.Halt.{Halt}
 use Rattle.m36_model.specs.declared.outcome.Outcome.{Outcome}
@@ -35,7 +35,7 @@ end_of_run t =
       after = t.value.after;
       outcome = t.value.outcome;
       refs = t.mid.refs;
-      core = (stepped core_store t).store;
+      core = (state_after_run core_store t).store;
     }
 
 -- the end that the code gives, with core, the references and the registers that it leaves

@@ -10,6 +10,6 @@ state_after_steps zero s = s
 state_after_steps (suc n) s = state_after core_store (state_after_steps n s)
 
 -- a function applied n times
-unfoldable pub repeated : {A : Type 0} → (A → A) → ℕ → A → A
-repeated f zero a = a
-repeated f (suc n) a = f (repeated f n a)
+unfoldable pub apply_repeatedly : {A : Type 0} → (A → A) → ℕ → A → A
+apply_repeatedly f zero a = a
+apply_repeatedly f (suc n) a = f (apply_repeatedly f n a)

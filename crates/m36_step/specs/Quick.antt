@@ -7,7 +7,7 @@ use Rattle.m36_model.specs.Chain.{chain_end_fields}
 use Rattle.m36_model.specs.Core.{core_store}
 use Rattle.m36_model.specs.Fields.{FinalFields}
 use Rattle.m36_model.specs.Registers.{RegsFields}
-use Rattle.m36_model.specs.Step.{Ending, addressed, decode, decoded, operated, program}
+use Rattle.m36_model.specs.Step.{Ending, form_and_operate, decode, execute_decoded, operate_and_end, program}
 use Rattle.m36_model.specs.Store.{Midstep, run}
 use Rattle.m36_model.specs.declared.outcome.Outcome.TheVariants.{Next}
 use Rattle.m36_model.specs.declared.place.Reference.{Reference}
@@ -44,7 +44,7 @@ abbrev pub Operates :
     (List Reference → Type 0) → (List Reference → Ended → Type 0) → Quick → RegsFields → ℕ
     → FinalFields → List ℕ → List ℕ → RegsFields → Type 0
 Operates Has Tells q g w last core core' after =
-    EndsWithNextAlways Has Tells g (operated q.effect q.reg g w (chain_end_fields (without_tally last)))
+    EndsWithNextAlways Has Tells g (operate_and_end q.effect q.reg g w (chain_end_fields (without_tally last)))
     core core' after w
 
 -- the formed address of an instruction that has counted a tally word
@@ -58,7 +58,7 @@ abbrev pub OperatesCounted :
     → Counting → List ℕ → List ℕ → RegsFields → Type 0
 OperatesCounted Has Tells q g w c core core' after =
     (refs : List Reference) → Has refs
-    → EndsWithNext Tells g (operated q.effect q.reg g w (chain_end_fields (counted_address c)))
+    → EndsWithNext Tells g (operate_and_end q.effect q.reg g w (chain_end_fields (counted_address c)))
     (midstep_after_address core (counted_address c) refs) core' after w
 
 -- The program of an instruction, from the formation of its address on, ends as in `EndsWithNextAlways`.
@@ -66,7 +66,7 @@ abbrev pub Addresses :
     (List Reference → Type 0) → (List Reference → Ended → Type 0) → Quick → RegsFields → ℕ
     → List ℕ → List ℕ → RegsFields → Type 0
 Addresses Has Tells q g w core core' after =
-    EndsWithNextAlways Has Tells g (addressed q.effect q.reg g w) core core' after w
+    EndsWithNextAlways Has Tells g (form_and_operate q.effect q.reg g w) core core' after w
 
 -- The program of an instruction, from the lookup of its row on, ends as in `EndsWithNextAlways`, whether or not
 -- it may be a privileged one.
@@ -75,7 +75,7 @@ abbrev pub Decodes :
     → List ℕ → RegsFields → Type 0
 Decodes Has Tells g w core core' after =
     (privileged : Bool)
-    → EndsWithNextAlways Has Tells g (decoded g w privileged (decode w)) core core' after w
+    → EndsWithNextAlways Has Tells g (execute_decoded g w privileged (decode w)) core core' after w
 
 -- the word is not an LDBR
 abbrev pub IsNoLdbr : ℕ → Type 0

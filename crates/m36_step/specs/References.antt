@@ -7,7 +7,7 @@ use Rattle.m36_model.specs.Chain.{chain_end_fields, claimed_by}
 use Rattle.m36_model.specs.Core.{core_store}
 use Rattle.m36_model.specs.Registers.{RegsFields}
 use Rattle.m36_model.specs.Step.{request_at}
-use Rattle.m36_model.specs.Store.{Served, serve}
+use Rattle.m36_model.specs.Store.{ServeResult, serve}
 use Rattle.m36_model.specs.declared.effects.Formed.{Formed}
 use Rattle.m36_model.specs.declared.outcome.Fault.{Fault}
 use Rattle.m36_model.specs.declared.place.Reference.{Reference}
@@ -18,7 +18,7 @@ use Rattle.m36_step.specs.Operated.{claims_with}
 
 -- the answer to a Read: the words, or the refusal
 abbrev pub read_served :
-    SdwFields → List ℕ → Formed → List Reference → Result (List ℕ) Fault → Served (List ℕ)
+    SdwFields → List ℕ → Formed → List Reference → Result (List ℕ) Fault → ServeResult (List ℕ)
 read_served d core f refs (Ok words) =
     record {
       reply = Ok (answer_of_words d (claimed_by f.tally f.place) words);
@@ -36,7 +36,7 @@ ServesRead g f count m refs core refs' words =
 
 -- the answer to a Write, given the place of the first word, or the refusal
 abbrev pub write_served :
-    SdwFields → List ℕ → Formed → ℕ → List Reference → Result ℕ Fault → Served (List ℕ)
+    SdwFields → List ℕ → Formed → ℕ → List Reference → Result ℕ Fault → ServeResult (List ℕ)
 write_served d core f count refs (Ok place) =
     record {
       reply = Ok (answer_of_words d (claimed_by f.tally f.place) []);

@@ -1,6 +1,6 @@
 //! The effect of an instruction, given its operand.
 
-ghost use Rattle.std.specs.Prelude.{ℕ, ◌≡◌, ◌≢◌, ◌<◌, Ok, IfOk, IfErr, IsTrue};
+ghost use Rattle.std.specs.Prelude.{◌≡◌, ◌≢◌, ◌<◌, Ok, IfOk, IsTrue};
 ghost use Rattle.m36_inst.specs.Groups.{is_pointer_instruction, is_control_instruction};
 ghost use Rattle.m36_inst.specs.Operands.{operand_of};
 ghost use Rattle.m36_inst.specs.declared.operand.Operand.TheVariants.{N};
@@ -173,7 +173,7 @@ fn execute(
 /// Executes an instruction with an address in the registers. If the address has counted a tally
 /// word, the instruction sees the tally runout that this has set. A refusal changes no register.
 #[tactic(auto, unfolding(m36_model::specs::Step::with_chain_tally))]
-pub(crate) fn effect(
+pub(crate) fn execute_effect(
     row: &Row,
     regs: &mut Regs,
     formed: &Formed,
@@ -206,7 +206,7 @@ pub(crate) fn effect(
 
 /// Whether a transfer is taken, if tally runout is as the tally word of its address has set it.
 #[tactic(auto, unfolding(m36_model::specs::Step::with_chain_tally))]
-pub(crate) fn taken(row: &Row, regs: &Regs, formed: &Formed) -> bool
+pub(crate) fn is_taken(row: &Row, regs: &Regs, formed: &Formed) -> bool
     ensures { result ≡ is_taken row.now.effect (with_chain_tally regs.now (chain_end_fields formed.now)) }
 {
     match formed.tally {

@@ -10,8 +10,8 @@ ghost use Rattle.m36_inst.specs.Operands.{operand_of};
 ghost use Rattle.m36_model.specs.Chain.{chain_end_fields};
 ghost use Rattle.m36_model.specs.Modification.{here};
 ghost use Rattle.m36_model.specs.Registers.{RegsFields};
-ghost use Rattle.m36_model.specs.Step.{program, decoded, decode, admitted, is_barred, started, immediate_halt};
-ghost use Rattle.m36_model.specs.Step.{addressed, operated};
+ghost use Rattle.m36_model.specs.Step.{program, execute_decoded, decode, execute_unless_barred, is_barred, execute_admitted, immediate_halt};
+ghost use Rattle.m36_model.specs.Step.{form_and_operate, operate_and_end};
 ghost use Rattle.m36_step.specs.Ended.{EndsAs, EndsFormed, completed_end};
 
 use crate::ended::{Ended, end_of_halt, fault_here, outcome_after_effect};
@@ -53,7 +53,7 @@ fn finish_step(
 
 /// Executes an instruction whose address is formed: its operand, its effect, and the words that it
 /// writes.
-pub(crate) fn operated(
+pub(crate) fn execute_at_address(
     walk: &mut Walk,
     regs: &mut Regs,
     word: Word,
@@ -68,7 +68,7 @@ pub(crate) fn operated(
         refs.old.items }
     requires room { length refs.old.items ≤ 38 }
     ensures ends { EndsFormed regs.old
-        (operated row.now.effect row.now.reg regs.old word (chain_end_fields formed.now))
+        (operate_and_end row.now.effect row.now.reg regs.old word (chain_end_fields formed.now))
         walk.old.core formed.now refs.old.items walk.new.core refs.new.items regs.new result }
     ensures dbr { walk.new.dbr ≡ regs.new.dbr }
 {
@@ -85,7 +85,7 @@ pub(crate) fn operated(
 }
 
 /// Forms the address of an instruction, and executes it.
-fn addressed(
+fn form_address_and_execute(
     walk: &mut Walk,
     regs: &mut Regs,
     word: Word,
@@ -98,13 +98,13 @@ fn addressed(
     requires addressed { row.now.operand ≢ N }
     requires inst { inst.now ≡ inst_of word }
     requires room { length refs.old.items ≤ 4 }
-    ensures ends { EndsAs regs.old (addressed row.now.effect row.now.reg regs.old word)
+    ensures ends { EndsAs regs.old (form_and_operate row.now.effect row.now.reg regs.old word)
         walk.old.core refs.old.items walk.new.core refs.new.items regs.new result }
     ensures dbr { walk.new.dbr ≡ regs.new.dbr }
 {
     match form_address(walk, regs, inst, refs) {
         Err(halt) => end_of_halt(Some(word), None, halt),
-        Ok(formed) => operated(walk, regs, word, row, &formed, refs),
+        Ok(formed) => execute_at_address(walk, regs, word, row, &formed, refs),
     }
 }
 
@@ -121,7 +121,7 @@ fn no_address(regs: &Regs, effect: Effect) -> Halt
 
 /// Executes an instruction that has passed the privilege check: one without an address ends the
 /// step at once.
-fn started(
+fn execute_permitted(
     walk: &mut Walk,
     regs: &mut Regs,
     word: Word,
@@ -134,19 +134,19 @@ fn started(
     requires inst { inst.now ≡ inst_of word }
     requires room { length refs.old.items ≤ 4 }
     ensures ends { EndsAs regs.old
-        (started row.now.effect row.now.reg regs.old word (operand_of row.now.effect)) walk.old.core
+        (execute_admitted row.now.effect row.now.reg regs.old word (operand_of row.now.effect)) walk.old.core
         refs.old.items walk.new.core refs.new.items regs.new result }
     ensures dbr { walk.new.dbr ≡ regs.new.dbr }
 {
     match row.operand {
         Operand::N => end_of_halt(Some(word), None, no_address(regs, row.effect)),
-        _ => addressed(walk, regs, word, inst, row, refs),
+        _ => form_address_and_execute(walk, regs, word, inst, row, refs),
     }
 }
 
 /// Checks the privilege of an instruction, and executes it. Unless `privileged` is on, a privileged
 /// instruction ends the step with fault 10, illegal procedure, at the instruction.
-fn admitted(
+fn check_privilege_and_execute(
     walk: &mut Walk,
     regs: &mut Regs,
     word: Word,
@@ -160,7 +160,7 @@ fn admitted(
     requires inst { inst.now ≡ inst_of word }
     requires room { length refs.old.items ≤ 4 }
     ensures ends { EndsAs regs.old
-        (admitted row.now.effect row.now.reg regs.old word
+        (execute_unless_barred row.now.effect row.now.reg regs.old word
         (is_barred row.now.effect privileged)) walk.old.core refs.old.items walk.new.core
         refs.new.items regs.new result }
     ensures dbr { walk.new.dbr ≡ regs.new.dbr }
@@ -168,22 +168,28 @@ fn admitted(
     if row.privileged && !privileged {
         return end_of_halt(Some(word), None, Halt::Fault(fault_here(regs, 10)));
     }
-    started(walk, regs, word, inst, row, refs)
+    execute_permitted(walk, regs, word, inst, row, refs)
 }
 
 /// Decodes and executes the instruction in a word. `privileged` says whether it may be a
 /// privileged one.
-fn decoded(walk: &mut Walk, regs: &mut Regs, word: Word, privileged: bool, refs: &mut Refs) -> Ended
+fn decode_and_execute(
+    walk: &mut Walk,
+    regs: &mut Regs,
+    word: Word,
+    privileged: bool,
+    refs: &mut Refs,
+) -> Ended
     requires dbr { walk.old.dbr ≡ regs.old.dbr }
     requires room { length refs.old.items ≤ 4 }
-    ensures ends { EndsAs regs.old (decoded regs.old word privileged (decode word)) walk.old.core
+    ensures ends { EndsAs regs.old (execute_decoded regs.old word privileged (decode word)) walk.old.core
         refs.old.items walk.new.core refs.new.items regs.new result }
     ensures dbr { walk.new.dbr ≡ regs.new.dbr }
 {
     let inst = Inst::of_word(word);
     match row(inst.code, inst.bit27) {
         None => end_of_halt(Some(word), None, Halt::Stop(Stop::Operation)),
-        Some(row) => admitted(walk, regs, word, &inst, &row, privileged, refs),
+        Some(row) => check_privilege_and_execute(walk, regs, word, &inst, &row, privileged, refs),
     }
 }
 
@@ -205,7 +211,7 @@ pub(crate) fn execute(walk: &mut Walk, regs: &mut Regs, refs: &mut Refs) -> Ende
                 count: 1,
             });
             let (word, privileged) = fetched;
-            decoded(walk, regs, word, privileged, refs)
+            decode_and_execute(walk, regs, word, privileged, refs)
         }
     }
 }

@@ -1,6 +1,6 @@
 //! The machine.
 
-ghost use Rattle.std.specs.Prelude.{ℕ, ◌≡◌, ◌+◌, ◌%◌, ◌^◌, ◌<◌, ◌≤◌, [], None, IfOk, length, slice_set};
+ghost use Rattle.std.specs.Prelude.{ℕ, ◌≡◌, ◌+◌, ◌%◌, ◌^◌, ◌<◌, ◌≤◌, [], None, length, slice_set};
 ghost use Rattle.std.specs.Borrow.{sem};
 ghost use Rattle.m36_model.specs.Core.{core_store};
 ghost use Rattle.m36_model.specs.Laws.{ExecutesLdbr, PreservesAudit};
@@ -113,7 +113,7 @@ fn take_step(walk: &mut Walk, regs: &mut Regs, told: &mut StepRecord)
 }
 
 /// An empty record, to be overwritten.
-fn untold(regs: &Regs) -> StepRecord
+fn empty_record(regs: &Regs) -> StepRecord
     ensures { result ≡ empty_record_of regs.now }
 {
     StepRecord {
@@ -159,7 +159,7 @@ impl Machine {
         ensures ended { self.new.ended ≡ self.old.ended }
         ensures kept { PreservesAudit self.old.state self.new.state (record_of core_store self.old.state) }
     {
-        let mut told = self.untold();
+        let mut told = self.empty_record();
         self.step_into(&mut told);
         told
     }
@@ -221,7 +221,7 @@ impl Machine {
 
     /// Stores how a step ended the run, if it did. The run of turns had not ended before.
     #[inline]
-    fn note(&mut self, outcome: Outcome)
+    fn store_end(&mut self, outcome: Outcome)
         requires { self.old.ended ≡ None }
         ensures state { self.new.state ≡ self.old.state }
         ensures ended { self.new.ended ≡ end_by_outcome outcome }
@@ -237,24 +237,24 @@ impl Machine {
     #[cold]
     #[inline(never)]
     #[tactic(auto, unfolding(crate::specs::MachineTurn::machine_turn, crate::specs::MachineTurn::machine_after))]
-    fn turn_anew(&mut self, turn: &mut Turn)
+    fn turn_without_record(&mut self, turn: &mut Turn)
         ensures { MachineTurns self.old turn.new self.new }
     {
         *turn = match self.ended {
             Some(end) => Turn::Ended(end),
             None => {
                 let told = self.step();
-                self.note(told.outcome);
+                self.store_end(told.outcome);
                 Turn::Stepped(told)
             }
         };
     }
 
     /// An empty record with the current registers, for `step_into` to overwrite.
-    pub fn untold(&self) -> StepRecord
+    pub fn empty_record(&self) -> StepRecord
         ensures { result ≡ empty_record_of self.now.state.regs }
     {
-        untold(&self.regs)
+        empty_record(&self.regs)
     }
 
     /// Skips the current instruction: the instruction counter increases by 1, modulo 2^18.
@@ -339,9 +339,9 @@ impl Stepper for Machine {
             && let Turn::Stepped(told) = turn
         {
             self.step_into(told);
-            self.note(told.outcome);
+            self.store_end(told.outcome);
         } else {
-            self.turn_anew(turn);
+            self.turn_without_record(turn);
         }
     }
 

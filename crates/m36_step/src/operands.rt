@@ -1,6 +1,6 @@
 //! Reads operands, and claims the places of operands that will be written.
 
-ghost use Rattle.std.specs.Prelude.{ℕ, ◌≡◌, ◌+◌, ◌<◌, ◌≤◌, ◌^◌, IfOk, IsTrue, length};
+ghost use Rattle.std.specs.Prelude.{◌≡◌, ◌+◌, ◌<◌, ◌≤◌, ◌^◌, IfOk, IsTrue, length};
 ghost use Rattle.m36_model.specs.OperandHeld.{is_empty, is_word, is_pair, is_block};
 ghost use Rattle.m36_model.specs.Chain.{chain_end_fields};
 ghost use Rattle.m36_model.specs.Results.{operand_fields, words_of_held, words_in_ring};

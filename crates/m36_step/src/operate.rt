@@ -1,12 +1,12 @@
 //! The operand of an instruction, and its effect.
 
-ghost use Rattle.std.specs.Prelude.{ℕ, ◌≡◌, ◌≢◌, ◌+◌, ◌≤◌, ◌<◌, IfOk, IfErr, length};
+ghost use Rattle.std.specs.Prelude.{◌≡◌, ◌≢◌, ◌+◌, ◌≤◌, ◌<◌, IfOk, IfErr, length};
 ghost use Rattle.m36_inst.specs.Lookup.{IsRow};
 ghost use Rattle.m36_inst.specs.declared.operand.Operand.TheVariants.{N};
 ghost use Rattle.m36_ea.specs.Formed.{HasTally};
 ghost use Rattle.m36_step.specs.Operated.{run_of_operation, operated_end, PlacesAreInCore};
 
-use crate::effects::effect;
+use crate::effects::execute_effect;
 use crate::operated::Operated;
 use crate::reach::reach;
 use m36_inst::Row;
@@ -49,7 +49,7 @@ pub(crate) fn operate(
         ring: 0,
     };
     match reach(walk, regs, row, formed, refs, &mut operand) {
-        Ok(reached) => match effect(row, regs, formed, &operand, put) {
+        Ok(reached) => match execute_effect(row, regs, formed, &operand, put) {
             Ok(overflow) => Ok(Operated {
                 place: reached.place,
                 part: reached.part,

@@ -109,7 +109,7 @@ pub(crate) fn try_call<R: Recorder>(
     ensures place { R.place rec.new ≡ R.place rec.old }
     ensures dbr { walk.new.dbr ≡ regs.new.dbr }
 {
-    let ring = match walk.call(final_at(last), regs.ppr) {
+    let ring = match walk.check_call_target(final_at(last), regs.ppr) {
         Ok(ring) => ring,
         Err(_fault) => return false,
     };

@@ -1,6 +1,6 @@
 //! Reaches the operand of an instruction, by its kind.
 
-ghost use Rattle.std.specs.Prelude.{ℕ, ◌≡◌, ◌≢◌, ◌+◌, ◌<◌, ◌≤◌, ◌^◌, IfOk, length};
+ghost use Rattle.std.specs.Prelude.{◌≡◌, ◌≢◌, ◌+◌, ◌<◌, ◌≤◌, ◌^◌, IfOk, length};
 ghost use Rattle.m36_inst.specs.Lookup.{IsRow};
 ghost use Rattle.m36_inst.specs.declared.operand.Operand.TheVariants.{N};
 ghost use Rattle.m36_model.specs.Chain.{chain_end_fields};
@@ -12,7 +12,7 @@ ghost use Rattle.m36_step.specs.Operated.{run_after_address, run_of_operation};
 ghost use Rattle.m36_step.specs.declared.operated.Part.TheVariants as part;
 ghost use Rattle.m36_step.specs.Reached.{reached_end, part_for, IsDirectOperand};
 
-use crate::effects::taken;
+use crate::effects::is_taken;
 use crate::ended::fault_here;
 use crate::operands::{
     fill_operand, nothing_to_write, reach_block, reach_changed, reach_pair, reach_word,
@@ -63,7 +63,7 @@ fn reach_by_kind(
         Operand::Rw => reach_changed(walk, regs, formed, Part::Whole, refs, operand),
         Operand::Rwl => reach_changed(walk, regs, formed, Part::Left, refs, operand),
         Operand::A => reach_address(walk, regs, formed, is_absa(row.effect), operand),
-        Operand::T => reach_target(walk, regs, formed, taken(row, regs, formed), operand),
+        Operand::T => reach_target(walk, regs, formed, is_taken(row, regs, formed), operand),
         Operand::N => unreachable!(),
         Operand::Call6 => reach_call(walk, regs, formed, operand),
     }

@@ -1,6 +1,6 @@
 //! The references of an operand: reads, and writes whose words follow later.
 
-ghost use Rattle.std.specs.Prelude.{ℕ, ◌≡◌, ◌+◌, ◌<◌, ◌≤◌, ◌^◌, [], ◌∷◌, ◌++◌, IfOk, length};
+ghost use Rattle.std.specs.Prelude.{◌≡◌, ◌+◌, ◌<◌, ◌≤◌, ◌^◌, [], ◌∷◌, ◌++◌, IfOk, length};
 ghost use Rattle.m36_word.specs.Pairs.{pair_words};
 ghost use Rattle.m36_model.specs.Results.{words_of_pairs};
 ghost use Rattle.m36_model.specs.Step.{aligned_at};
@@ -136,7 +136,7 @@ pub(crate) fn claim_words(
     ensures count { length refs.new.items ≤ length refs.old.items + 1 }
 {
     let at = end_address(formed);
-    match walk.hold(at, count) {
+    match walk.claim_place(at, count) {
         Ok(place) => {
             add_aligned_reference(refs, Kind::Write, at, count);
             Ok(place)

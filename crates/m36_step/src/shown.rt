@@ -1,12 +1,10 @@
 //! Steps of which only what a trace line shows is recorded: the word, the final address, the
 //! outcome and the place of the instruction.
 
-ghost use Rattle.std.specs.Prelude.{ℕ, ◌≡◌, ◌<◌, ◌≤◌, List, [], ◌∷◌, ◌++◌};
+ghost use Rattle.std.specs.Prelude.{◌≡◌, ◌<◌, ◌≤◌, [], ◌∷◌, ◌++◌};
 ghost use Rattle.m36_model.specs.Core.{core_store};
 ghost use Rattle.m36_model.specs.Shown.{shown_of};
 ghost use Rattle.m36_model.specs.Step.{record_of, state_after};
-ghost use Rattle.m36_model.specs.declared.place.Reference.{Reference};
-ghost use Rattle.m36_step.specs.Quick.{next_end};
 ghost use Rattle.m36_step.specs.Shown.{EndsShown, shown_end};
 
 use crate::execute::execute;

@@ -74,7 +74,7 @@ pub trait Stepper {
 pub trait Replay: Stepper {
     ghost use Rattle.m36_step.specs.declared.turns.Turn.{Turn};
     ghost use Rattle.m36_step.specs.Answers.{IsStepWithNext};
-    ghost use Rattle.m36_step.specs.Hurry.{repeated};
+    ghost use Rattle.m36_step.specs.Hurry.{apply_repeatedly};
 
     /// What the turn from a state answers.
     ghost answer: { Self → Turn };
@@ -90,8 +90,8 @@ pub trait Replay: Stepper {
     /// number of turns taken, which may be 0. They are not recorded.
     fn hurry(&mut self, most: u32) -> u32
         ensures few { result ≤ most }
-        ensures state { self.new ≡ repeated after result self.old }
-        ensures on { (n : ℕ) → n < result → IsStepWithNext (answer (repeated after n self.old)) }
+        ensures state { self.new ≡ apply_repeatedly after result self.old }
+        ensures on { (n : ℕ) → n < result → IsStepWithNext (answer (apply_repeatedly after n self.old)) }
     {
         let _ = most;
         0

@@ -1,6 +1,6 @@
 //! Operands whose words are not referenced: addresses, and the targets of transfers and calls.
 
-ghost use Rattle.std.specs.Prelude.{ℕ, ◌≡◌, ◌<◌, ◌≤◌, ◌^◌, List, IfOk, IsTrue, length};
+ghost use Rattle.std.specs.Prelude.{◌≡◌, ◌<◌, ◌≤◌, ◌^◌, List, IfOk, IsTrue, length};
 ghost use Rattle.m36_model.specs.Chain.{chain_end_fields};
 ghost use Rattle.m36_model.specs.OperandHeld.{is_empty};
 ghost use Rattle.m36_model.specs.Results.{operand_fields, place_only};
@@ -86,7 +86,7 @@ pub(crate) fn reach_target(
         return Ok(nothing_to_write());
     }
     let ppr = regs.ppr;
-    match walk.transfer(end_address(formed), ppr.prr) {
+    match walk.check_transfer_target(end_address(formed), ppr.prr) {
         Ok(()) => {
             fill_operand(Held::Empty, 0, operand);
             Ok(nothing_to_write())
@@ -113,7 +113,7 @@ pub(crate) fn reach_call(
     ensures part { IfOk result (λ u. u.part ≡ part.Whole) }
     ensures same { walk.new ≡ walk.old }
 {
-    match walk.call(end_address(formed), regs.ppr) {
+    match walk.check_call_target(end_address(formed), regs.ppr) {
         Ok(ring) => {
             fill_operand(Held::Empty, ring, operand);
             Ok(nothing_to_write())

@@ -25,8 +25,8 @@ use m36_model::{At, Final, Kind, Regs};
 use m36_walk::Walk;
 use m36_word::Word;
 
-/// Executes an instruction whose group is not in `operated`, given the parts of its final address.
-/// It is a separate function because `operated` with all groups would be too large to be inlined:
+/// Executes an instruction whose group is not in `try_at_address`, given the parts of its final address.
+/// It is a separate function because `try_at_address` with all groups would be too large to be inlined:
 /// the compiler then ignores `inline(always)`.
 #[inline(never)]
 fn try_other_group<R: Recorder>(
@@ -79,7 +79,7 @@ fn try_other_group<R: Recorder>(
 
 /// Executes an instruction whose address has no tally word and is not a direct operand.
 #[inline(always)]
-fn operated<R: Recorder>(
+fn try_at_address<R: Recorder>(
     walk: &mut Walk,
     regs: &mut Regs,
     rec: &mut R,
@@ -149,7 +149,7 @@ fn try_direct_operand<R: Recorder>(
 /// Executes an instruction whose address counts a tally word, if it reads a word or stores one.
 /// False, with nothing changed, if it does neither or the step is not quick.
 #[inline(never)]
-fn step_count_after<R: Recorder>(
+fn try_tally_address<R: Recorder>(
     walk: &mut Walk,
     regs: &mut Regs,
     rec: &mut R,
@@ -205,13 +205,13 @@ fn try_indirect<R: Recorder>(
 {
     let inst = Inst::of_word(word);
     match quick_indirect_address(walk, regs, &inst) {
-        None => step_count_after(walk, regs, rec, word, row),
+        None => try_tally_address(walk, regs, rec, word, row),
         Some(through) => {
             let last = through.last;
             rec.refer(Kind::Indirect, through.at, through.count);
             match last.direct {
                 Some(_) => false,
-                None => operated(walk, regs, rec, word, row, &last),
+                None => try_at_address(walk, regs, rec, word, row, &last),
             }
         }
     }
@@ -219,7 +219,7 @@ fn try_indirect<R: Recorder>(
 
 /// Forms the address of an instruction, and executes it.
 #[inline(always)]
-fn addressed<R: Recorder>(
+fn try_from_address<R: Recorder>(
     walk: &mut Walk,
     regs: &mut Regs,
     rec: &mut R,
@@ -242,14 +242,14 @@ fn addressed<R: Recorder>(
         None => try_indirect(walk, regs, rec, word, row),
         Some(last) => match last.direct {
             Some(operand) => try_direct_operand(walk, regs, rec, word, row, &last, operand),
-            None => operated(walk, regs, rec, word, row, &last),
+            None => try_at_address(walk, regs, rec, word, row, &last),
         },
     }
 }
 
 /// Decodes and executes the instruction in a word.
 #[inline(always)]
-fn decoded<R: Recorder>(walk: &mut Walk, regs: &mut Regs, rec: &mut R, word: Word) -> bool
+fn try_from_word<R: Recorder>(walk: &mut Walk, regs: &mut Regs, rec: &mut R, word: Word) -> bool
     requires dbr { walk.old.dbr ≡ regs.old.dbr }
     requires room { R.taken rec.old < 36 }
     ensures went { IsTrue result → Decodes (R.has rec.old) (R.tells rec.new) regs.old word
@@ -261,12 +261,12 @@ fn decoded<R: Recorder>(walk: &mut Walk, regs: &mut Regs, rec: &mut R, word: Wor
     ensures dbr { walk.new.dbr ≡ regs.new.dbr }
 {
     let row = quick_row(word);
-    addressed(walk, regs, rec, word, row)
+    try_from_address(walk, regs, rec, word, row)
 }
 
 /// Executes the instruction at a place in core.
 #[inline(always)]
-fn fetched<R: Recorder>(walk: &mut Walk, regs: &mut Regs, rec: &mut R, place: u32) -> bool
+fn try_from_fetch<R: Recorder>(walk: &mut Walk, regs: &mut Regs, rec: &mut R, place: u32) -> bool
     requires dbr { walk.old.dbr ≡ regs.old.dbr }
     requires inside { place < length walk.old.core }
     requires serves { ServesWord (λ g. g.ppr.prr ≡ regs.old.ppr.prr) Fetch walk.old walk.old.core
@@ -281,7 +281,7 @@ fn fetched<R: Recorder>(walk: &mut Walk, regs: &mut Regs, rec: &mut R, place: u3
 {
     let word = walk.peek(place);
     rec.refer(Kind::Fetch, regs.here(), 1);
-    decoded(walk, regs, rec, word)
+    try_from_word(walk, regs, rec, word)
 }
 
 /// Takes a quick step whose instruction is in another page than the one before it.
@@ -297,7 +297,7 @@ fn try_quick_step_elsewhere<R: Recorder>(walk: &mut Walk, regs: &mut Regs, rec: 
     ensures dbr { walk.new.dbr ≡ regs.new.dbr }
 {
     match walk.quick_fetch_elsewhere(regs.here()) {
-        Some(place) => fetched(walk, regs, rec, place),
+        Some(place) => try_from_fetch(walk, regs, rec, place),
         None => false,
     }
 }
@@ -316,7 +316,7 @@ pub(crate) fn try_quick_step<R: Recorder>(walk: &mut Walk, regs: &mut Regs, rec:
     ensures dbr { walk.new.dbr ≡ regs.new.dbr }
 {
     match walk.quick_fetch(regs.here()) {
-        Some(place) => fetched(walk, regs, rec, place),
+        Some(place) => try_from_fetch(walk, regs, rec, place),
         None => try_quick_step_elsewhere(walk, regs, rec),
     }
 }

@@ -6,7 +6,7 @@ use Rattle.m36_model.specs.Registers.{RegsFields}
 use Rattle.m36_model.specs.Act.{Answer, Act, done, ask}
 use Rattle.m36_model.specs.Store.{Spot, State}
 use Rattle.m36_model.specs.Core.{core_store}
-use Rattle.m36_model.specs.Step.{Ending, program, start, run_of_step, record_of}
+use Rattle.m36_model.specs.Step.{Ending, program, start_of_step, run_of_step, record_of}
 use Rattle.m36_model.specs.Flat.{Flat, flat_store}
 use Rattle.m36_model.specs.BootedCore.{booted_dbr, IsLaid}
 use Rattle.m36_model.specs.Residence.{PageIsAbsent}
@@ -54,7 +54,7 @@ module _ (frames : ℕ) (kept : ℕ → ℕ → ℕ) (g : RegsFields) (core : Li
   mirrors =
       subst (λ (d : DbrFields). Mirrors core_store flat_store d M Pair (PageIsAbsent core)) (sym dbr) (booted_mirrors core frames laid kept)
 
-  begins : AreMids M Pair there.store (start here) (start there)
+  begins : AreMids M Pair there.store (start_of_step here) (start_of_step there)
   begins = record { mirrors = stands_first core frames laid kept; still = refl; claims = tt; refs = refl }
 
   absa_by : AreRun M Pair (PageIsAbsent core) there.store (EndsSo g) (StopsSo g) Placed (run_of_step core_store here) (run_of_step flat_store there) → ExecutesAbsa (record_of core_store here) → ExecutesAbsa (record_of flat_store there)
@@ -75,7 +75,7 @@ module _ (frames : ℕ) (kept : ℕ → ℕ → ℕ) (g : RegsFields) (core : Li
 
   absa_there : ExecutesAbsa (record_of core_store here) → ExecutesAbsa (record_of flat_store there)
   absa_there =
-      absa_by (run_mirrors core_store flat_store g M Pair (PageIsAbsent core) mirrors there.store (EndsSo g) (StopsSo g) Placed (present_at g) (program g) (start here) (start there) (asks_either (EndsSo g) (StopsSo g) (EndPlaced g) (program g) (program_asks g)) begins)
+      absa_by (run_mirrors core_store flat_store g M Pair (PageIsAbsent core) mirrors there.store (EndsSo g) (StopsSo g) Placed (present_at g) (program g) (start_of_step here) (start_of_step there) (asks_either (EndsSo g) (StopsSo g) (EndPlaced g) (program g) (program_asks g)) begins)
 
 pub absa_law :
     (frames : ℕ) (kept : ℕ → ℕ → ℕ) (s : State (List ℕ)) → s.regs.dbr ≡ booted_dbr → IsLaid s.store frames

@@ -7,7 +7,7 @@ use Rattle.m36_model.specs.Step.{record_of}
 use Rattle.m36_model.specs.BootedCore.{descriptor_words}
 use Rattle.m36_model.specs.Residence.{Paged, flat_of}
 use Rattle.m36_model.specs.declared.outcome.Fault.{Fault}
-use Rattle.m36_isol.specs.PageServices.{PagedState, core_state}
+use Rattle.m36_isol.specs.PageServices.{core_state}
 use Rattle.m36_isol.proofs.FlatLaw.{put_descriptors}
 use Rattle.m36_isol.proofs.LaidAudit.{same_audit}
 use Rattle.m36_isol.proofs.PagedStep.{paged_step_law}
@@ -38,9 +38,6 @@ flat_low old new f e h = ap (λ (s : Flat). s.descriptors) e ∙ h
 old_low : (m : Paged) → (flat_of m).descriptors ≡ take descriptor_words m.core
 unfolding flat_of
 old_low m = refl
-
-same_low : (before after : Booted) → after.state ≡ before.state → IsLow before after
-same_low before after e = ap (λ (s : PagedState). take descriptor_words s.memory.core) e
 
 step_low : (frames : ℕ) (before : Booted) (turn : Turn) (after : Booted) → IsLaidOut frames before.state → IsStepWithPages frames before turn after → IsLow before after
 step_low frames before turn after stands h =

@@ -9,9 +9,9 @@ use Rattle.m36_desc.specs.declared.access.Acv.{Acv}
 use Rattle.m36_model.specs.Fields.{AtFields}
 use Rattle.m36_model.specs.Registers.{RegsFields}
 use Rattle.m36_model.specs.Act.{Answer, Read, Request}
-use Rattle.m36_model.specs.Store.{Spot, Segment_word, Midstep, violation, is_within_bound, fault_by, refusing_violation, serve_sdw, serve_rights, serve_places, spots_from, serve, place, place_by, place_within, when_ordered, places, spots_of, changes, without_marks, examined_reply}
+use Rattle.m36_model.specs.Store.{Spot, Segment_word, Midstep, violation, is_within_bound, fault_by, refusing_violation, serve_sdw, serve_rights, serve_places, spots_from, serve, place, place_by, place_within, when_ordered, spots_of_request, spots_of, changes, without_marks, examined_reply}
 use Rattle.m36_model.specs.Place.{core_sdw}
-use Rattle.m36_model.specs.Sight.{word_of, content_in}
+use Rattle.m36_model.specs.Sight.{word_if_placed, content_in}
 use Rattle.m36_model.specs.Flat.{Flat, flat_sdw, flat_put, flat_store}
 use Rattle.m36_model.specs.BootedCore.{booted_dbr}
 use Rattle.m36_model.specs.Residence.{flat_of}
@@ -67,7 +67,7 @@ module _ (f : Flat) (g : RegsFields) (at : AtFields) where
   placed_by d false = refl
 
   placed_is : (d : SdwFields) → (serve_rights (without_marks flat_store) g first request d None).reply ≡ placed_reply d (is_within_bound d at.word)
-  unfolding places spots_of
+  unfolding spots_of_request spots_of
   placed_is d = refl
 
   placed : (d : SdwFields) (b : Bool) → is_within_bound d at.word ≡ b → AreFound b (serve_rights (without_marks flat_store) g first request d None).reply
@@ -87,10 +87,10 @@ module _ (core : List ℕ) (p : PagerFields) (seg w : ℕ) where
   abbrev place_as : Result SdwFields Refusal → Result Spot Refusal
   place_as v = place_by v (λ d. Ok (Segment_word seg w)) w
 
-  content_as : (v : Result SdwFields Refusal) → core_sdw core booted_dbr seg ≡ v → content_in flat_store (flat_by core p) booted_dbr seg w ≡ word_of flat_store (flat_by core p) (place_as v)
+  content_as : (v : Result SdwFields Refusal) → core_sdw core booted_dbr seg ≡ v → content_in flat_store (flat_by core p) booted_dbr seg w ≡ word_if_placed flat_store (flat_by core p) (place_as v)
   unfolding content_in place
   content_as v e =
-      ap (λ (x : Result SdwFields Refusal). word_of flat_store (flat_by core p) (place_as x)) (sdw_is v e)
+      ap (λ (x : Result SdwFields Refusal). word_if_placed flat_store (flat_by core p) (place_as x)) (sdw_is v e)
 
   pub dead_content : (why : Refusal) (dbr : DbrFields) → dbr ≡ booted_dbr → core_sdw core dbr seg ≡ Err why → None ≡ content_in flat_store (flat_by core p) dbr seg w
   dead_content why dbr e dead =
@@ -99,11 +99,11 @@ module _ (core : List ℕ) (p : PagerFields) (seg w : ℕ) where
 
   pub disordered_content : (d : SdwFields) → core_sdw core booted_dbr seg ≡ Ok d → has_ordered_brackets d ≡ false → None ≡ content_in flat_store (flat_by core p) booted_dbr seg w
   disordered_content d live apart =
-      sym (content_as (Ok d) live ∙ ap (λ (b : Bool). word_of flat_store (flat_by core p) (when_ordered b (place_within (is_within_bound d w) (Ok (Segment_word seg w))))) apart)
+      sym (content_as (Ok d) live ∙ ap (λ (b : Bool). word_if_placed flat_store (flat_by core p) (when_ordered b (place_within (is_within_bound d w) (Ok (Segment_word seg w))))) apart)
 
   pub beyond_content : (d : SdwFields) → core_sdw core booted_dbr seg ≡ Ok d → has_ordered_brackets d ≡ true → is_within_bound d w ≡ false → None ≡ content_in flat_store (flat_by core p) booted_dbr seg w
   beyond_content d live ordered past =
-      sym (content_as (Ok d) live ∙ (λ i. word_of flat_store (flat_by core p) (when_ordered (ordered i) (place_within (past i) (Ok (Segment_word seg w))))))
+      sym (content_as (Ok d) live ∙ (λ i. word_if_placed flat_store (flat_by core p) (when_ordered (ordered i) (place_within (past i) (Ok (Segment_word seg w))))))
 
   found_content : (d : SdwFields) (v : ℕ) → IsManaged (length p.holders) core p → core_sdw core booted_dbr seg ≡ Ok d → has_ordered_brackets d ≡ true → is_within_bound d w ≡ true → content_of p core seg w ≡ Some v → (flat_by core p).content seg w ≡ v
   unfolding flat_of
@@ -114,7 +114,7 @@ module _ (core : List ℕ) (p : PagerFields) (seg w : ℕ) where
 
   pub placed_content : (d : SdwFields) (v : ℕ) → IsManaged (length p.holders) core p → core_sdw core booted_dbr seg ≡ Ok d → has_ordered_brackets d ≡ true → is_within_bound d w ≡ true → content_of p core seg w ≡ Some v → Some v ≡ content_in flat_store (flat_by core p) booted_dbr seg w
   placed_content d v m live ordered inside found =
-      sym (content_as (Ok d) live ∙ (λ i. word_of flat_store (flat_by core p) (when_ordered (ordered i) (place_within (inside i) (Ok (Segment_word seg w))))) ∙ ap Some (found_content d v m live ordered inside found))
+      sym (content_as (Ok d) live ∙ (λ i. word_if_placed flat_store (flat_by core p) (when_ordered (ordered i) (place_within (inside i) (Ok (Segment_word seg w))))) ∙ ap Some (found_content d v m live ordered inside found))
 
 -- ---- over the memory of a booted system
 
@@ -213,9 +213,6 @@ reading_more g f count k (suc n) w text next some h e put =
     let same : n ≡ suc n - 1 = omega arith in
     let is = ap characters_of e.2 in
     subst (λ (l : ℕ). IsReading g f count (k + 1) l next) same (subst (IsReading g f count (k + 1) n) (sym put) (reading_by g f count k n text (characters_of w) e.0 h e.1 is (four_characters w)))
-
-behind_fault : (text : List ℕ) (f : Fault) (r : Result (List ℕ) Fault) → with_characters_before text (with_word_before (Err f) r) ≡ Err f
-behind_fault text f r = refl
 
 pub reading_failed : (g : RegsFields) (f : Flat) (count k left : ℕ) (text : List ℕ) (why : Fault) → 0 < left → IsReading g f count k left text → examined_reply flat_store g f (console_at g k) ≡ Err why → console_words g f 0 count ≡ Err why
 unfolding console_words

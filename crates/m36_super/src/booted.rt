@@ -126,10 +126,10 @@ impl Super {
     }
 
     /// An empty record with the current registers, for `step_told` to overwrite.
-    pub fn untold(&self) -> StepRecord
+    pub fn empty_record(&self) -> StepRecord
         ensures { result ≡ empty_record_of self.now.regs }
     {
-        self.machine.untold()
+        self.machine.empty_record()
     }
 
     /// Takes the turn, which is a step, and overwrites `told` with its record.
@@ -153,7 +153,7 @@ impl Super {
         requires { self.old.next_event ≡ NextEvent.Step }
         ensures { SuperTurns self.old result self.new }
     {
-        let mut told = self.untold();
+        let mut told = self.empty_record();
         self.step_told(&mut told);
         Turn::Stepped(told)
     }
@@ -226,7 +226,7 @@ impl Super {
     // Takes a turn that is not a step, or a step with no record to overwrite.
     #[cold]
     #[inline(never)]
-    fn turn_anew(&mut self, turn: &mut Turn)
+    fn turn_without_record(&mut self, turn: &mut Turn)
         ensures { SuperTurns self.old turn.new self.new }
     {
         let next_event = self.next_event();
@@ -255,7 +255,7 @@ impl Stepper for Super {
         {
             self.step_told(told);
         } else {
-            self.turn_anew(turn);
+            self.turn_without_record(turn);
         }
     }
 

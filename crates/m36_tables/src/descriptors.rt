@@ -45,7 +45,7 @@ pub fn descriptor_place(core: &Core, dbr: Dbr, seg: u16) -> Result<u32, Refusal>
 
 /// The descriptor in a pair, or its directed fault if F is off.
 #[inline(always)]
-fn live(pair: Pair) -> Result<Sdw, Refusal>
+fn live_descriptor(pair: Pair) -> Result<Sdw, Refusal>
     ensures { result ≡ live_by (sdw_of pair.even pair.odd).f pair.even pair.odd }
 {
     let sdw = Sdw::of_words(pair);
@@ -67,7 +67,7 @@ fn descriptor_at(core: &Core, even: u32) -> Result<Sdw, Refusal>
     if even >= core.len() || odd >= core.len() {
         return Err(store_fault());
     }
-    live(Pair {
+    live_descriptor(Pair {
         even: core.peek(even),
         odd: core.peek(odd),
     })

@@ -1,6 +1,6 @@
 //! Numbers written as texts.
 
-ghost use Rattle.std.specs.Prelude.{ℕ, ◌≡◌, ◌+◌, ◌-◌, ◌^◌, ◌<◌, ◌≤◌, length, drop, IsAscii};
+ghost use Rattle.std.specs.Prelude.{◌≡◌, ◌+◌, ◌-◌, ◌^◌, ◌<◌, ◌≤◌, length, drop, IsAscii};
 ghost use Rattle.m36_text.specs.Digits.{octal_text, decimal_text};
 
 use arrayvec::ArrayString;

@@ -1,6 +1,6 @@
 //! Packing words into bytes, and unpacking them.
 
-ghost use Rattle.std.specs.Prelude.{ℕ, ◌≡◌, ◌+◌, ◌-◌, ◌*◌, ◌/◌, ◌%◌, ◌^◌, ◌<◌, ◌≤◌, ◌⊎◌, List, [], ◌∷◌, ◌++◌, length, drop, IfOk, IfErr, OnOk};
+ghost use Rattle.std.specs.Prelude.{◌≡◌, ◌+◌, ◌-◌, ◌*◌, ◌/◌, ◌%◌, ◌^◌, ◌<◌, ◌≤◌, ◌⊎◌, [], ◌∷◌, ◌++◌, length, drop, IfOk, IfErr, OnOk};
 ghost use Rattle.m36_text.specs.Digits.{digits};
 ghost use Rattle.m36_text.specs.Packing.{packed, number_of_bytes, last_word, words_of, unpacked, UnpackResult, IsFaultOfCount, UnpacksWhatWasPacked, PacksWhatWasUnpacked, UnpacksIntoWords};
 ghost use Rattle.m36_text.specs.declared.packing.PackFault.TheVariants as fault;

@@ -1,6 +1,6 @@
 //! Parsing of numbers.
 
-ghost use Rattle.std.specs.Prelude.{ℕ, ◌≡◌, ◌+◌, ◌-◌, ◌^◌, ◌<◌, ◌≤◌, length, min, None, IfOk, IfErr, IfSome};
+ghost use Rattle.std.specs.Prelude.{◌≡◌, ◌+◌, ◌-◌, ◌^◌, ◌<◌, ◌≤◌, length, min, None, IfOk, IfErr, IfSome};
 ghost use Rattle.m36_text.specs.Digits.{is_digit};
 ghost use Rattle.m36_text.specs.Reading.{first_non_digit, number_of, number_read, IndexIsWithin, ReadsOctal, ReadsDecimal, OctalTextHasPlaces, DecimalTextHasNoLeadingZero};
 

@@ -1,6 +1,6 @@
 //! Comparison of texts, and the characters of names.
 
-ghost use Rattle.std.specs.Prelude.{ℕ, ◌≡◌, ◌≤◌, true, length};
+ghost use Rattle.std.specs.Prelude.{◌≡◌, ◌≤◌, true, length};
 ghost use Rattle.std.specs.List.{list_all};
 ghost use Rattle.m36_text.specs.Texts.{is_text, is_letter, is_name_character, name_limit, is_name, is_file_name};
 

@@ -1,16 +1,15 @@
 -- What a command does if a file is refused; and the laws of each kind of command.
-use Rattle.std.proofs.Common.{◌≡◌, Option, Some, Result, Ok, Err, inl, inr, sym, ap, subst, ◌∙◌}
+use Rattle.std.proofs.Common.{◌≡◌, Some, Result, Ok, Err, inl, inr, sym, ap, subst, ◌∙◌}
 use Rattle.m36_outside.specs.Files.{Files}
 use Rattle.m36_world.specs.Seen.{Seen}
 use Rattle.m36_world.proofs.Following.{follow_split}
 use Rattle.m36_world.specs.Follow.{Follow}
 use Rattle.m36_status.specs.declared.status.Status.{Status}
-use Rattle.m36_program.specs.Alike.{IsEnd}
 use Rattle.m36_program.specs.Goes.{Goes}
 use Rattle.m36_program.specs.Performs.{Performs}
 use Rattle.m36_program.specs.Program.{May, Program, then_with}
 use Rattle.m36_program.specs.Reader.{IsReader, reader_result}
-use Rattle.m36_program.proofs.ReaderLaws.{reader_split, reader_outcome, reader_pieces}
+use Rattle.m36_program.proofs.ReaderLaws.{same_err, ok_err, err_end, reader_split, reader_outcome, reader_pieces}
 use Rattle.cmd_folder.proofs.OneRunLaws.{booted_law}
 use Rattle.cmd_image.proofs.ImageEnded.{image_end_law}
 use Rattle.cmd_image.proofs.TextLaws.{image_text_law}
@@ -27,22 +26,6 @@ use Rattle.m36_top.specs.Programs.{program}
 use Rattle.m36_top.specs.CommandLaws.{IsRefused, CommandLaws}
 use Rattle.m36_top.proofs.Subjects.{work_of, parts, reads_only}
 
-same_end :
-    (A : Type 0) (one other : Status)
-    → (let r : Option (Result A Status) = Some (Err one) in r) ≡ Some (Err other) → one ≡ other
-same_end A one other is = cc
-
-not_value :
-    {A P : Type 0} (a : A) (status : Status)
-    → (let r : Option (Result A Status) = Some (Ok a) in r) ≡ Some (Err status) → P
-not_value a status is = absurd (cc)
-
-err_end :
-    (A : Type 0) (result : Result (Unit {0}) Status) (status : Status)
-    → result ≡ Err status → IsEnd result → IsEnd {A = A} (Err status)
-err_end A result status is complete_given =
-    let end : IsEnd {A = Unit {0}} (Err status) = subst (IsEnd {A = Unit {0}}) is complete_given in end
-
 -- The events and the result of a program that begins with a reader, if the files are refused.
 refused_by :
     {may : May} {A : Type 0} (p : Program may A) (next : A → Program may (Unit {0})) (files : Files) (status : Status)
@@ -54,16 +37,16 @@ refused_by {A = A} p next files status result old new is told refused performs =
       | inl both ↦
           let passed =
           follow_split both.first both.more old new (subst (λ e. Follow e old new) both.is performs.follow) in
-          not_value both.value status
+          ok_err both.value status
           (sym (reader_outcome p files (Ok both.value) old passed.between is told tt
           (record { events = both.first; follow = passed.begins; goes = both.begins })) ∙ refused)
       | inr ends ↦ record {
         none_put = reader_pieces p performs.events (Err ends.status) is ends.goes;
-        refuses = λ complete_given.
+        refuses = λ ended.
             ends.result_is
-            ∙ ap (λ s. Err s) (same_end A ends.status status
+            ∙ ap (λ s. Err s) (same_err {A = A} ends.status status
             (sym (reader_outcome p files (Err ends.status) old new is told
-            (err_end A result ends.status ends.result_is complete_given)
+            (err_end A (Unit {0}) result ends.status ends.result_is ended)
             (record { events = performs.events; follow = performs.follow; goes = ends.goes })) ∙ refused));
       }
     ]

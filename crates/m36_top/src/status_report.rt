@@ -46,10 +46,10 @@ fn status_details(alloc: Global, status: &Status) -> Result<Text, NoMemory>
 fn status_line(alloc: Global, status: &Status) -> Result<Text, NoMemory>
     ensures { IfOk result (λ line. line ≡ status_line status.now) }
 {
-    let status_details = status_details(alloc, status)?;
+    let details = status_details(alloc, status)?;
     let mut line = Text::from_bytes(alloc, b"m36: ")?;
     line.append(status.name().as_bytes())?;
-    line.append(status_details.bytes())?;
+    line.append(details.bytes())?;
     line.append(b"\n")?;
     Ok(line)
 }

@@ -19,7 +19,7 @@ use Rattle.m36_trace.specs.Spaced.{with_space, ring_segment_text, kept_place, ke
 use Rattle.m36_trace.specs.Kept.{kept_line_of_values, kept_line, CanBeUsed}
 use Rattle.m36_trace.specs.declared.text.TraceText.{TraceText}
 use Rattle.m36_trace.proofs.Lines.{put_in_turn}
-use Rattle.m36_trace.specs.TraceLine.{fields_of_values, line_of, shown_line, segment_word_text, instruction_text, operand_text, letter, final_text, indicators_text, outcome_text}
+use Rattle.m36_trace.specs.TraceLine.{fields_of_values, line_of, shown_line, segment_word_text, instruction_text, operand_text, letter, final_text, indicators_text}
 
 two_put : (before a b : List ℕ) → (before ++ a) ++ with_space b ≡ before ++ with_space (a ++ b)
 two_put before a b = simp append_assoc

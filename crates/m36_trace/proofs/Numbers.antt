@@ -1,8 +1,8 @@
 -- The number of a step in decimal, and how it becomes the next number.
-use Rattle.std.proofs.Common.{◌≡◌, ℕ, zero, suc, ◌+◌, ◌-◌, ◌/◌, ◌%◌, ◌^◌, ◌<◌, ◌≤◌, List, [], ◌∷◌, ◌++◌, length, take, drop, map, set, get_or, refl, sym, ap, subst, ◌∙◌, arith, length-append}
+use Rattle.std.proofs.Common.{◌≡◌, ℕ, zero, suc, ◌+◌, ◌-◌, ◌/◌, ◌%◌, ◌^◌, ◌<◌, ◌≤◌, List, [], ◌∷◌, ◌++◌, length, take, drop, map, set, get_or, refl, sym, ap, ◌∙◌, arith, length-append}
 use Rattle.std.specs.Int.Digits.{digits_of}
 use Rattle.std.proofs.lemmas.Int.Digits.{length-digits_of-le}
-use Rattle.std.proofs.lemmas.List.{append_assoc, length-set, length-map, length-take-le, take_at, take_more_set, get_or-take, get_or_at, set_at, take-take, take-set, take-append-drop, drop_at, drop-set, drop-set-lt}
+use Rattle.std.proofs.lemmas.List.{append_assoc, length-set, length-map, length-take-le, take_at, take_more_set, get_or-take, get_or_at, set_at, take-take, take-set, take-append-drop, drop-set, drop-set-lt}
 use Rattle.std.proofs.Math.Seq.{take-set-lt}
 use borrow.Rule.Slice.PartMut.{put_mid, post_of, same_len_mid}
 use Rattle.m36_text.specs.Digits.{digit_character, decimal_text}
@@ -115,20 +115,6 @@ pub record Carries (all : List ℕ) (place n : ℕ) : Type 0 where
   pub inside : place + 1 < length all
   pub digits : take (place + 1) all ≡ decimal_text left
   pub rest : decimal_text (left + 1) ++ drop (place + 1) all ≡ with_space (decimal_text (n + 1))
-
-pub carry_start :
-    (all : List ℕ) (last n : ℕ)
-    → all ≡ with_space (decimal_text n) → length all ≡ last + 2 → Carries all last n
-carry_start all last n is size =
-    let d = decimal_text n in
-    let end : length d ≡ last + 1 = omega (arith, ap length is, length-append d (32 ∷ [])) in
-    record {
-      left = n;
-      inside = omega arith;
-      digits = ap (λ l. take (last + 1) l) is ∙ take_at d (32 ∷ []) (last + 1) end;
-      rest = ap (λ l. decimal_text (n + 1) ++ drop (last + 1) l) is
-          ∙ ap (λ l. decimal_text (n + 1) ++ l) (drop_at d (32 ∷ []) (last + 1) end);
-    }
 
 -- the index of the last of those digits, and what precedes it
 record EndsAt (all : List ℕ) (place m : ℕ) : Type 0 where

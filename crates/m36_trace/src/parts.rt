@@ -46,7 +46,7 @@ impl NumberPart {
         ensures { OnTrue result (self.new.next ≡ n + 1) }
     {
         if n == self.next && self.bytes[self.last] < b'9' {
-            self.count();
+            self.increment_last_digit();
             return true;
         }
         self.set_other_number(n)
@@ -60,7 +60,7 @@ impl NumberPart {
         if n >= TOO_LONG {
             return false;
         }
-        if n == self.next && self.carry() {
+        if n == self.next && self.spell_next() {
             return true;
         }
         self.spell(n);
@@ -68,7 +68,7 @@ impl NumberPart {
     }
 
     // Spells the next number, if it has as many digits.
-    fn carry(&mut self) -> bool
+    fn spell_next(&mut self) -> bool
         requires { self.old.next < TOO_LONG }
         ensures going { OnTrue result (self.new.next ≡ self.old.next + 1) }
         ensures same { OnFalse result (self.new.next ≡ self.old.next) }
@@ -84,7 +84,7 @@ impl NumberPart {
 
     // Spells the next number, which differs only in the last digit.
     #[inline(always)]
-    fn count(&mut self)
+    fn increment_last_digit(&mut self)
         requires { get_or self.old.bytes self.old.last 0 < 57 }
         ensures { self.new.next ≡ self.old.next + 1 }
     {
@@ -150,7 +150,7 @@ impl<const MARK: u8> RingSegmentPart<MARK> {
     /// Ring 0 and segment 0.
     pub fn new() -> RingSegmentPart<MARK> {
         RingSegmentPart {
-            bytes: front::<MARK>(0, 0),
+            bytes: ring_segment_bytes::<MARK>(0, 0),
             seg: 0,
             ring: 0,
         }
@@ -175,7 +175,7 @@ impl<const MARK: u8> RingSegmentPart<MARK> {
         ensures seg { self.new.seg ≡ seg }
         ensures ring { self.new.ring ≡ ring }
     {
-        self.bytes = front::<MARK>(seg, ring);
+        self.bytes = ring_segment_bytes::<MARK>(seg, ring);
         self.seg = seg;
         self.ring = ring;
     }
@@ -183,7 +183,7 @@ impl<const MARK: u8> RingSegmentPart<MARK> {
 
 // The text of a ring and a segment number: the ring, the character, five octal digits, a bar.
 #[tactic(auto, unfolding(m36_text::specs::Digits::octal_text, m36_text::specs::Digits::digits))]
-fn front<const MARK: u8>(seg: u16, ring: u8) -> [u8; 8]
+fn ring_segment_bytes<const MARK: u8>(seg: u16, ring: u8) -> [u8; 8]
     requires { ring < 2 ^ 3 }
     ensures { result ≡ ring_segment_text ring MARK seg }
 {

@@ -5,7 +5,7 @@ use Rattle.m36_desc.specs.Access.{unless_violation, first_violation, read_rows, 
 use Rattle.m36_model.specs.Fields.{AtFields}
 use Rattle.m36_model.specs.Registers.{RegsFields}
 use Rattle.m36_model.specs.Act.{Fetch, Indirect, Odd, Read, Write, Put, Request}
-use Rattle.m36_model.specs.Store.{Spot, serve, places, spots_of, refusing_violation, touches}
+use Rattle.m36_model.specs.Store.{Spot, serve, spots_of_request, spots_of, refusing_violation, touches}
 use Rattle.m36_model.specs.Core.{core_store}
 use Rattle.m36_model.specs.Place.{core_sdw, core_marked, marks, is_write}
 use Rattle.m36_model.specs.declared.outcome.Fault.{Fault}
@@ -30,7 +30,7 @@ module _ (g : RegsFields) (core new : List ℕ) (claims : List Spot) (refs : Lis
   marked_after t (Err f) h m = sym m
 
   -- a reference that sets marks is served by what was found
-  pub referred : touches q.kind ≡ true → ((d : SdwFields) → refusing_violation q.kind d q.at.ring g.ppr.prr (q.at.seg == g.ppr.psr) q.at.word ≡ R d) → ((d : SdwFields) → places core_store core g.dbr d q ≡ P d) → (result : Result LookupResult Fault)
+  pub referred : touches q.kind ≡ true → ((d : SdwFields) → refusing_violation q.kind d q.at.ring g.ppr.prr (q.at.seg == g.ppr.psr) q.at.word ≡ R d) → ((d : SdwFields) → spots_of_request core_store core g.dbr d q ≡ P d) → (result : Result LookupResult Fault)
       → reference_result (λ d. unless_violation tt (R d)) P (core_sdw core g.dbr q.at.seg) q.at ≡ result_of_lookup q.count result → MarksAreSet g.dbr q.at (is_write q.kind) core new result
       → serve core_store g (midstep_with core claims refs) q ≡ served_with_result q new claims refs (result_of_lookup q.count result)
   referred t e f result h m =
@@ -50,20 +50,20 @@ module _ (g : RegsFields) (dbr : DbrFields) (e : g.dbr ≡ dbr) (core new : List
     same_marks = subst (λ (b : DbrFields). MarksAreSet b at false core new result) (sym e) m
 
     pub read_served : serve core_store g (midstep_with core claims refs) (request Read at count puts) ≡ served_with_result (request Read at count puts) new claims refs (result_of_lookup count result)
-    unfolding refusing_violation places
+    unfolding refusing_violation spots_of_request
     read_served = referred g core new claims refs (request Read at count puts) (λ d. first_violation (read_rows d at.ring (at.seg == g.ppr.psr))) refl (λ d. refl) (λ d. refl) result same_psr same_marks
 
     pub indirect_served : serve core_store g (midstep_with core claims refs) (request Indirect at count puts) ≡ served_with_result (request Indirect at count puts) new claims refs (result_of_lookup count result)
-    unfolding refusing_violation places
+    unfolding refusing_violation spots_of_request
     indirect_served = referred g core new claims refs (request Indirect at count puts) (λ d. first_violation (read_rows d at.ring (at.seg == g.ppr.psr))) refl (λ d. refl) (λ d. refl) result same_psr same_marks
 
     pub odd_served : serve core_store g (midstep_with core claims refs) (request Odd at count puts) ≡ served_with_result (request Odd at count puts) new claims refs (result_of_lookup count result)
-    unfolding refusing_violation places
+    unfolding refusing_violation spots_of_request
     odd_served = referred g core new claims refs (request Odd at count puts) (λ d. first_violation (read_rows d at.ring (at.seg == g.ppr.psr))) refl (λ d. refl) (λ d. refl) result same_psr same_marks
 
   pub write_served : FoundBy (λ d. first_violation (write_rows d at.ring)) core dbr at count result → MarksAreSet dbr at true core new result
       → serve core_store g (midstep_with core claims refs) (request Write at count puts) ≡ served_with_result (request Write at count puts) new claims refs (result_of_lookup count result)
-  unfolding refusing_violation places
+  unfolding refusing_violation spots_of_request
   write_served h m =
       referred g core new claims refs (request Write at count puts) (λ d. first_violation (write_rows d at.ring)) refl (λ d. refl) (λ d. refl) result
       (subst (λ (b : DbrFields). FoundBy (λ d. first_violation (write_rows d at.ring)) core b at count result) (sym e) h)
@@ -71,7 +71,7 @@ module _ (g : RegsFields) (dbr : DbrFields) (e : g.dbr ≡ dbr) (core new : List
 
   pub fetch_served : g.ppr.prr ≡ at.ring → FoundBy (λ d. first_violation (fetch_rows d at.ring)) core dbr at count result → MarksAreSet dbr at false core new result
       → serve core_store g (midstep_with core claims refs) (request Fetch at count puts) ≡ served_with_result (request Fetch at count puts) new claims refs (result_of_lookup count result)
-  unfolding refusing_violation places
+  unfolding refusing_violation spots_of_request
   fetch_served k h m =
       referred g core new claims refs (request Fetch at count puts) (λ d. first_violation (fetch_rows d g.ppr.prr)) refl (λ d. refl) (λ d. refl) result
       (subst (λ (p : ℕ). FoundBy (λ d. first_violation (fetch_rows d p)) core g.dbr at count result) (sym k) (subst (λ (b : DbrFields). FoundBy (λ d. first_violation (fetch_rows d at.ring)) core b at count result) (sym e) h))

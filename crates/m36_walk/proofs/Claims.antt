@@ -3,7 +3,7 @@ use Rattle.std.proofs.Common.{ℕ, ◌≡◌, ◌+◌, List, [], ◌∷◌, ◌+
 use Rattle.m36_desc.specs.Fields.{SdwFields}
 use Rattle.m36_model.specs.Fields.{AtFields}
 use Rattle.m36_model.specs.Act.{Whole, Write}
-use Rattle.m36_model.specs.Store.{Spot, Core_word, Served, changes}
+use Rattle.m36_model.specs.Store.{Spot, Core_word, ServeResult, changes}
 use Rattle.m36_model.specs.Core.{core_put}
 use Rattle.m36_model.specs.Place.{wrapped_address}
 use Rattle.m36_model.specs.Step.{puts_from}
@@ -36,17 +36,17 @@ unclaimed first (w ∷ words) = unclaimed (first + 1) words
 
 module _ (at : AtFields) (count : ℕ) (d : SdwFields) (words : List ℕ) where
   -- a Write that was refused
-  pub written_refused : (s : Served (List ℕ)) (new : List ℕ) (f : Fault) → s ≡ served_with_result (request Write at count []) new [] [] (result_at_place d count (Err f)) → IsServedWrite s new words (Err f)
+  pub written_refused : (s : ServeResult (List ℕ)) (new : List ℕ) (f : Fault) → s ≡ served_with_result (request Write at count []) new [] [] (result_at_place d count (Err f)) → IsServedWrite s new words (Err f)
   written_refused s new f e =
       let empty_orders : core_put new (changes [] (puts_from Whole 0 words)) ≡ new = rw (unclaimed 0 words) (core_quiet new) in
-      subst (λ (t : Served (List ℕ)). IsServedWrite t new words (Err f)) (sym e) (record { told = refl; core = sym empty_orders })
+      subst (λ (t : ServeResult (List ℕ)). IsServedWrite t new words (Err f)) (sym e) (record { told = refl; core = sym empty_orders })
 
   -- a Write that was answered, and whose words were written from its first address on
-  pub written_answered : (s : Served (List ℕ)) (marked new : List ℕ) (a : ℕ) → s ≡ served_with_result (request Write at count []) marked [] [] (result_at_place d count (Ok a)) → length words ≡ count → new ≡ core_put marked (run_changes a words)
+  pub written_answered : (s : ServeResult (List ℕ)) (marked new : List ℕ) (a : ℕ) → s ≡ served_with_result (request Write at count []) marked [] [] (result_at_place d count (Ok a)) → length words ≡ count → new ≡ core_put marked (run_changes a words)
       → IsServedWrite s new words (Ok tt)
   written_answered s marked new a e n h =
       let put : changes (run_from a count) (puts_from Whole 0 words) ≡ run_changes a words = rw (← n) (changes_of_run [] a words) in
-      subst (λ (t : Served (List ℕ)). IsServedWrite t new words (Ok tt)) (sym e) (record { told = refl; core = h ∙ ap (core_put marked) (sym put) })
+      subst (λ (t : ServeResult (List ℕ)). IsServedWrite t new words (Ok tt)) (sym e) (record { told = refl; core = h ∙ ap (core_put marked) (sym put) })
 
 -- one word that is written
 pub put_one_word : (core : List ℕ) (a w : ℕ) → slice_set core a w ≡ core_put core (run_changes a (w ∷ []))

@@ -8,7 +8,7 @@ use Rattle.m36_model.specs.Place.{core_sdw, core_spot}
 use Rattle.m36_model.specs.Store.{Spot, Core_word, is_within_bound, spots_from, place_within, when_ordered, place_by, place, spots_of, violation, fault_by}
 use Rattle.m36_model.specs.declared.outcome.Fault.{Fault}
 use Rattle.m36_model.specs.declared.outcome.Refusal.{Refusal}
-use Rattle.m36_walk.specs.ReferenceResult.{ReferenceResult, told, violation_as_fault, reference_result, result_after_descriptor, result_after_rights, result_with_places}
+use Rattle.m36_walk.specs.ReferenceResult.{ReferenceResult, refusal_as_fault, violation_as_fault, reference_result, result_after_descriptor, result_after_rights, result_with_places}
 use Rattle.m36_walk.specs.Runs.{run_from, places_as_fault}
 use Rattle.m36_walk.specs.Served.{result_at_place, ok_map}
 
@@ -32,26 +32,26 @@ module _ (core : List ℕ) (dbr : DbrFields) (at : AtFields) (d' : SdwFields) wh
       ap Ok one
   answered d p (Err f) e = cc
 
-  by_spot : (d : SdwFields) (s : Result Spot Refusal) (result : Result ℕ Fault) → result_with_places d (places_as_fault at (spots_from true at.word s (Ok []))) ≡ result_at_place d' 1 result → Placed (told at s) result
+  by_spot : (d : SdwFields) (s : Result Spot Refusal) (result : Result ℕ Fault) → result_with_places d (places_as_fault at (spots_from true at.word s (Ok []))) ≡ result_at_place d' 1 result → Placed (refusal_as_fault at s) result
   by_spot d (Ok p) result e = answered d p result e
   by_spot d (Err why) result e = refused (fault_by why at) result e
 
-  by_bound : (d : SdwFields) (b : Bool) (s : Result Spot Refusal) (result : Result ℕ Fault) → result_with_places d (places_as_fault at (spots_from b at.word s (Ok []))) ≡ result_at_place d' 1 result → Placed (told at (place_within b s)) result
+  by_bound : (d : SdwFields) (b : Bool) (s : Result Spot Refusal) (result : Result ℕ Fault) → result_with_places d (places_as_fault at (spots_from b at.word s (Ok []))) ≡ result_at_place d' 1 result → Placed (refusal_as_fault at (place_within b s)) result
   by_bound d true s result e = by_spot d s result e
   by_bound d false s result e = refused (fault_by (violation 15) at) result e
 
   by_order : (d : SdwFields) (o b : Bool) (s : Result Spot Refusal) (result : Result ℕ Fault) → result_after_rights d (violation_as_fault at (unless_violation tt (first_violation ((not o, 0) ∷ [])))) (places_as_fault at (spots_from b at.word s (Ok []))) ≡ result_at_place d' 1 result
-      → Placed (told at (when_ordered o (place_within b s))) result
+      → Placed (refusal_as_fault at (when_ordered o (place_within b s))) result
   by_order d true b s result e = by_bound d b s result e
   by_order d false b s result e = refused (fault_by (violation 0) at) result e
 
-  by_descriptor : (s : Result SdwFields Refusal) (result : Result ℕ Fault) → result_after_descriptor (λ d. unless_violation tt (first_violation (ordered_rows d []))) (λ d. spots_of core_store core dbr d at.seg at.word 1) at (told at s) ≡ result_at_place d' 1 result
-      → Placed (told at (place_by s (λ d. core_spot core dbr d at.seg at.word) at.word)) result
+  by_descriptor : (s : Result SdwFields Refusal) (result : Result ℕ Fault) → result_after_descriptor (λ d. unless_violation tt (first_violation (ordered_rows d []))) (λ d. spots_of core_store core dbr d at.seg at.word 1) at (refusal_as_fault at s) ≡ result_at_place d' 1 result
+      → Placed (refusal_as_fault at (place_by s (λ d. core_spot core dbr d at.seg at.word) at.word)) result
   unfolding spots_of
   by_descriptor (Ok d) result e = by_order d (has_ordered_brackets d) (is_within_bound d at.word) (core_spot core dbr d at.seg at.word) result e
   by_descriptor (Err why) result e = refused (fault_by why at) result e
 
   pub place_told : (result : Result ℕ Fault) → reference_result (λ d. unless_violation tt (first_violation (ordered_rows d []))) (λ d. spots_of core_store core dbr d at.seg at.word 1) (core_sdw core dbr at.seg) at ≡ result_at_place d' 1 result
-      → told at (place core_store core dbr at.seg at.word) ≡ ok_map Core_word result
+      → refusal_as_fault at (place core_store core dbr at.seg at.word) ≡ ok_map Core_word result
   unfolding reference_result place
   place_told result e = by_descriptor (core_sdw core dbr at.seg) result e

@@ -5,7 +5,7 @@ use Rattle.m36_desc.specs.Access.{unless_violation, first_violation, ordered_row
 use Rattle.m36_model.specs.Fields.{AtFields}
 use Rattle.m36_model.specs.Registers.{RegsFields}
 use Rattle.m36_model.specs.Act.{Transfer, Call, Locate, Put, Request}
-use Rattle.m36_model.specs.Store.{Spot, serve, places, spots_of, bound_only, is_within_bound, refusing_violation, touches}
+use Rattle.m36_model.specs.Store.{Spot, serve, spots_of_request, spots_of, bound_only, is_within_bound, refusing_violation, touches}
 use Rattle.m36_model.specs.Core.{core_store}
 use Rattle.m36_model.specs.Place.{core_sdw}
 use Rattle.m36_model.specs.declared.outcome.Fault.{Fault}
@@ -29,21 +29,21 @@ abbrev pub word_places : List ℕ → AtFields → DbrFields → SdwFields → R
 word_places core at dbr d = spots_of core_store core dbr d at.seg at.word 1
 
 module _ (g : RegsFields) (dbr : DbrFields) (e : g.dbr ≡ dbr) (core : List ℕ) (at : AtFields) (r : Result ReferenceResult Fault) (claims : List Spot) (refs : List Reference) (puts : List Put) where
-  asked : (q : Request) (R : SdwFields → Option ℕ) (P : SdwFields → Result (List Spot) (ℕ × Refusal)) → touches q.kind ≡ false → ((d : SdwFields) → refusing_violation q.kind d q.at.ring g.ppr.prr (q.at.seg == g.ppr.psr) q.at.word ≡ R d) → ((d : SdwFields) → places core_store core g.dbr d q ≡ P d)
+  asked : (q : Request) (R : SdwFields → Option ℕ) (P : SdwFields → Result (List Spot) (ℕ × Refusal)) → touches q.kind ≡ false → ((d : SdwFields) → refusing_violation q.kind d q.at.ring g.ppr.prr (q.at.seg == g.ppr.psr) q.at.word ≡ R d) → ((d : SdwFields) → spots_of_request core_store core g.dbr d q ≡ P d)
       → reference_result (λ d. unless_violation tt (R d)) P (core_sdw core g.dbr q.at.seg) q.at ≡ r → serve core_store g (midstep_with core claims refs) q ≡ served_with_result q core claims refs r
   asked q R P t k f h =
       served_as g core claims refs q R P r k f h ∙ ap (λ c. served_with_result q c claims refs r) (untouched core g.dbr q r t)
 
   pub transfer_served : (prr : ℕ) → g.ppr.prr ≡ prr → AskedBy (λ d. first_violation (transfer_rows d at.ring prr)) (target_places at) core dbr at r
       → serve core_store g (midstep_with core claims refs) (request Transfer at 1 puts) ≡ served_with_result (request Transfer at 1 puts) core claims refs r
-  unfolding refusing_violation places
+  unfolding refusing_violation spots_of_request
   transfer_served prr k h =
       asked (request Transfer at 1 puts) (λ d. first_violation (transfer_rows d at.ring g.ppr.prr)) (target_places at g.dbr) refl (λ d. refl) (λ d. refl)
       (subst (λ (p : ℕ). AskedBy (λ d. first_violation (transfer_rows d at.ring p)) (target_places at) core g.dbr at r) (sym k) (subst (λ (b : DbrFields). AskedBy (λ d. first_violation (transfer_rows d at.ring prr)) (target_places at) core b at r) (sym e) h))
 
   pub call_served : (psr prr : ℕ) → g.ppr.psr ≡ psr → g.ppr.prr ≡ prr → AskedBy (λ d. first_violation (call_rows d at.ring prr (at.seg == psr) at.word)) (target_places at) core dbr at r
       → serve core_store g (midstep_with core claims refs) (request Call at 1 puts) ≡ served_with_result (request Call at 1 puts) core claims refs r
-  unfolding refusing_violation places
+  unfolding refusing_violation spots_of_request
   call_served psr prr j k h =
       asked (request Call at 1 puts) (λ d. first_violation (call_rows d at.ring g.ppr.prr (at.seg == g.ppr.psr) at.word)) (target_places at g.dbr) refl (λ d. refl) (λ d. refl)
       (subst (λ (p : ℕ). AskedBy (λ d. first_violation (call_rows d at.ring g.ppr.prr (at.seg == p) at.word)) (target_places at) core g.dbr at r) (sym j)
@@ -52,7 +52,7 @@ module _ (g : RegsFields) (dbr : DbrFields) (e : g.dbr ≡ dbr) (core : List ℕ
 
   pub locate_served : AskedBy (λ d. first_violation (ordered_rows d [])) (word_places core at) core dbr at r
       → serve core_store g (midstep_with core claims refs) (request Locate at 1 puts) ≡ served_with_result (request Locate at 1 puts) core claims refs r
-  unfolding refusing_violation places
+  unfolding refusing_violation spots_of_request
   locate_served h =
       asked (request Locate at 1 puts) (λ d. first_violation (ordered_rows d [])) (word_places core at g.dbr) refl (λ d. refl) (λ d. refl)
       (subst (λ (b : DbrFields). AskedBy (λ d. first_violation (ordered_rows d [])) (word_places core at) core b at r) (sym e) h)

@@ -12,9 +12,9 @@ use Rattle.m36_walk.specs.Runs.{run_from, places_as_fault}
 use Rattle.m36_walk.specs.declared.reference.LookupResult.{LookupResult}
 
 -- a refusal as a fault at a word
-abbrev pub told : {A : Type 0} → AtFields → Result A Refusal → Result A Fault
-told at (Ok a) = Ok a
-told at (Err why) = Err (fault_by why at)
+abbrev pub refusal_as_fault : {A : Type 0} → AtFields → Result A Refusal → Result A Fault
+refusal_as_fault at (Ok a) = Ok a
+refusal_as_fault at (Err why) = Err (fault_by why at)
 
 -- an access violation as a fault at a word
 abbrev pub violation_as_fault : {A : Type 0} → AtFields → Result A Acv → Result A Fault
@@ -52,7 +52,7 @@ result_after_descriptor rights first_place at (Err f) = Err f
 unfoldable pub reference_result : (SdwFields → Result Unit Acv)
     → (SdwFields → Result (List Spot) (ℕ × Refusal)) → Result SdwFields Refusal → AtFields
     → Result ReferenceResult Fault
-reference_result rights first_place sdw at = result_after_descriptor rights first_place at (told at sdw)
+reference_result rights first_place sdw at = result_after_descriptor rights first_place at (refusal_as_fault at sdw)
 
 -- the result of the code as that of the definitions: the spots are a run of `count` words from the
 -- place that it has found

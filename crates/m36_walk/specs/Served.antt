@@ -6,7 +6,7 @@ use Rattle.m36_desc.specs.Descriptors.{sdw_of}
 use Rattle.m36_model.specs.Fields.{AtFields}
 use Rattle.m36_model.specs.Registers.{RegsFields}
 use Rattle.m36_model.specs.Act.{RequestKind, Read, Write, Whole, Put, Request, Answer}
-use Rattle.m36_model.specs.Store.{Spot, Change, Midstep, Served, serve, changes, answered_with}
+use Rattle.m36_model.specs.Store.{Spot, Change, Midstep, ServeResult, serve, changes, answered_with}
 use Rattle.m36_model.specs.Store.{with_reference}
 use Rattle.m36_model.specs.Core.{core_store, core_put}
 use Rattle.m36_model.specs.Place.{core_sdw}
@@ -45,7 +45,7 @@ sdw_in m seg = sdw_or_zero (core_sdw m.core m.dbr seg)
 -- The reply to a request and the state after it, by the result of the reference. An answered
 -- reference adds its claims and itself.
 abbrev pub served_with_result : Request → List ℕ → List Spot → List Reference → Result ReferenceResult Fault
-    → Served (List ℕ)
+    → ServeResult (List ℕ)
 served_with_result q new claims refs (Err f) = record { reply = Err f; mid = midstep_with new claims refs }
 served_with_result q new claims refs (Ok r) = answered_with core_store new claims refs q r.sdw r.spots
 
@@ -67,7 +67,7 @@ answer_of_words d claims words =
 -- the reply to a request with these words, or the fault, and the state after it; no write is
 -- claimed
 abbrev pub served_with_words : Request → SdwFields → List ℕ → List Spot → List Reference
-    → Result (List ℕ) Fault → Served (List ℕ)
+    → Result (List ℕ) Fault → ServeResult (List ℕ)
 served_with_words q d new claims refs (Err f) = record { reply = Err f; mid = midstep_with new claims refs }
 served_with_words q d new claims refs (Ok words) =
     record {
@@ -78,7 +78,7 @@ served_with_words q d new claims refs (Ok words) =
 -- The request is served in this way, for all registers that satisfy Known and whatever the step has
 -- claimed and referenced before.
 abbrev pub Serves : (RegsFields → Type 0) → Memory → Request
-    → (List Spot → List Reference → Served (List ℕ)) → Type 0
+    → (List Spot → List Reference → ServeResult (List ℕ)) → Type 0
 Serves Known m q s =
     (g : RegsFields) → g.dbr ≡ m.dbr → Known g → (claims : List Spot) (refs : List Reference)
     → serve core_store g (midstep_with m.core claims refs) q ≡ s claims refs
@@ -132,16 +132,16 @@ abbrev pub IsWordCount : ℕ → Type 0
 IsWordCount n = (n ≡ 1) ⊎ ((n ≡ 2) ⊎ (n ≡ 16))
 
 -- core after words were written to the spots that a Write has claimed
-abbrev pub core_after_write : Served (List ℕ) → List ℕ → List ℕ
+abbrev pub core_after_write : ServeResult (List ℕ) → List ℕ → List ℕ
 core_after_write s words = core_put s.mid.store (changes s.mid.claims (puts_from Whole 0 words))
 
 -- a reply without its answer
-abbrev pub reply_without_answer : Served (List ℕ) → Result Unit Fault
+abbrev pub reply_without_answer : ServeResult (List ℕ) → Result Unit Fault
 reply_without_answer s = ok_map (λ a. tt) s.reply
 
 -- A Write of words by itself: it is served, and the words are written to the spots that it has
 -- claimed. If it is refused, nothing has changed.
-pub record IsServedWrite (s : Served (List ℕ)) (new words : List ℕ)
+pub record IsServedWrite (s : ServeResult (List ℕ)) (new words : List ℕ)
     (result : Result Unit Fault) : Type 0 where
   pub told : result ≡ reply_without_answer s
   pub core : new ≡ core_after_write s words

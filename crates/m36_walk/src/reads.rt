@@ -1,6 +1,6 @@
 //! References that read.
 
-ghost use Rattle.std.specs.Prelude.{ℕ, ◌≡◌, ◌+◌, ◌%◌, ◌<◌, ◌≤◌, ◌^◌, [], ◌∷◌, None, IfOk, length};
+ghost use Rattle.std.specs.Prelude.{◌≡◌, ◌+◌, ◌%◌, ◌<◌, ◌≤◌, ◌^◌, [], ◌∷◌, None, IfOk, length};
 ghost use Rattle.m36_word.specs.Pairs.{pair_words};
 ghost use Rattle.m36_model.specs.Act.{Fetch, Indirect, Odd};
 ghost use Rattle.m36_model.specs.Results.{words_of_pairs};
@@ -70,7 +70,7 @@ impl Walk {
 
     /// Reads the odd word of an indirect pair, as `indirect` reads the even one.
     #[tactic(auto, unfolding(crate::specs::Runs::IsInCore))]
-    pub fn odd(&mut self, at: At, psr: u16) -> Result<Word, Fault>
+    pub fn read_odd_word(&mut self, at: At, psr: u16) -> Result<Word, Fault>
         ensures serves { ServesWord (λ g. g.ppr.psr ≡ psr) Odd self.old self.new.core at result }
         ensures dbr { self.new.dbr ≡ self.old.dbr }
         ensures len { length self.new.core ≡ length self.old.core }

@@ -1,13 +1,13 @@
 //! One reference by the tables: descriptor, rights, places, and then its marks. Then its page is
 //! put in front.
 
-ghost use Rattle.std.specs.Prelude.{ℕ, ◌≡◌, ◌+◌, ◌/◌, ◌%◌, ◌<◌, ◌≤◌, ◌^◌, ◌==◌, Ok, IfOk, OnOk, length, Result, true, false};
+ghost use Rattle.std.specs.Prelude.{◌≡◌, ◌+◌, ◌/◌, ◌%◌, ◌<◌, ◌≤◌, ◌^◌, ◌==◌, Ok, IfOk, OnOk, length, Result, true, false};
 ghost use Rattle.m36_desc.specs.Access.{unless_violation, first_violation, read_rows, write_rows, fetch_rows};
 ghost use Rattle.m36_associative.specs.Right.{AreCoherent};
 ghost use Rattle.m36_model.specs.Core.{core_store};
-ghost use Rattle.m36_model.specs.Place.{wrapped_address, core_sdw, directory_at, word_place, marks_by, with_marks};
+ghost use Rattle.m36_model.specs.Place.{core_sdw, directory_at};
 ghost use Rattle.m36_model.specs.Store.{spots_of};
-ghost use Rattle.m36_walk.specs.ReferenceResult.{told, violation_as_fault, reference_result, result_with_places, result_of_lookup, MarksAreSet};
+ghost use Rattle.m36_walk.specs.ReferenceResult.{refusal_as_fault, violation_as_fault, reference_result, result_with_places, result_of_lookup, MarksAreSet};
 ghost use Rattle.m36_walk.specs.Runs.{IsInCore, places_as_fault};
 ghost use Rattle.m36_walk.specs.Served.{sdw_in};
 ghost use Rattle.m36_tables.specs.Tables.{TableWordIsInCore};
@@ -35,7 +35,7 @@ pub(crate) struct LookupResult {
 #[inline(always)]
 #[tactic(auto, unfolding(crate::specs::Served::sdw_in))]
 pub(crate) fn descriptor_or_fault(core: &Core, dbr: Dbr, at: At) -> Result<Sdw, Fault>
-    ensures value { result ≡ told at (core_sdw core.now dbr at.seg) }
+    ensures value { result ≡ refusal_as_fault at (core_sdw core.now dbr at.seg) }
     ensures sdw { IfOk result (λ d. sdw_in (record { core = core.now; dbr = dbr }) at.seg ≡ d) }
     ensures directory { OnOk result (TableWordIsInCore (length core.now) dbr.unpaged
         (directory_at dbr at.seg)) }
@@ -49,7 +49,7 @@ pub(crate) fn descriptor_or_fault(core: &Core, dbr: Dbr, at: At) -> Result<Sdw, 
 /// As `descriptor_or_fault`, with the descriptor from the memories if they have it.
 fn cached_descriptor(core: &Core, dbr: Dbr, memories: &mut Memories, at: At) -> Result<Sdw, Fault>
     requires { AreCoherent core.now dbr memories.old }
-    ensures value { result ≡ told at (core_sdw core.now dbr at.seg) }
+    ensures value { result ≡ refusal_as_fault at (core_sdw core.now dbr at.seg) }
     ensures directory { OnOk result (TableWordIsInCore (length core.now) dbr.unpaged
         (directory_at dbr at.seg)) }
     ensures right { AreCoherent core.now dbr memories.new }

@@ -134,7 +134,7 @@ fn tables_kept(walk: &mut Walk) -> [u32; 16] {
 }
 
 /// Records a use of a key in the expected order: the key moves to the front, and a 17th is dropped.
-fn used(order: &mut [u32; 16], key: u32) {
+fn move_to_front(order: &mut [u32; 16], key: u32) {
     let mut carried = key;
     for kept in order.iter_mut() {
         let next = *kept;
@@ -194,7 +194,7 @@ fn read_quickly(walk: &mut Walk, place: At) {
 /// Checks a word to be written, as a step does: in a page in front, or by the tables.
 fn claim_quickly(walk: &mut Walk, place: At) {
     if walk.quick_write(place).is_none() {
-        drop(walk.hold(place, 1));
+        drop(walk.claim_place(place, 1));
     }
 }
 
@@ -224,9 +224,9 @@ fn refer_by_rule(walk: &mut Walk, orders: &mut Orders, kind: u32, seg: u16, word
     requires word { word < 2 ^ 11 }
 {
     refer(walk, kind, seg, word);
-    used(&mut orders.segments, seg as u32);
+    move_to_front(&mut orders.segments, seg as u32);
     if kind < 8 {
-        used(&mut orders.tables, table_of(seg) + word / 1024);
+        move_to_front(&mut orders.tables, table_of(seg) + word / 1024);
     }
 }
 

@@ -1,6 +1,6 @@
 //! References that write.
 
-ghost use Rattle.std.specs.Prelude.{ℕ, ◌≡◌, ◌+◌, ◌%◌, ◌<◌, ◌≤◌, ◌^◌, [], ◌∷◌, IfOk, length, slice_set};
+ghost use Rattle.std.specs.Prelude.{◌≡◌, ◌+◌, ◌%◌, ◌<◌, ◌≤◌, ◌^◌, [], ◌∷◌, IfOk, length, slice_set};
 ghost use Rattle.m36_word.specs.Pairs.{pair_words};
 ghost use Rattle.m36_model.specs.Core.{core_put};
 ghost use Rattle.m36_model.specs.Results.{words_of_pairs};
@@ -58,7 +58,7 @@ impl Walk {
     }
 
     /// As `claim`. Returns the core address of the first word; the others follow it modulo 2^24.
-    pub fn hold(&mut self, at: At, count: u8) -> Result<u32, Fault>
+    pub fn claim_place(&mut self, at: At, count: u8) -> Result<u32, Fault>
         requires { IsWordCount count }
         ensures serves { ServesClaim self.old self.new.core (aligned_at count at) count result }
         ensures inside { IfOk result (λ a. IsInCore (length self.new.core) a count) }

@@ -1,7 +1,7 @@
 -- Lemmas about a number that consists of a part above a field, the field, and a part below it.
 use Rattle.std.proofs.Common.{ℕ, ◌≡◌, ◌+◌, ◌-◌, ◌*◌, ◌/◌, ◌%◌, ◌^◌, ◌<◌, ◌≤◌, inl, inr, sym, ap, ◌∙◌, subst, arith}
 use Rattle.std.specs.Int.{bit_at}
-use Rattle.std.proofs.lemmas.Nat.{shr-shr, shr_high, mod_low, shr_split, shr_below, shl_below, shl_whole, one_shl, pow_pos, pow-add, mod_below, mul-add-lt}
+use Rattle.std.proofs.lemmas.Nat.{shr-shr, shr_high, mod_low, shr_split, shr_below, shl_whole, one_shl, pow_pos, pow-add, mod_below, mul-add-lt}
 use Rattle.std.proofs.lemmas.Nat.Bits.{bit_at_cat_low, bit_at_cat_high}
 use Rattle.std.proofs.Math.Nat.{pow-le-pow_right}
 use Rattle.m36_word.specs.Field.{with_field, GetsWhatWasPut, KeepsOtherBits, ReplacesFirstPut}
@@ -72,12 +72,6 @@ sum_above w first len v in_word inside fits =
 shift_above : (w first len : ℕ) → w < 2 ^ 36 → first + len ≤ 36 → w / 2 ^ (36 - first) * 2 ^ len % 2 ^ 64 ≡ w / 2 ^ (36 - first) * 2 ^ len
 shift_above w first len in_word inside =
     shl_whole (w / 2 ^ (36 - first)) first len 64 (shifted_above w first len in_word inside) (omega arith)
-
-below_word : (n k j : ℕ) → n < 2 ^ j → j + k ≤ 36 → n * 2 ^ k < 2 ^ 36
-below_word n k j below inside =
-    let low : n * 2 ^ k < 2 ^ (j + k) = shl_below n j k below in
-    let high : 2 ^ (j + k) ≤ 2 ^ 36 = pow-le-pow_right (omega arith) inside in
-    omega arith
 
 -- the first sum of `put`
 pub above_fits : (w first len v : ℕ) → w < 2 ^ 36 → first + len ≤ 36 → v < 2 ^ len → w / 2 ^ (36 - first) * 2 ^ len % 2 ^ 64 + v < 2 ^ 64

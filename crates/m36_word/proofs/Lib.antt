@@ -1,1 +1,4 @@
+pub mod BitLaws
 pub mod FieldLaws
+pub mod ZerosAfter
+pub mod Lists

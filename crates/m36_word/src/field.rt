@@ -1,6 +1,6 @@
 //! Fields of a word, with their positions as constants.
 
-ghost use Rattle.std.specs.Prelude.{ℕ, ◌≡◌, ◌+◌, ◌-◌, ◌≤◌, ◌^◌, ◌<◌};
+ghost use Rattle.std.specs.Prelude.{◌≡◌, ◌+◌, ◌-◌, ◌≤◌, ◌^◌, ◌<◌};
 ghost use Rattle.m36_word.specs.Field.{field, with_field, GetsWhatWasPut, KeepsOtherBits};
 ghost use Rattle.m36_word.specs.Field.{ReplacesFirstPut};
 

@@ -1,6 +1,6 @@
 //! A pair: two words, the first of them at an even word number.
 
-ghost use Rattle.std.specs.Prelude.{ℕ, ◌≡◌, ◌+◌, ◌*◌, ◌/◌, ◌%◌, ◌^◌, ◌<◌};
+ghost use Rattle.std.specs.Prelude.{◌≡◌, ◌+◌, ◌*◌, ◌/◌, ◌%◌, ◌^◌, ◌<◌};
 ghost use Rattle.m36_word.specs.Signed.{signed};
 ghost use Rattle.m36_word.specs.Pairs.{number_of, pair_of};
 

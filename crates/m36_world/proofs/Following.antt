@@ -1,14 +1,13 @@
 -- Laws of events that follow one another.
-use Rattle.std.proofs.Common.{◌≡◌, ℕ, List, [], ◌∷◌, ◌++◌, refl, sym, ap, subst, ◌∙◌, take}
+use Rattle.std.proofs.Common.{◌≡◌, ℕ, List, [], ◌∷◌, ◌++◌, refl, sym, ap, subst, ◌∙◌}
 use Rattle.std.proofs.lemmas.List.{append-nil, append_assoc}
 use Rattle.std.specs.List.{flat_map}
-use Rattle.m36_outside.specs.declared.lines.Piece.{Piece}
 use Rattle.m36_outside.specs.declared.lines.Piece.TheVariants as piece
 use Rattle.m36_outside.specs.declared.sink.Put.{Put}
 use Rattle.m36_outside.specs.declared.sink.Put.TheVariants as put
-use Rattle.m36_world.specs.Answers.{PutDid, PutBlockDid, NextPieceDid}
+use Rattle.m36_world.specs.Answers.{PutDid}
 use Rattle.m36_world.specs.Happened.{Happened}
-use Rattle.m36_world.specs.CallEvents.{put_events, block_events, input_events}
+use Rattle.m36_world.specs.CallEvents.{put_events}
 use Rattle.m36_world.specs.Follow.{InSequence, Follow}
 use Rattle.m36_world.specs.Logs.{read_of, write_of, input_of, AddsOutput, AddsOutputs, Logs}
 use Rattle.m36_world.specs.Seen.{Seen}
@@ -58,19 +57,6 @@ pub follow_put :
     → PutDid answer piece old new → Follow (put_events answer piece) old new
 follow_put put.Done piece old new did = follow_one (Output piece) old new did
 follow_put put.Failed piece old new did = follow_one (OutputFailed (piece ∷ [])) old new did.failed
-
-pub follow_put_block :
-    (answer : Put) (pieces : List (List ℕ)) (old new : Seen)
-    → PutBlockDid answer pieces old new → Follow (block_events answer pieces) old new
-follow_put_block put.Done pieces old new did = did
-follow_put_block put.Failed pieces old new did = follow_one (OutputFailed pieces) old new did
-
-pub follow_next_piece :
-    (answer : Piece) (into : List ℕ) (old new : Seen)
-    → NextPieceDid answer into old new → Follow (input_events answer into) old new
-follow_next_piece (piece.Got count) into old new did = follow_one (Input (take count into)) old new did.input
-follow_next_piece piece.End into old new did = follow_one (Input []) old new did
-follow_next_piece piece.Failed into old new did = follow_one InputFailed old new did
 
 -- ---- the events, and what the objects logged
 
@@ -161,11 +147,3 @@ follow_logs (event ∷ events) old new some =
       outputs = record { between = mid.outputs; begins = one.outputs; goes_on = rest.outputs };
       references = rest.references ∙ one.references;
     }
-
-pub follow_events : (events : List Event) (old new : Seen) → Follow events old new → new.events ≡ old.events ++ events
-follow_events events old new some = (follow_logs events old new some).all
-
--- the world holds the same references
-pub follow_references :
-    (events : List Event) (old new : Seen) → Follow events old new → new.references ≡ old.references
-follow_references events old new some = (follow_logs events old new some).references

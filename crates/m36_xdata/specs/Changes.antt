@@ -15,12 +15,12 @@ use Rattle.m36_xdata.specs.declared.changes.WordsToWrite.{WordsToWrite}
 use Rattle.m36_xdata.specs.declared.changes.WordsToWrite.TheVariants as put_as
 
 -- the registers with the new values
-abbrev pub taken : NewValues → RegsFields → RegsFields
-taken taken_by.Nothing g = g
-taken (taken_by.A w) g = with_value A w g
-taken (taken_by.Q w) g = with_value Q w g
-taken (taken_by.Aq p) g = record g { a = p.even; q = p.odd }
-taken (taken_by.X i) g = with_value (X i.n) i.value g
+abbrev pub with_new_values : NewValues → RegsFields → RegsFields
+with_new_values taken_by.Nothing g = g
+with_new_values (taken_by.A w) g = with_value A w g
+with_new_values (taken_by.Q w) g = with_value Q w g
+with_new_values (taken_by.Aq p) g = record g { a = p.even; q = p.odd }
+with_new_values (taken_by.X i) g = with_value (X i.n) i.value g
 
 -- the words to write, as a list
 abbrev pub words_to_write : WordsToWrite → List ℕ
@@ -32,7 +32,7 @@ words_to_write (put_as.Two p) = pair_words p
 abbrev pub effect_of_change : Change → RegsFields → EffectFields
 effect_of_change c g =
     record {
-      regs = advanced (with_indicators c.ind (taken c.taken g));
+      regs = advanced (with_indicators c.ind (with_new_values c.taken g));
       put = words_to_write c.put;
       overflow = c.overflow;
     }

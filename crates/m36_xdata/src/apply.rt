@@ -2,7 +2,7 @@
 
 ghost use Rattle.std.specs.Prelude.{◌≡◌, ◌+◌, ◌%◌, ◌^◌};
 ghost use Rattle.m36_model.specs.Results.{with_indicators, advanced, words_of_held};
-ghost use Rattle.m36_xdata.specs.Changes.{effect_of_change, words_to_write, taken};
+ghost use Rattle.m36_xdata.specs.Changes.{effect_of_change, words_to_write, with_new_values};
 
 use crate::changes::{Change, NewValues, WordsToWrite};
 use m36_model::{Held, Ind, Regs};
@@ -10,7 +10,7 @@ use m36_model::{Held, Ind, Regs};
 /// Stores the new value into its registers.
 #[tactic(auto, unfolding(m36_model::specs::Results::with_value))]
 fn set_registers(new: NewValues, regs: &mut Regs)
-    ensures { regs.new ≡ taken new regs.old }
+    ensures { regs.new ≡ with_new_values new regs.old }
 {
     match new {
         NewValues::Nothing => {}
@@ -35,7 +35,7 @@ fn set_indicators_and_advance(ind: Ind, regs: &mut Regs)
 }
 
 // The words to write, in the form of a step.
-fn held(put: WordsToWrite) -> Held
+fn held_of(put: WordsToWrite) -> Held
     ensures { words_of_held result ≡ words_to_write put }
 {
     match put {
@@ -57,6 +57,6 @@ pub fn apply_change(c: &Change, regs: &mut Regs, put: &mut Held) -> bool
 {
     set_registers(c.taken, regs);
     set_indicators_and_advance(c.ind, regs);
-    *put = held(c.put);
+    *put = held_of(c.put);
     c.overflow
 }

@@ -41,7 +41,7 @@ pub fn pair(v: u128) -> Pair
 }
 
 /// The result of an operation on words, as a `Computed`.
-pub fn of_words(s: Sum36) -> Computed
+pub fn from_words(s: Sum36) -> Computed
     ensures value { sum_fields result ≡ s }
     ensures bound { result.value < 2 ^ 36 }
 {
@@ -55,7 +55,7 @@ pub fn of_words(s: Sum36) -> Computed
 }
 
 /// The result of an operation on pairs, as a `Computed`.
-pub fn of_pairs(s: Sum72) -> Computed
+pub fn from_pairs(s: Sum72) -> Computed
     ensures value { sum_fields result ≡ s }
     ensures bound { result.value < 2 ^ 72 }
 {
@@ -69,7 +69,7 @@ pub fn of_pairs(s: Sum72) -> Computed
 }
 
 /// The result of an operation on halves, as a `Computed`.
-pub fn of_halves(s: Sum18) -> Computed
+pub fn from_halves(s: Sum18) -> Computed
     ensures value { sum_fields result ≡ s }
     ensures bound { result.value < 2 ^ 18 }
 {
@@ -90,9 +90,9 @@ pub fn sum(r: Register, x: u128, y: u128, carry_in: bool) -> Computed
     ensures bound { result.value < 2 * half (working_of r) }
 {
     match r {
-        Register::A | Register::Q => of_words(add36(word(x), word(y), carry_in)),
-        Register::Aq => of_pairs(add72(pair(x), pair(y), carry_in)),
-        Register::X(_) => of_halves(add18(x as u32, y as u32, carry_in)),
+        Register::A | Register::Q => from_words(add36(word(x), word(y), carry_in)),
+        Register::Aq => from_pairs(add72(pair(x), pair(y), carry_in)),
+        Register::X(_) => from_halves(add18(x as u32, y as u32, carry_in)),
     }
 }
 
@@ -104,9 +104,9 @@ pub fn difference(r: Register, x: u128, y: u128, borrow: bool) -> Computed
     ensures bound { result.value < 2 * half (working_of r) }
 {
     match r {
-        Register::A | Register::Q => of_words(sub36(word(x), word(y), borrow)),
-        Register::Aq => of_pairs(sub72(pair(x), pair(y), borrow)),
-        Register::X(_) => of_halves(sub18(x as u32, y as u32, borrow)),
+        Register::A | Register::Q => from_words(sub36(word(x), word(y), borrow)),
+        Register::Aq => from_pairs(sub72(pair(x), pair(y), borrow)),
+        Register::X(_) => from_halves(sub18(x as u32, y as u32, borrow)),
     }
 }
 
@@ -117,9 +117,9 @@ pub fn negation(r: Register, x: u128) -> Computed
     ensures bound { result.value < 2 * half (working_of r) }
 {
     match r {
-        Register::A | Register::Q => of_words(neg36(word(x))),
-        Register::Aq => of_pairs(neg72(pair(x))),
-        Register::X(_) => of_halves(neg18(x as u32)),
+        Register::A | Register::Q => from_words(neg36(word(x))),
+        Register::Aq => from_pairs(neg72(pair(x))),
+        Register::X(_) => from_halves(neg18(x as u32)),
     }
 }
 

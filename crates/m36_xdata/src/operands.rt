@@ -44,7 +44,7 @@ pub fn operand_number(r: Register, given: &Operand36) -> u128
 }
 
 /// The words to write for a number of a register's width.
-pub fn held(r: Register, v: u128) -> WordsToWrite
+pub fn words_of_number(r: Register, v: u128) -> WordsToWrite
     requires { v < 2 * half (working_of r) }
     ensures value { words_to_write result ≡ words (working_of r) v }
     ensures put { PutsNumber r (words_to_write result) }

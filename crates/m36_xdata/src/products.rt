@@ -14,7 +14,7 @@ use crate::operands::operand_word;
 use crate::registers::{Register, indicators};
 use crate::results::tested_register_change;
 use m36_arith::{div, mul};
-use m36_fastpath::quotient;
+use m36_fastpath::quotient_register;
 use m36_model::{At, Fault, Operand36, Regs};
 use m36_word::Pair;
 
@@ -25,7 +25,7 @@ pub fn multiply(given: &Operand36, regs: &Regs) -> Change
     ensures value { IsEffect result regs.now (multiply (word (operand_fields given.now)) regs.now) }
     ensures put { length (words_to_write result.put) ≡ 0 }
 {
-    let product = mul(quotient(regs), operand_word(given));
+    let product = mul(quotient_register(regs), operand_word(given));
     tested_register_change(Register::Aq, product.value(), regs)
 }
 
@@ -53,7 +53,7 @@ pub fn divide(given: &Operand36, regs: &Regs) -> Result<Change, Fault>
         ≡ refused_here regs.now (divide (word (operand_fields given.now)) regs.now) }
     ensures put { IfOk result (λ e. length (words_to_write e.put) ≡ 0) }
 {
-    match div(quotient(regs), operand_word(given)) {
+    match div(quotient_register(regs), operand_word(given)) {
         Ok((q, remainder)) => {
             let ind = set_zero_negative(Register::Q, q.value() as u128, indicators(regs));
             Ok(Change {

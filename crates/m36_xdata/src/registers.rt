@@ -4,7 +4,7 @@ ghost use Rattle.std.specs.Prelude.{◌≡◌, ◌*◌, ◌^◌, ◌<◌};
 ghost use Rattle.m36_model.specs.Results.{half, value};
 ghost use Rattle.m36_xdata.specs.Registers.{working_of, HasValidIndex};
 
-use m36_fastpath::pair;
+use m36_fastpath::aq_pair;
 use m36_model::{Ind, Regs};
 
 /// A register: the accumulator, the quotient register, both as one number of 72 bits, or an index
@@ -34,7 +34,7 @@ pub fn number_in(r: Register, regs: &Regs) -> u128
     match r {
         Register::A => regs.a.value() as u128,
         Register::Q => regs.q.value() as u128,
-        Register::Aq => pair(regs).value(),
+        Register::Aq => aq_pair(regs).value(),
         Register::X(n) => regs.x[n as usize] as u128,
     }
 }

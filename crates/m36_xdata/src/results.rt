@@ -4,12 +4,12 @@ ghost use Rattle.std.specs.Prelude.{◌≡◌, ◌*◌, ◌<◌, [], length};
 ghost use Rattle.m36_model.specs.Results.{half, words, with_value_and_indicators, with_indicators, with_value, sets_register};
 ghost use Rattle.m36_model.specs.Results.{completes, completes_or_overflows};
 ghost use Rattle.m36_xdata.specs.Registers.{working_of, HasValidIndex, PutsNumber};
-ghost use Rattle.m36_xdata.specs.Changes.{IsEffect, words_to_write, taken};
+ghost use Rattle.m36_xdata.specs.Changes.{IsEffect, words_to_write, with_new_values};
 
 use crate::changes::{Change, NewIndex, NewValues, WordsToWrite};
 use crate::conditions::set_zero_negative;
 use crate::numbers::{pair, word};
-use crate::operands::held;
+use crate::operands::words_of_number;
 use crate::registers::{Register, indicators};
 use m36_model::{Ind, Regs};
 
@@ -18,7 +18,7 @@ use m36_model::{Ind, Regs};
 pub fn new_value(r: Register, v: u128, regs: &Regs) -> NewValues
     requires register { HasValidIndex r }
     requires number { v < 2 * half (working_of r) }
-    ensures { taken result regs.now ≡ with_value (working_of r) v regs.now }
+    ensures { with_new_values result regs.now ≡ with_value (working_of r) v regs.now }
 {
     match r {
         Register::A => NewValues::A(word(v)),
@@ -30,13 +30,7 @@ pub fn new_value(r: Register, v: u128, regs: &Regs) -> NewValues
 
 /// The change by which a register takes a number, with these new indicators. `overflow` says
 /// whether overflow has to be reported.
-pub fn register_change(
-    r: Register,
-    v: u128,
-    ind: Ind,
-    overflow: bool,
-    regs: &Regs,
-) -> Change
+pub fn register_change(r: Register, v: u128, ind: Ind, overflow: bool, regs: &Regs) -> Change
     requires register { HasValidIndex r }
     requires number { v < 2 * half (working_of r) }
     ensures value { IsEffect result regs.now
@@ -84,7 +78,7 @@ pub fn operand_change(r: Register, v: u128, ind: Ind, overflow: bool, regs: &Reg
 {
     Change {
         taken: NewValues::Nothing,
-        put: held(r, v),
+        put: words_of_number(r, v),
         ind,
         overflow,
     }

@@ -13,7 +13,7 @@ use crate::changes::{Change, NewValues, WordsToWrite};
 use crate::conditions::with_zero;
 use crate::operands::operand_word;
 use crate::registers::indicators;
-use m36_fastpath::{accumulator, quotient};
+use m36_fastpath::{accumulator, quotient_register};
 use m36_model::{Ind, Operand36, Regs};
 use m36_word::Word;
 
@@ -97,7 +97,7 @@ pub fn store_if_equal(given: &Operand36, regs: &Regs) -> Change
     ensures put { length (words_to_write result.put) ≡ 1 }
 {
     let old = operand_word(given);
-    let equal = are_equal(old, quotient(regs));
+    let equal = are_equal(old, quotient_register(regs));
     Change {
         taken: NewValues::Nothing,
         put: WordsToWrite::One(select(equal, accumulator(regs), old)),

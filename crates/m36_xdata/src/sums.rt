@@ -1,6 +1,6 @@
 //! Additions, subtractions and negations that are not among the frequent instructions.
 
-ghost use Rattle.std.specs.Prelude.{◌≡◌, ◌*◌, ◌^◌, ◌<◌, IsTrue, length, not};
+ghost use Rattle.std.specs.Prelude.{◌≡◌, ◌*◌, ◌^◌, ◌<◌, IsTrue, length};
 ghost use Rattle.m36_model.specs.OperandHeld.{is_word};
 ghost use Rattle.m36_model.specs.Results.{AQ, half, operand, operand_fields, word};
 ghost use Rattle.m36_model.specs.Sums.{into_register, into_register_logical, into_operand, add};

@@ -1,6 +1,6 @@
 //! Finds the first fault of a list of words.
 
-ghost use Rattle.std.specs.Prelude.{ℕ, List, ◌≡◌, ◌+◌, ◌^◌, ◌<◌, length, Option, Some, None};
+ghost use Rattle.std.specs.Prelude.{◌≡◌, ◌+◌, ◌^◌, ◌<◌, length, Option, Some, None};
 ghost use Rattle.std.specs.Prelude.{IfSome, IfOk};
 ghost use Rattle.obj36.specs.Faults.{mapped_definition, mapped_linkage, definition_fault};
 ghost use Rattle.obj36.specs.Faults.{spelling_fault, linking_fault, o7_or_o8, o6_or};

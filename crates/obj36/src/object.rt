@@ -1,8 +1,8 @@
 //! Objects, and how they are read and written.
 
-ghost use Rattle.std.specs.Prelude.{ℕ, List, [], ◌∷◌, ◌++◌, ◌≡◌, ◌+◌, ◌*◌, ◌<◌, ◌≤◌, ◌^◌, Bool};
+ghost use Rattle.std.specs.Prelude.{[], ◌∷◌, ◌++◌, ◌≡◌, ◌+◌, ◌*◌, ◌<◌, ◌≤◌, ◌^◌};
 ghost use Rattle.std.specs.Prelude.{true, length, nat_eq, if◌then◌else◌, Some, None, option_map, IfOk, IfSome, OnOk};
-ghost use Rattle.obj36_parts.specs.ObjectSegment.{is_newer, inner_statics, outer_statics};
+ghost use Rattle.obj36_parts.specs.ObjectSegment.{inner_statics, outer_statics};
 ghost use Rattle.obj36_parts.specs.ObjectSegment.{definition_section, linkage_section};
 ghost use Rattle.obj36_parts.specs.ObjectSegment.{symbol_section, section_words, map_part};
 ghost use Rattle.obj36_parts.specs.ObjectSegment.{words_of, is_well_formed, definition_named};

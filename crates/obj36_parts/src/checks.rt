@@ -1,13 +1,12 @@
 //! Decides whether parts are well formed.
 
-ghost use Rattle.std.specs.Prelude.{ℕ, true, ◌≡◌, ◌+◌, ◌*◌, ◌^◌, ◌<◌};
-ghost use Rattle.std.specs.Prelude.{◌&&◌, ◌||◌, not, nat_eq, nat_le, length, if◌then◌else◌};
+ghost use Rattle.std.specs.Prelude.{true, ◌≡◌, ◌+◌, ◌*◌, ◌^◌, ◌<◌};
+ghost use Rattle.std.specs.Prelude.{◌&&◌, ◌||◌, not, nat_eq, nat_le, if◌then◌else◌};
 ghost use Rattle.std.specs.List.{list_all};
 ghost use Rattle.obj36_parts.specs.Names.{is_name};
 ghost use Rattle.obj36_parts.specs.ObjectSegment.{has_section, greatest_class_number, last_section_number, offset_part};
 ghost use Rattle.obj36_parts.specs.ObjectSegment.{is_valid_link_section, is_valid_link_name};
 ghost use Rattle.obj36_parts.specs.ObjectSegment.{is_valid_definition, is_valid_link, is_relocatable, is_valid_relocation};
-ghost use Rattle.obj36_parts.specs.Sections.{section_number};
 ghost use Rattle.obj36_parts.specs.ObjectSegment.{order_of, are_in_order, left_part};
 ghost use Rattle.obj36_parts.specs.ObjectSegment.{definition_names, are_distinct};
 

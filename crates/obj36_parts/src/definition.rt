@@ -1,6 +1,6 @@
 //! Definitions: the names by which others refer to places of an object.
 
-ghost use Rattle.std.specs.Prelude.{ℕ, List, [], ◌∷◌, ◌++◌, ◌≡◌, ◌<◌, OnOk, OnErr};
+ghost use Rattle.std.specs.Prelude.{List, [], ◌∷◌, ◌++◌, ◌≡◌, ◌<◌, OnOk, OnErr};
 ghost use Rattle.std.specs.Vec.{vec_len, vec_capacity};
 ghost use Rattle.obj36_parts.specs.Names.{with_names};
 ghost use Rattle.obj36_parts.specs.ObjectSegment.{definition_names, are_distinct, definition_named};

@@ -1,6 +1,6 @@
 //! Words as halves of 18 bits.
 
-ghost use Rattle.std.specs.Prelude.{ℕ, ◌≡◌, ◌+◌, ◌*◌, ◌/◌, ◌%◌, ◌^◌, ◌<◌};
+ghost use Rattle.std.specs.Prelude.{◌≡◌, ◌+◌, ◌*◌, ◌/◌, ◌%◌, ◌^◌, ◌<◌};
 ghost use Rattle.obj36_parts.specs.Halves.{left, right, word_with_halves};
 
 use m36_word::Word;

@@ -1,6 +1,6 @@
 //! Links: references of an object to places of other segments or of itself.
 
-ghost use Rattle.std.specs.Prelude.{ℕ, List, [], ◌∷◌, ◌++◌, ◌≡◌, ◌+◌, ◌<◌, ◌≤◌, position, OnOk};
+ghost use Rattle.std.specs.Prelude.{List, [], ◌∷◌, ◌++◌, ◌≡◌, ◌+◌, ◌<◌, ◌≤◌, position, OnOk};
 ghost use Rattle.std.specs.Prelude.{OnErr};
 ghost use Rattle.indexmap.specs.IndexSet.{spare};
 ghost use Rattle.m36_text.specs.Seeds.{name_writes};

@@ -1,6 +1,6 @@
 //! The words of a linkage section.
 
-ghost use Rattle.std.specs.Prelude.{ℕ, [], ◌∷◌, ◌++◌, ◌≡◌, ◌+◌, ◌-◌, ◌*◌, ◌^◌, ◌<◌, ◌≤◌};
+ghost use Rattle.std.specs.Prelude.{[], ◌∷◌, ◌++◌, ◌≡◌, ◌+◌, ◌-◌, ◌*◌, ◌^◌, ◌<◌, ◌≤◌};
 ghost use Rattle.std.specs.Prelude.{length, OnOk};
 ghost use Rattle.obj36_parts.specs.Halves.{word_with_halves};
 ghost use Rattle.obj36_parts.specs.ObjectSegment.{link_words, linkage_part};

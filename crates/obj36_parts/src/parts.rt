@@ -1,6 +1,6 @@
 //! The parts of an object, and whether they are well formed.
 
-ghost use Rattle.std.specs.Prelude.{ℕ, ◌≡◌, ◌+◌, ◌*◌, ◌<◌, ◌≤◌, ◌^◌, length, []};
+ghost use Rattle.std.specs.Prelude.{◌≡◌, ◌+◌, ◌*◌, ◌<◌, ◌≤◌, ◌^◌, length, []};
 ghost use Rattle.std.specs.Prelude.{if◌then◌else◌, IsTrue};
 ghost use Rattle.obj36_parts.specs.ObjectSegment.{inner_statics, outer_statics, first_link};
 ghost use Rattle.obj36_parts.specs.ObjectSegment.{is_newer_version, words_of, is_well_formed};

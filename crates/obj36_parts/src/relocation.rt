@@ -1,6 +1,6 @@
 //! Relocations: the parts of words that change with the place of a section when objects are bound.
 
-ghost use Rattle.std.specs.Prelude.{ℕ, List, [], ◌∷◌, ◌++◌, ◌≡◌, OnOk, OnErr};
+ghost use Rattle.std.specs.Prelude.{List, [], ◌∷◌, ◌++◌, ◌≡◌, OnOk, OnErr};
 
 use crate::section::Section;
 use m36_word::NoMemory;

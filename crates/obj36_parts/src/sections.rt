@@ -1,6 +1,6 @@
 //! Makes the words of the sections of an object.
 
-ghost use Rattle.std.specs.Prelude.{ℕ, [], ◌∷◌, ◌++◌, ◌≡◌, ◌+◌, ◌-◌, ◌*◌, ◌^◌, ◌<◌, ◌≤◌};
+ghost use Rattle.std.specs.Prelude.{[], ◌∷◌, ◌++◌, ◌≡◌, ◌+◌, ◌-◌, ◌*◌, ◌^◌, ◌<◌, ◌≤◌};
 ghost use Rattle.std.specs.Prelude.{length, replicate, OnOk, IfOk};
 ghost use Rattle.obj36_parts.specs.Halves.{word_with_halves};
 ghost use Rattle.obj36_parts.specs.Names.{name_offset, with_names};

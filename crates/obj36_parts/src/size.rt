@@ -1,6 +1,6 @@
 //! The number of words that names take, each counted once.
 
-ghost use Rattle.std.specs.Prelude.{ℕ, ◌++◌, ◌≡◌, ◌+◌, ◌*◌, ◌^◌, ◌<◌, ◌≤◌, length};
+ghost use Rattle.std.specs.Prelude.{◌++◌, ◌≡◌, ◌+◌, ◌*◌, ◌^◌, ◌<◌, ◌≤◌, length};
 ghost use Rattle.obj36_parts.specs.ObjectSegment.{definition_names, all_link_names};
 ghost use Rattle.obj36_parts.specs.Sizes.{distinct_names_size, total_names_size, undefined_name_size, undefined_names_size};
 

@@ -6,7 +6,7 @@ use Rattle.obj36_read.specs.declared.map.Extents.{Extents}
 use Rattle.obj36_read.specs.MapFaults.{sections_covering, first_shared_word}
 use Rattle.obj36_read.specs.Reading.{quarter_at}
 use Rattle.obj36_parts.specs.Names.{is_name_character}
-use Rattle.obj36_read.specs.TableFaults.{earlier, index_if_bad, next_definition, has_room_for_definition, chain_fault, class_at, first_bad_class, name_offset_at, same_quarters, same_name, first_repeat_of, first_repeat, are_characters, are_zeros, name_fault, defined_names_fault, expression_fault, linked_names_fault}
+use Rattle.obj36_read.specs.TableFaults.{earlier, index_if_bad, next_definition, has_room_for_definition, chain_fault, class_at, first_bad_class, name_offset_at, same_quarters, first_repeat, are_characters, are_zeros, name_fault, defined_names_fault, expression_fault, linked_names_fault}
 use Rattle.obj36_read.specs.LinkFaults.{is_expression_type, first_bad_type, is_valid_link_at, first_bad_link}
 
 -- ---- shared words
@@ -75,47 +75,9 @@ class_end last d count i at le = let k : count - i ≡ 0 = omega arith in ap (λ
 
 -- ---- names that occur twice
 
-pub same_more : (d : List ℕ) (at other i count : ℕ) (total : Bool) (u v : ℕ) → i < count → u ≡ quarter_at d at i → v ≡ quarter_at d other i → u ≡ v → same_quarters d at other i (count - i) ≡ total
-    → same_quarters d at other (i + 1) (count - (i + 1)) ≡ total
-unfolding same_quarters
-same_more d at other i count total u v lt e f same so_far =
-    let k : count - i ≡ suc (count - (i + 1)) = omega arith in
-    let equal : eqb (quarter_at d at i) (quarter_at d other i) ≡ true = eq-eqb _ _ (sym e ∙ same ∙ f) in
-    sym (ap (same_quarters d at other i) k ∙ ap (λ b. b && same_quarters d at other (i + 1) (count - (i + 1))) equal) ∙ so_far
-
-pub same_not : (d : List ℕ) (at other i count : ℕ) (total : Bool) (u v : ℕ) → i < count → u ≡ quarter_at d at i → v ≡ quarter_at d other i → u ≢ v → same_quarters d at other i (count - i) ≡ total → false ≡ total
-unfolding same_quarters
-same_not d at other i count total u v lt e f differ so_far =
-    let k : count - i ≡ suc (count - (i + 1)) = omega arith in
-    let apart : eqb (quarter_at d at i) (quarter_at d other i) ≡ false = ne_eqb _ _ (λ h. differ (e ∙ h ∙ sym f)) in
-    sym (ap (same_quarters d at other i) k ∙ ap (λ b. b && same_quarters d at other (i + 1) (count - (i + 1))) apart) ∙ so_far
-
 pub same_end : (d : List ℕ) (at other i count : ℕ) (total : Bool) → count ≤ i → same_quarters d at other i (count - i) ≡ total → true ≡ total
 unfolding same_quarters
 same_end d at other i count total le so_far = let k : count - i ≡ 0 = omega arith in sym (ap (same_quarters d at other i) k) ∙ so_far
-
-pub repeats_of_step : (d : List ℕ) (name count i at next other : ℕ) (b : Bool) (here : Option ℕ) → i < count → next ≡ next_definition d at → other ≡ name_offset_at d at → b ≡ same_name d name other → here ≡ index_if_bad b (min name other)
-    → first_repeat_of d name (count - i) at ≡ earlier here (first_repeat_of d name (count - (i + 1)) next)
-unfolding first_repeat_of
-repeats_of_step d name count i at next other b here lt x o e f =
-    let k : count - i ≡ suc (count - (i + 1)) = omega arith in
-    let rest = first_repeat_of d name (count - (i + 1)) (next_definition d at) in
-    ap (λ n. first_repeat_of d name n at) k ∙ ap (λ h. earlier h rest) (ap (λ n. index_if_bad (same_name d name n) (min name n)) (sym o) ∙ ap (λ c. index_if_bad c (min name other)) (sym e) ∙ sym f)
-    ∙ ap (λ m. earlier here (first_repeat_of d name (count - (i + 1)) m)) (sym x)
-
-pub repeats_of_end : (d : List ℕ) (name count i at : ℕ) → count ≤ i → first_repeat_of d name (count - i) at ≡ None
-unfolding first_repeat_of
-repeats_of_end d name count i at le = let k : count - i ≡ 0 = omega arith in ap (λ n. first_repeat_of d name n at) k
-
-pub repeats_step : (d : List ℕ) (count i at name next : ℕ) (here : Option ℕ) → i < count → name ≡ name_offset_at d at → next ≡ next_definition d at → here ≡ first_repeat_of d name (count - i - 1) next
-    → first_repeat d (count - i) at ≡ earlier here (first_repeat d (count - (i + 1)) next)
-unfolding first_repeat
-repeats_step d count i at name next here lt n e f =
-    let k : count - i ≡ suc (count - (i + 1)) = omega arith in
-    let left : count - (i + 1) ≡ count - i - 1 = omega arith in
-    ap (λ m. first_repeat d m at) k
-    ∙ ap (λ x. earlier (first_repeat_of d (name_offset_at d at) (count - (i + 1)) x) (first_repeat d (count - (i + 1)) x)) (sym e)
-    ∙ ap (λ h. earlier h (first_repeat d (count - (i + 1)) next)) (ap (λ m. first_repeat_of d m (count - (i + 1)) next) (sym n) ∙ ap (λ m. first_repeat_of d name m next) left ∙ sym f)
 
 pub repeats_end : (d : List ℕ) (count i at : ℕ) → count ≤ i → first_repeat d (count - i) at ≡ None
 unfolding first_repeat

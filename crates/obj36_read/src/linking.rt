@@ -1,6 +1,6 @@
 //! Faults of the links of an object, in a list of words.
 
-ghost use Rattle.std.specs.Prelude.{ℕ, ◌≡◌, ◌+◌, ◌-◌, ◌*◌, ◌%◌, ◌^◌, ◌<◌, ◌&&◌};
+ghost use Rattle.std.specs.Prelude.{◌≡◌, ◌+◌, ◌-◌, ◌*◌, ◌%◌, ◌^◌, ◌<◌, ◌&&◌};
 ghost use Rattle.std.specs.Prelude.{◌||◌, Option, Some, None};
 ghost use Rattle.std.specs.Prelude.{IfSome};
 ghost use Rattle.obj36_read.specs.TableFaults.{earlier, expression_count};

@@ -1,6 +1,6 @@
 //! Decodes the lists of the parts of an object.
 
-ghost use Rattle.std.specs.Prelude.{ℕ, [], ◌++◌, ◌≡◌, ◌^◌, ◌<◌, length, OnOk};
+ghost use Rattle.std.specs.Prelude.{[], ◌++◌, ◌≡◌, ◌^◌, ◌<◌, length, OnOk};
 ghost use Rattle.obj36_read.specs.Reading.{parts_of};
 
 use crate::reading::{

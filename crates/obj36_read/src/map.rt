@@ -1,6 +1,6 @@
 //! The map of a list of words, and the sections that it describes.
 
-ghost use Rattle.std.specs.Prelude.{ℕ, ◌≡◌, ◌+◌, ◌-◌, ◌^◌, ◌<◌, ◌≤◌, ◌&&◌, ◌||◌};
+ghost use Rattle.std.specs.Prelude.{◌≡◌, ◌+◌, ◌-◌, ◌^◌, ◌<◌, ◌≤◌, ◌&&◌, ◌||◌};
 ghost use Rattle.std.specs.Prelude.{length, Option, Some, None};
 ghost use Rattle.std.specs.Prelude.{IfSome, if◌then◌else◌};
 ghost use Rattle.obj36_parts.specs.ObjectSegment.{is_newer_version};

@@ -1,6 +1,6 @@
 //! Faults of the names of a definition section, in a list of words.
 
-ghost use Rattle.std.specs.Prelude.{ℕ, ◌≡◌, ◌+◌, ◌-◌, ◌%◌, ◌^◌, ◌<◌, ◌&&◌};
+ghost use Rattle.std.specs.Prelude.{◌≡◌, ◌+◌, ◌-◌, ◌%◌, ◌^◌, ◌<◌, ◌&&◌};
 ghost use Rattle.std.specs.Prelude.{length, Option, Some, None, IfSome};
 ghost use Rattle.std.specs.Prelude.{if◌then◌else◌};
 ghost use Rattle.obj36_parts.specs.Names.{is_name_character};
@@ -21,10 +21,10 @@ use obj36_parts::halves::{left_of, right_of};
 use obj36_parts::names::{kind_has_entry, kind_has_name};
 
 // Whether a part of nine bits is a character that a name can have.
-fn is_name_quarter(quarter_from: u64) -> bool
-    ensures { result ≡ is_name_character quarter_from }
+fn is_name_quarter(quarter: u64) -> bool
+    ensures { result ≡ is_name_character quarter }
 {
-    quarter_from < 1 << 8 && is_name_character(quarter_from as u8)
+    quarter < 1 << 8 && is_name_character(quarter as u8)
 }
 
 // Whether `count` nine-bit parts, from part `from` of the word `at` on, are characters of a name.

@@ -1,6 +1,6 @@
 //! Faults of the tables of a definition section, in a list of words.
 
-ghost use Rattle.std.specs.Prelude.{ℕ, ◌≡◌, ◌+◌, ◌-◌, ◌*◌, ◌/◌, ◌^◌, ◌<◌, ◌&&◌};
+ghost use Rattle.std.specs.Prelude.{◌≡◌, ◌+◌, ◌-◌, ◌*◌, ◌/◌, ◌^◌, ◌<◌, ◌&&◌};
 ghost use Rattle.std.specs.Prelude.{◌||◌, min, length, Option, Some};
 ghost use Rattle.std.specs.Prelude.{None, IfSome, IfOk};
 ghost use Rattle.obj36_read.specs.TableFaults.{earlier, index_if_bad, definition_count};

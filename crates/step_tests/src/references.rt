@@ -131,10 +131,12 @@ fn targets_of_calls(rt: HostRuntime) -> Result<(), NoMemory> {
             psr: 7,
             prr: target.ring,
         };
-        assert!(rt; walk.call(*target, from) == expected.map_err(|acv| violation(acv, *target)));
+        assert!(rt;
+            walk.check_call_target(*target, from) == expected.map_err(|acv| violation(acv, *target))
+        );
     }
-    assert!(rt; walk.transfer(at(2, 0, 3), 3) == Ok(()));
-    assert!(rt; walk.transfer(at(2, 0, 3), 2) == Err(violation(12, at(2, 0, 3))));
+    assert!(rt; walk.check_transfer_target(at(2, 0, 3), 3) == Ok(()));
+    assert!(rt; walk.check_transfer_target(at(2, 0, 3), 2) == Err(violation(12, at(2, 0, 3))));
     assert!(rt; walk.segment_r1(2) == Ok(2));
     Ok(())
 }
@@ -151,7 +153,7 @@ fn words_and_marks(rt: HostRuntime) -> Result<(), NoMemory> {
     assert!(rt; walk.write_pair(at(3, 5, 4), pair(1, 2)) == Ok(()));
     assert!(rt; walk.read_pair(at(3, 4, 4), 0) == Ok(pair(1, 2)));
     assert!(rt; walk.indirect(at(3, 4, 4), 0) == Ok((Word::low(1), 4)));
-    assert!(rt; walk.odd(at(3, 5, 4), 0) == Ok(Word::low(2)));
+    assert!(rt; walk.read_odd_word(at(3, 5, 4), 0) == Ok(Word::low(2)));
     assert!(rt; walk.write_block(at(3, 0o27, 4), [pair(3, 4); 8]) == Ok(()));
     assert!(rt; walk.read_block(at(3, 0o20, 4), 0) == Ok([pair(3, 4); 8]));
     assert!(rt;
@@ -164,7 +166,7 @@ fn words_and_marks(rt: HostRuntime) -> Result<(), NoMemory> {
 fn finds_places_as_core_stands(rt: HostRuntime) -> Result<(), NoMemory> {
     let mut walk = walk(rt.alloc())?;
     assert!(rt; walk.place(at(3, 0o37, 7)) == Ok(0o2037));
-    assert!(rt; walk.hold(at(3, 5, 4), 2) == Ok(0o2004));
+    assert!(rt; walk.claim_place(at(3, 5, 4), 2) == Ok(0o2004));
     let pending = Some(Pending {
         word: Word::low(9),
         place: 0o2005,

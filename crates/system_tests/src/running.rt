@@ -249,7 +249,7 @@ fn both(rt: &impl Abort, one: &mut Super, told: &mut StepRecord, other: &mut Sup
 
 // Takes all turns of both systems and asserts that they are the same.
 fn agree(rt: &impl Abort, one: &mut Super, other: &mut Super) {
-    let mut told = one.untold();
+    let mut told = one.empty_record();
     for _ in 0..19 {
         if !both(rt, one, &mut told, other) {
             return;

@@ -1,6 +1,6 @@
 //! Operation codes 000 to 377 with bit 27 off.
 
-ghost use Rattle.std.specs.Prelude.{◌≡◌, true, false};
+ghost use Rattle.std.specs.Prelude.{◌≡◌, false};
 ghost use Rattle.m36_inst.specs.Named.{block};
 
 use crate::effect::Effect;

@@ -1,6 +1,6 @@
 //! Operation codes with bit 27 on.
 
-ghost use Rattle.std.specs.Prelude.{◌≡◌, true, false};
+ghost use Rattle.std.specs.Prelude.{◌≡◌, true};
 ghost use Rattle.m36_inst.specs.Named.{block};
 
 use crate::effect::Effect;

@@ -1,4 +1,4 @@
-use Rattle.std.proofs.Common.{◌≡◌, ◌≤◌, ◌+◌, length, arith}
+use Rattle.std.proofs.Common.{◌≡◌, ◌≤◌, ◌+◌, arith}
 use Rattle.std.proofs.lemmas.Grind.{common_steps}
 use Rattle.alm_tokens.proofs.Cuts.{cuts, one_more}
 use Rattle.alm_tokens.proofs.pieces.push_pieces.Goals as goal

@@ -4,14 +4,14 @@ use Rattle.m36_text.specs.Lines.{as_line}
 use Rattle.m36_model.specs.declared.record.Shown.{Shown}
 use Rattle.m36_trace.proofs.Lines.{shown_is}
 use Rattle.m36_program.specs.Gathered.{Gathers, Loses}
-use Rattle.cmd_image.specs.Machine.{told}
+use Rattle.cmd_image.specs.Machine.{step_record}
 use Rattle.cmd_image.proofs.running.take_step.Goals as goal
 
 pub returns-in-Failed-clause-says : goal.returns-in-Failed-clause-says
 returns-in-Failed-clause-says g c =
     let seen = g.W.World.seen in
     subst (λ (l : List ℕ). Loses (c.args.block.now ++ as_line l ∷ []) (seen c.args.world.now) (seen c.add_step_line.new.world))
-    (shown_is c.args.n (told c.args.machine.now.state) c.step_shown.new.shown c.regs.result.now c.step_shown.ensures.shown (c.regs.ensures ∙ c.step_shown.ensures.after))
+    (shown_is c.args.n (step_record c.args.machine.now.state) c.step_shown.new.shown c.regs.result.now c.step_shown.ensures.shown (c.regs.ensures ∙ c.step_shown.ensures.after))
     c.in-Failed.ensures.adds
 
 pub returns-in-Next-clause-says : goal.returns-in-Next-clause-says
@@ -21,7 +21,7 @@ returns-in-Next-clause-says g c =
       outcome_is = sym (ap (λ (s : Shown). s.outcome) c.step_shown.ensures.shown) ∙ c.in-Next.is;
       added =
           subst (λ (l : List ℕ). Gathers c.args.block.now c.add_step_line.new.block (as_line l ∷ []) (seen c.args.world.now) (seen c.add_step_line.new.world))
-          (shown_is c.args.n (told c.args.machine.now.state) c.step_shown.new.shown c.regs.result.now c.step_shown.ensures.shown (c.regs.ensures ∙ c.step_shown.ensures.after))
+          (shown_is c.args.n (step_record c.args.machine.now.state) c.step_shown.new.shown c.regs.result.now c.step_shown.ensures.shown (c.regs.ensures ∙ c.step_shown.ensures.after))
           c.in-Done.ensures.adds;
     }
 
@@ -34,7 +34,7 @@ returns-in-Faulted-clause-says g c =
         outcome_is = sym (ap (λ (s : Shown). s.outcome) c.step_shown.ensures.shown);
         added =
             subst (λ (l : List ℕ). Gathers c.args.block.now c.add_step_line.new.block (as_line l ∷ []) (seen c.args.world.now) (seen c.add_step_line.new.world))
-            (shown_is c.args.n (told c.args.machine.now.state) c.step_shown.new.shown c.regs.result.now c.step_shown.ensures.shown (c.regs.ensures ∙ c.step_shown.ensures.after))
+            (shown_is c.args.n (step_record c.args.machine.now.state) c.step_shown.new.shown c.regs.result.now c.step_shown.ensures.shown (c.regs.ensures ∙ c.step_shown.ensures.after))
             c.in-Done.ensures.adds;
       };
     }

@@ -5,7 +5,7 @@ use Rattle.cmd_tools.proofs.binding.read_bind.Goals as goal
 
 pub returns-in-Ok : goal.returns-in-Ok
 returns-in-Ok g c =
-    bind_read c.args.files.now c.bytes.result.now c.in-Ok.text c.bytes-in-Ok.result.now c.read_text-report.result _ _ _ c.bytes.ensures.value (c.in-Ok.ensures.performs may_write_files) c.bytes-in-Ok.ensures c.read_text-report.ensures
+    bind_read c.args.files.now c.bytes.result.now c.in-Ok.text c.bytes-in-Ok.result.now c.parse_and_bind-report.result _ _ _ c.bytes.ensures.value (c.in-Ok.ensures.performs may_write_files) c.bytes-in-Ok.ensures c.parse_and_bind-report.ensures
 
 pub returns-in-Err : goal.returns-in-Err
 returns-in-Err g c =

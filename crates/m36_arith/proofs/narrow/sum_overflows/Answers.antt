@@ -1,4 +1,4 @@
-use Rattle.std.proofs.Common.{rules, ℕ, ◌≡◌, ◌+◌, ◌*◌, ◌<◌, ◌≤◌, ◌%◌, sym, ap}
+use Rattle.std.proofs.Common.{◌≡◌, ◌+◌, ◌*◌, ◌<◌, ◌≤◌, ◌%◌, sym}
 use Rattle.m36_arith.proofs.SignedOrder.{high_sum_of_low, high_sum_of_high, low_sum_of_high, low_sum_of_low}
 use Rattle.m36_arith.proofs.narrow.sum_overflows.Goals as goal
 

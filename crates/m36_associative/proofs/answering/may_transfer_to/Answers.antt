@@ -7,5 +7,5 @@ returns-in-Some c = λ t. (c.in-Some._found.0, fetch_goes c.args.core.now c.args
 
 pub returns-in-Some-page_with : goal.returns-in-Some-page_with
 returns-in-Some-page_with c = λ t.
-    let goes : (c.in-Some-page_with.page.now.r1 ≤ c.args.ring) × (c.args.ring < c.in-Some-page_with.page.now.fetch_below) = c.fetches.ensures t in
+    let goes : (c.in-Some-page_with.page.now.r1 ≤ c.args.ring) × (c.args.ring < c.in-Some-page_with.page.now.fetch_below) = c.may_fetch_from.ensures t in
     (_, answers_go c.args.core.now c.args.dbr c.args.memories.now.words c.args.memories.now.tables c.in-Some-page_with.page.now c.args.seg c.args.word c.args.ring 1 c.in-Some-page_with.ensures.page (omega arith) c.in-Some-page_with.ensures.end goes.0 goes.1)

@@ -1,5 +1,5 @@
 use Rattle.std.proofs.Common.{rules, ℕ, ◌≡◌, Bool, true, false, IsTrue, subst}
-use Rattle.m36_associative.specs.Right.{IsMarked, IsTableWord}
+use Rattle.m36_associative.specs.Right.{IsMarked, IsKeptTableWord}
 use Rattle.m36_associative.proofs.Found.{page_unpaged, page_paged}
 use Rattle.m36_associative.proofs.reading.found_page.Goals as goal
 
@@ -19,7 +19,7 @@ returns-clause-page c =
     let there : c.in_ok-_word_entry.ptw.f ≡ true = rw (← c.ptw.view_is) here in
     let used : IsMarked c.args.core.now c.page_at-a.result false = c.is_marked.ensures (search rules) in
     page_paged c.args.core.now c.args.dbr c.args.memories.now _ c.args.seg c.args.word c.in_ok-_entry.sdw c.page_of-2.ensures.page_rights c.in_ok-_word_entry.ptw c.in_ok-_entry.ensures.kept paged (c.is_directory_marked.ensures (search rules))
-    (subst (λ (a : ℕ). IsTableWord c.args.core.now c.args.dbr c.args.memories.now.words c.args.memories.now.tables a c.in_ok-_word_entry.ptw) c.page_at-a.ensures.value c.in_ok-_word_entry.ensures.kept)
+    (subst (λ (a : ℕ). IsKeptTableWord c.args.core.now c.args.dbr c.args.memories.now.words c.args.memories.now.tables a c.in_ok-_word_entry.ptw) c.page_at-a.ensures.value c.in_ok-_word_entry.ensures.kept)
     there (rw (c.page_of-2.ensures.base, ← c.ptw.view_is) c.wrapped_address-base-2.ensures.value) (rw c.page_of-2.ensures.base c.wrapped_address-base-2.ensures.bound)
     (subst (λ (a : ℕ). IsMarked c.args.core.now a false) c.page_at-a.ensures.value used)
     (λ y. subst (λ (a : ℕ). IsMarked c.args.core.now a true) c.page_at-a.ensures.value (c.is_marked-modified.ensures (is_true c.is_marked-modified.result (c.page_of-2.ensures.modified y))))

@@ -1,4 +1,4 @@
-use Rattle.std.proofs.Common.{ℕ, ◌≡◌, ◌+◌, ◌<◌, length, get_or, arith}
+use Rattle.std.proofs.Common.{◌≡◌, ◌+◌, ◌<◌, length, get_or, arith}
 use Rattle.m36_associative.proofs.Keeping.{kept_item}
 use Rattle.m36_associative.proofs.reading.ptw_of_entry.Goals as goal
 

@@ -12,14 +12,14 @@ loop-k-preserved c =
       marks_len = c.findings_of-own.ensures.marks_len;
       starts_len = c.findings_of-own.ensures.starts_len;
       stops_len = c.findings_of-own.ensures.stops_len;
-      findings_from_marks = found_step c.args.core.now c.args.dbrs.now c.loop-k.k c.loop-k.findings.items c.note_process.new.findings.items (finding_pairs c.findings_of-own.result.findings.items) c.loop-k-test.true c.findings_of-own.ensures.findings c.note_process.ensures.listed c.loop-k.invariant.findings_from_marks;
+      found = found_step c.args.core.now c.args.dbrs.now c.loop-k.k c.loop-k.findings.items c.note_process.new.findings.items (finding_pairs c.findings_of-own.result.findings.items) c.loop-k-test.true c.findings_of-own.ensures.findings c.note_process.ensures.listed c.loop-k.invariant.found;
       room = omega arith;
       recorded = c.findings_of-own.ensures.after;
     }
 
 pub returns-clause-findings : goal.returns-clause-findings
 returns-clause-findings c =
-    found_all c.args.core.now c.args.dbrs.now c.loop-k.k c.loop-k.findings.items c.loop-k-test.false c.loop-k.auto.k-end c.loop-k.invariant.findings_from_marks
+    found_all c.args.core.now c.args.dbrs.now c.loop-k.k c.loop-k.findings.items c.loop-k-test.false c.loop-k.auto.k-end c.loop-k.invariant.found
 
 pub returns-clause-after : goal.returns-clause-after
 returns-clause-after c =

@@ -9,7 +9,7 @@ invariant-loop-k l = record {
   marks_len : length l.marks.tables ≡ length l.core;
   starts_len : length l.counts.starts ≡ length l.core;
   stops_len : length l.counts.stops ≡ length l.core;
-  findings_from_marks : AreFindingsOfFirst l.core l.dbrs l.k l.findings.items;
+  found : AreFindingsOfFirst l.core l.dbrs l.k l.findings.items;
   room : array_vec_len l.findings ≤ 6 * l.k;
   recorded : AreWordOwners l.core l.dbrs l.firsts.items l.k l.owners.tables.values.items l.owners.segments.values.items l.owners.identities.values.items;
 }

@@ -7,5 +7,5 @@ use Rattle.m36_bind.proofs.binding.retained_definitions.Goals as goal
 
 pub returns : goal.returns
 returns c =
-    subst (λ (e : List (List ℕ × Export)). BindResult c.kept.result (with_retain_lines e [] 1 c.args.lines.now))
-    (c.in_ok-exports.ensures ∙ ap (exports_from c.args.frame.now []) c.items.ensures) c.kept.ensures
+    subst (λ (e : List (List ℕ × Export)). BindResult c.definitions_of_retain_lines.result (with_retain_lines e [] 1 c.args.lines.now))
+    (c.in_ok-exports.ensures ∙ ap (exports_from c.args.frame.now []) c.items.ensures) c.definitions_of_retain_lines.ensures

@@ -1,4 +1,4 @@
-use Rattle.std.proofs.Common.{◌≡◌, [], true, false, length, arith, sym, ◌∙◌}
+use Rattle.std.proofs.Common.{◌≡◌, [], true, false, length, ◌∙◌}
 use Rattle.m36_bindfile.specs.BindFile.{lines_from, parsed_bind_lines, lacks_line_feed}
 use Rattle.m36_bindfile.proofs.BindLoops.{line_read, line_wrong, lines_read, line_cut, few_more}
 use Rattle.m36_bindfile.proofs.reading.lines_in.Goals as goal

@@ -9,7 +9,7 @@ use Rattle.m36_ea.proofs.chain.form_address.Goals as goal
 pub returns-in-Ends-clause-forms : goal.returns-in-Ends-clause-forms
 returns-in-Ends-clause-forms c =
     let m = midstep_with c.loop-last.walk.core [] c.loop-last.refs.items in
-    rw c.formed.ensures (c.loop-last.invariant.same ∙ chain_ends c.args.regs.now c.loop-last.tpr m c.loop-last.left c.in-Ends.last (c.in-Ends.ensures {u = tt}).moves)
+    rw c.formed_without_tally.ensures (c.loop-last.invariant.same ∙ chain_ends c.args.regs.now c.loop-last.tpr m c.loop-last.left c.in-Ends.last (c.in-Ends.ensures {u = tt}).moves)
 
 pub returns-in-Fails-clause-forms : goal.returns-in-Fails-clause-forms
 returns-in-Fails-clause-forms c =
@@ -37,21 +37,21 @@ returns-then-left-eq0-2-clause-forms c =
     let y = ap (λ (x : Point). x.y) c.tpr.view_is in
     rw (c.lockup-then-left-eq0-2.ensures, y) (same ∙ chain_locks_tally c.args.regs.now c.loop-last.tpr m (c.in-Counts.ensures {u = tt}).moves)
 
-pub returns-in-Ok-count-clause-forms : goal.returns-in-Ok-count-clause-forms
-returns-in-Ok-count-clause-forms c =
+pub returns-in-Ok-count_tally-clause-forms : goal.returns-in-Ok-count_tally-clause-forms
+returns-in-Ok-count_tally-clause-forms c =
     let g = c.args.regs.now in
     let m = midstep_with c.loop-last.walk.core [] c.loop-last.refs.items in
     let left = c.loop-last.left - 1 in
     let more : c.loop-last.left ≡ suc (c.loop-last.left - 1) = omega arith in
-    c.loop-last.invariant.same ∙ chain_reads g c.loop-last.tpr m c.loop-last.left left Counts more (c.in-Counts.ensures {u = tt}).moves ∙ (c.in-Ok-count.ensures {u = tt}).counts (chain left g)
+    c.loop-last.invariant.same ∙ chain_reads g c.loop-last.tpr m c.loop-last.left left Counts more (c.in-Counts.ensures {u = tt}).moves ∙ (c.in-Ok-count_tally.ensures {u = tt}).counts (chain left g)
 
-pub returns-in-Err-count-clause-forms : goal.returns-in-Err-count-clause-forms
-returns-in-Err-count-clause-forms c =
+pub returns-in-Err-count_tally-clause-forms : goal.returns-in-Err-count_tally-clause-forms
+returns-in-Err-count_tally-clause-forms c =
     let g = c.args.regs.now in
     let m = midstep_with c.loop-last.walk.core [] c.loop-last.refs.items in
     let left = c.loop-last.left - 1 in
     let more : c.loop-last.left ≡ suc (c.loop-last.left - 1) = omega arith in
-    c.loop-last.invariant.same ∙ chain_reads g c.loop-last.tpr m c.loop-last.left left Counts more (c.in-Counts.ensures {u = tt}).moves ∙ (c.in-Err-count.ensures {u = tt}).counts (chain left g)
+    c.loop-last.invariant.same ∙ chain_reads g c.loop-last.tpr m c.loop-last.left left Counts more (c.in-Counts.ensures {u = tt}).moves ∙ (c.in-Err-count_tally.ensures {u = tt}).counts (chain left g)
 
 pub loop-last-preserved : goal.loop-last-preserved
 loop-last-preserved c =

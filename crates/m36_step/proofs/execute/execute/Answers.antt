@@ -9,4 +9,4 @@ returns-in-Err-clause-ends c =
 pub returns-in-Ok-clause-ends : goal.returns-in-Ok-clause-ends
 returns-in-Ok-clause-ends c =
     let ok = c.in-Ok.ensures {u = tt} in
-    fetches c.args.regs.now c.args.walk.now c.args.refs.now.items c.fetch.new.self.core (sym c.requires.dbr) c.in-Ok.fetched.0 c.in-Ok.fetched.1 c.push.new.self.items c.decoded.new.walk.core c.decoded.new.refs.items c.decoded.new.regs c.decoded.result (rw c.here-here.ensures at ok.serves) (rw c.here-here.ensures at ok.privileged) (rw c.here-here.ensures at c.push.ensures.items) c.decoded.ensures.ends
+    fetches c.args.regs.now c.args.walk.now c.args.refs.now.items c.fetch.new.self.core (sym c.requires.dbr) c.in-Ok.fetched.0 c.in-Ok.fetched.1 c.push.new.self.items c.decode_and_execute.new.walk.core c.decode_and_execute.new.refs.items c.decode_and_execute.new.regs c.decode_and_execute.result (rw c.here-here.ensures at ok.serves) (rw c.here-here.ensures at ok.privileged) (rw c.here-here.ensures at c.push.ensures.items) c.decode_and_execute.ensures.ends

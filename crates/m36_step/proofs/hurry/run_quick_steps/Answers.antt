@@ -1,4 +1,4 @@
-use Rattle.std.proofs.Common.{ℕ, ◌+◌, ◌<◌, ◌∙◌, sym, ap, refl, List, arith}
+use Rattle.std.proofs.Common.{ℕ, ◌+◌, ◌<◌, ◌∙◌, List, arith}
 use Rattle.m36_model.specs.Store.{State}
 use Rattle.m36_step.proofs.Hurrying.{Taken, none_taken, one_more}
 use Rattle.m36_step.proofs.hurry.run_quick_steps.Goals as goal

@@ -1,5 +1,4 @@
-use Rattle.std.proofs.Common.{[], sym, ◌∙◌, ap, subst, List}
-use Rattle.m36_model.specs.declared.place.Reference.{Reference}
+use Rattle.std.proofs.Common.{[], ◌∙◌}
 use Rattle.m36_step.proofs.GoingOn.{told_on}
 use Rattle.m36_step.proofs.machine.record_step.Goals as goal
 

@@ -1,4 +1,4 @@
-use Rattle.std.proofs.Common.{sym, ap, ◌∙◌, []}
+use Rattle.std.proofs.Common.{sym, ◌∙◌, []}
 use Rattle.m36_step.proofs.GoingOn.{lower_on}
 use Rattle.m36_step.proofs.quick_words.try_store_lower.Goals as goal
 

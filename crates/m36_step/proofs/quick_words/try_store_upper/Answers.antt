@@ -1,4 +1,4 @@
-use Rattle.std.proofs.Common.{sym, ap, ◌∙◌, []}
+use Rattle.std.proofs.Common.{sym, ◌∙◌, []}
 use Rattle.m36_step.proofs.GoingOn.{upper_on}
 use Rattle.m36_step.proofs.quick_words.try_store_upper.Goals as goal
 

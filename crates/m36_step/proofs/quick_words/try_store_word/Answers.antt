@@ -1,4 +1,4 @@
-use Rattle.std.proofs.Common.{sym, ap, ◌∙◌, []}
+use Rattle.std.proofs.Common.{sym, ◌∙◌, []}
 use Rattle.m36_step.proofs.GoingOn.{stored_on}
 use Rattle.m36_step.proofs.quick_words.try_store_word.Goals as goal
 

@@ -1,4 +1,4 @@
-use Rattle.std.proofs.Common.{sym, ap, ◌∙◌, []}
+use Rattle.std.proofs.Common.{◌∙◌, []}
 use Rattle.m36_step.proofs.GoingOn.{direct_on}
 use Rattle.m36_step.proofs.try_quick_step.try_direct_operand.Goals as goal
 

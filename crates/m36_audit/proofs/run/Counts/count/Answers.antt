@@ -1,6 +1,6 @@
 -- The count is set among those that are written.
 use Rattle.std.proofs.Common.{◌+◌, set, refl, ap, ◌∙◌, arith}
-use Rattle.m36_audit.proofs.ZerosAfter.{set-filled}
+use Rattle.m36_word.proofs.ZerosAfter.{set-filled}
 use Rattle.m36_audit.proofs.run.Counts.count.Goals as goal
 
 pub returns-then-a-self : goal.returns-then-a-self

@@ -1,6 +1,6 @@
 -- The mark is set among those that are written.
 use Rattle.std.proofs.Common.{◌+◌, ◌≡◌, ◌≤◌, length, set, refl, ap, ◌∙◌, arith}
-use Rattle.m36_audit.proofs.ZerosAfter.{filled, length-filled, set-filled}
+use Rattle.m36_word.proofs.ZerosAfter.{filled, length-filled, set-filled}
 use Rattle.m36_audit.proofs.tables.Marks.put.Goals as goal
 
 pub returns : goal.returns

@@ -45,9 +45,9 @@ use denote.Builtin.{usize}
 use Rattle.std.specs.Prelude.{Some, None}
 use Rattle.core.proofs.mem.Param.{El, R, args, el_x}
 use Rattle.core.proofs.ptr.Rows.{times_below, one_below}
-use Rattle.m36_core.specs.Places.{somes, IsWhole}
+use Rattle.m36_core.specs.Places.{slot_values, AreAllFilled}
 use Rattle.m36_core.proofs.Spliced.{filled_of}
-use Rattle.m36_core.specs.Ownership.{slot_lent, cells_lent}
+use Rattle.m36_core.specs.Ownership.{slot_shares, cells_share}
 use Rattle.m36_core.proofs.Slotted.{Cr, Bs, sz, Place, word_had, slot_seen}
 use Rattle.m36_core.specs.contracts.cells.Cells.get.Key.{name as #self}
 use Rattle.m36_core.proofs.cells.Cells.get.Statement as stated
@@ -64,7 +64,7 @@ module _ (E : El) where
   stayed = (stay_dropped (RefOf (0 ∷ []) tt (plain (λ _. Cr E)) (λ _. tt)) yes, (stay_dropped (plain (λ _. Bs E)) no, (stay_dropped (plain (λ _. usize)) no, tt)))
 
   abbrev Asks : (Cr E).Denot → (Bs E).Denot → (usize).Denot → Type 0
-  Asks d base index = (base.ptr ≡ d.at) × IsWhole d.slots × (index < length d.slots)
+  Asks d base index = (base.ptr ≡ d.at) × AreAllFilled d.slots × (index < length d.slots)
 
   abbrev Gives0 : (Cr E).Denot → (Bs E).Denot → (usize).Denot → Bor (el_x E) → Type 0
   Gives0 d base index r = get_or d.slots index None ≡ Some r.now
@@ -95,18 +95,18 @@ module _ (E : El) {M : Type 1} {𝓤 : Ura M} (𝓛 : Logic 𝓤) (C : Calls �
 
   walk : Asks E d base index → index < 2 ^ 64 → ent 𝓤 (⋆ 𝓛 Had) (WpFn 𝓤 H C Λ (function E) (vptr rb ro ∷ word base.ptr ∷ vint w64 index ∷ []) Post)
   walk asked fits_index =
-      let within = asked.2 in let held = filled_of d.slots (somes d.slots) index asked.1 within in
+      let within = asked.2 in let held = filled_of d.slots (slot_values d.slots) index asked.1 within in
       let x = held.0 in
       qed 𝓛 Had ∵ enter ! C Λ (function E) (vptr rb ro ∷ word base.ptr ∷ vint w64 index ∷ []) _ $ alloc_all ! (λ l. pass_all ! refl ((tt, tt), (word-Good [] base.ptr, ((tt, record { fits = fits_index }), tt))) $
       let En : Env 𝓤 H = env (function E).locals l in
-      unhide ! $ fsplit ! $ drop ! $ in_a_block ! d.at (λ p. cells_lent (R E) p d.slots κ) (id⊢ 𝓤 (never 𝓤)) (λ b o e. fsplit ! $ flt_l ! (λ small.
+      unhide ! $ fsplit ! $ drop ! $ in_a_block ! d.at (λ p. cells_share (R E) p d.slots κ) (id⊢ 𝓤 (never 𝓤)) (λ b o e. fsplit ! $ flt_l ! (λ small.
       let s = sz E in let tiny : s < 2 ^ 64 = omega (arith, one_below (length d.slots) s (2 ^ 63) (omega arith) small) in
       let far : index * s < 2 ^ 64 = omega (arith, times_below index (length d.slots) s (2 ^ 63) (omega arith) small) in
       take_at ! 2 $ rewrite ! 0 (λ (p : Ptr). ‵ (fat full_share (layout (Bs E)) (l 2) 0 (word p))) (asked.0 ∙ e) refl $ give_at ! 2 $ first ! $ blocks ! $
       sets ! (bin ! (get ! refl) (size_lit ! (record { fits = tiny })) (record { fits = far })) refl (tt, record { fits = far }) $
       sets ! (bin ! (get_in ! (fld ! refl (stop !)) (sub ! 0 refl (whole !))) (get ! refl) tt) refl (tt, tt) $
-      use1 𝓛 (‵ (slot_lent (R E) b (index * s + o) (get_or d.slots index None) κ)) (slot_seen E 𝓛 b κ o d.slots index within) $
-      rewrite ! 0 (λ (c : Place E). ‵ (slot_lent (R E) b (index * s + o) c κ)) held.1 refl $ hide ! $
+      use1 𝓛 (‵ (slot_shares (R E) b (index * s + o) (get_or d.slots index None) κ)) (slot_seen E 𝓛 b κ o d.slots index within) $
+      rewrite ! 0 (λ (c : Place E). ‵ (slot_shares (R E) b (index * s + o) c κ)) held.1 refl $ hide ! $
       sets_last ! (addr ! (through ! refl (stop !))) refl (tt, tt) $ exec ! C Λ En (after 1 (function E).body) (at_ret En Post) $ sets ! (of_opd ! (get ! refl)) refl (tt, tt) $
       feq_i ! (List Val) (vptr b (index * s + o) ∷ []) (vptr b (index * s + o) ∷ []) refl $ fjoin ! $
       returns ! (look_at ! 0 refl) $ free_all ! refl $ keep ! (1 ∷ 0 ∷ []) $ by ! (exits (record { ref_ptr = (b, index * s + o); now = x }) (vptr b (index * s + o)) held.1))))

@@ -48,9 +48,9 @@ use Rattle.std.specs.Prelude.{Some}
 use Rattle.std.proofs.lemmas.List.{length-map}
 use Rattle.core.proofs.mem.Param.{El, R, args, el_x}
 use Rattle.core.proofs.ptr.Rows.{times_below}
-use Rattle.m36_core.specs.Places.{somes, IsWhole}
+use Rattle.m36_core.specs.Places.{slot_values, AreAllFilled}
 use Rattle.m36_core.proofs.Spliced.{run_whole}
-use Rattle.m36_core.specs.Ownership.{cells_lent}
+use Rattle.m36_core.specs.Ownership.{cells_share}
 use Rattle.m36_core.proofs.Slotted.{Cr, Bs, sz, word_had, run_seen}
 use denote.Slice.{ShrSlice, slice_val, elements_shared}
 use types.Run.{size_word}
@@ -70,10 +70,10 @@ module _ (E : El) where
   stayed = (stay_dropped (RefOf (0 ∷ []) tt (plain (λ _. Cr E)) (λ _. tt)) yes, (stay_dropped (plain (λ _. Bs E)) no, (stay_dropped (plain (λ _. usize)) no, (stay_dropped (plain (λ _. usize)) no, tt))))
 
   abbrev Asks : (Cr E).Denot → (Bs E).Denot → (usize).Denot → (usize).Denot → Type 0
-  Asks d base from len = (base.ptr ≡ d.at) × IsWhole d.slots × (from + len ≤ length d.slots)
+  Asks d base from len = (base.ptr ≡ d.at) × AreAllFilled d.slots × (from + len ≤ length d.slots)
 
   abbrev Gives0 : (Cr E).Denot → (Bs E).Denot → (usize).Denot → (usize).Denot → Bor (List (el_x E)) → Type 0
-  Gives0 d base from len r = r.now ≡ take len (drop_l from (somes d.slots))
+  Gives0 d base from len r = r.now ≡ take len (drop_l from (slot_values d.slots))
 
   abbrev spec : {M : Type 1} {𝓤 : Ura M} (𝓛 : Logic 𝓤) → Clauses 𝓤 ended
   spec {𝓤 = 𝓤} 𝓛 κs a = record { ghost = Unit {0}; requires = λ _. fact 𝓤 (Asks a.0.now a.1.0 a.1.1.0 a.1.1.1.0); ensures = λ _ r w. fact 𝓤 (Gives0 a.0.now a.1.0 a.1.1.0 a.1.1.1.0 r) }
@@ -102,12 +102,12 @@ module _ (E : El) {M : Type 1} {𝓤 : Ura M} (𝓛 : Logic 𝓤) (C : Calls �
   walk : Asks E d base from len → from < 2 ^ 64 → len < 2 ^ 64 → ent 𝓤 (⋆ 𝓛 Had) (WpFn 𝓤 H C Λ (function E) (vptr rb ro ∷ word base.ptr ∷ vint w64 from ∷ vint w64 len ∷ []) Post)
   walk asked fits_from fits_len =
       let full = asked.1 in let within = asked.2 in
-      let xs = take len (drop_l from (somes d.slots)) in
-      let filled : take len (drop_l from d.slots) ≡ map Some xs = run_whole d.slots (somes d.slots) from len full in
+      let xs = take len (drop_l from (slot_values d.slots)) in
+      let filled : take len (drop_l from d.slots) ≡ map Some xs = run_whole d.slots (slot_values d.slots) from len full in
       let long : length xs ≡ len = omega (arith, ap length filled, length-map xs Some, length-take len (drop_l from d.slots), length-drop from d.slots) in
       qed 𝓛 Had ∵ enter ! C Λ (function E) (vptr rb ro ∷ word base.ptr ∷ vint w64 from ∷ vint w64 len ∷ []) _ $ alloc_all ! (λ l. pass_all ! refl ((tt, tt), (word-Good [] base.ptr, ((tt, record { fits = fits_from }), ((tt, record { fits = fits_len }), tt)))) $
       let En : Env 𝓤 H = env (function E).locals l in
-      unhide ! $ fsplit ! $ drop ! $ in_a_block ! d.at (λ p. cells_lent (R E) p d.slots κ) (id⊢ 𝓤 (never 𝓤)) (λ b o e. fsplit ! $ flt_l ! (λ small.
+      unhide ! $ fsplit ! $ drop ! $ in_a_block ! d.at (λ p. cells_share (R E) p d.slots κ) (id⊢ 𝓤 (never 𝓤)) (λ b o e. fsplit ! $ flt_l ! (λ small.
       let s = sz E in
       let far : from * s < 2 ^ 64 = omega (arith, times_below from (length d.slots) s (2 ^ 63) (omega arith) small) in
       take_at ! 2 $ rewrite ! 0 (λ (p : Ptr). ‵ (fat full_share (layout (Bs E)) (l 2) 0 (word p))) (asked.0 ∙ e) refl $ give_at ! 2 $ first ! $ blocks ! $

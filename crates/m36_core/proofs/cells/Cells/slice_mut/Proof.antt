@@ -49,7 +49,7 @@ use Rattle.std.specs.Prelude.{Some}
 use Rattle.std.proofs.lemmas.List.{length-map}
 use Rattle.core.proofs.mem.Param.{El, R, args, el_x}
 use Rattle.core.proofs.ptr.Rows.{times_below}
-use Rattle.m36_core.specs.Places.{somes, overwritten, IsWhole}
+use Rattle.m36_core.specs.Places.{slot_values, overwritten, AreAllFilled}
 use Rattle.m36_core.specs.Ownership.{slots, cells_own}
 use Rattle.m36_core.proofs.Spliced.{spliced_whole, run_whole}
 use Rattle.m36_core.proofs.Slotted.{Cr, Bs, Mark, sz, Place, word_had, Around, run_out, run_in, to_cells, of_cells}
@@ -76,13 +76,13 @@ module _ (E : El) where
   stayed = (stay_dropped (mut_ref_to (0 ∷ []) tt (plain (λ _. Cr E))) no, (stay_dropped (plain (λ _. Bs E)) no, (stay_dropped (plain (λ _. usize)) no, (stay_dropped (plain (λ _. usize)) no, tt))))
 
   abbrev Asks : (Cr E).Denot → (Bs E).Denot → (usize).Denot → (usize).Denot → Type 0
-  Asks d base from len = (base.ptr ≡ d.at) × IsWhole d.slots × (from + len ≤ length d.slots)
+  Asks d base from len = (base.ptr ≡ d.at) × AreAllFilled d.slots × (from + len ≤ length d.slots)
 
   abbrev Gives0 : (Cr E).Denot → (Bs E).Denot → (usize).Denot → (usize).Denot → MutBor (List (el_x E)) → Type 0
-  Gives0 d base from len r = r.now ≡ take len (drop_l from (somes d.slots))
+  Gives0 d base from len r = r.now ≡ take len (drop_l from (slot_values d.slots))
 
   abbrev Written : (Cr E).Denot → ℕ → List (el_x E) → (Cr E).Denot
-  Written d from ws = with_slots d (map Some (overwritten (somes d.slots) from ws))
+  Written d from ws = with_slots d (map Some (overwritten (slot_values d.slots) from ws))
 
   abbrev spec : {M : Type 1} {𝓤 : Ura M} (𝓛 : Logic 𝓤) → Clauses 𝓤 ended
   spec {𝓤 = 𝓤} 𝓛 κs a = record { ghost = Unit {0}; requires = λ _. fact 𝓤 (Asks a.0.now a.1.0 a.1.1.0 a.1.1.1.0); ensures = λ _ r w. sep 𝓤 (sem 𝓛 (follows (Cr E) (Array (R E) 0) a.0.ghost_name r.ghost_name (Written a.0.now a.1.1.0))) (fact 𝓤 (Gives0 a.0.now a.1.0 a.1.1.0 a.1.1.1.0 r)) }
@@ -107,12 +107,12 @@ module _ (E : El) {M : Type 1} {𝓤 : Ura M} (𝓛 : Logic 𝓤) (C : Calls �
     abbrev Rest : Fml
     Rest = fsep (Around E 𝓛 b o d.slots from len) (fsep ((Mark E).own_val (tt, tt) vs) (cell_at full_share (Cr E).mir vs rb ro))
 
-    back : d.at ≡ block_ptr b o → IsWhole d.slots → from + len ≤ length d.slots → length d.slots * sz E < 2 ^ 63 → length xs ≡ len → (ws : List (el_x E)) → length ws ≡ length xs
+    back : d.at ≡ block_ptr b o → AreAllFilled d.slots → from + len ≤ length d.slots → length d.slots * sz E < 2 ^ 63 → length xs ≡ len → (ws : List (el_x E)) → length ws ≡ length xs
         → ent 𝓤 (sep 𝓤 (sem 𝓛 (cells (mem (R E)) ws b (from * sz E + o))) (sem 𝓛 Rest)) (sem 𝓛 ((mem (Cr E)).own_at (new ws) rb ro))
     unfolding part_of
     back e full within small count ws same =
         let rest = drop_l (from + len) d.slots in
-        let all : take from d.slots ++ (map Some ws ++ rest) ≡ (new ws).slots = spliced_whole d.slots (somes d.slots) ws from len full (same ∙ count) within in
+        let all : take from d.slots ++ (map Some ws ++ rest) ≡ (new ws).slots = spliced_whole d.slots (slot_values d.slots) ws from len full (same ∙ count) within in
         let long : length (new ws).slots ≡ length d.slots = sym (ap length all)
         ∙ omega (arith, same, count, length-append (take from d.slots) (map Some ws ++ rest), length-append (map Some ws) rest, length-map ws Some, length-take from d.slots, length-drop (from + len) d.slots) in
         qed 𝓛 (‵ (cells (mem (R E)) ws b (from * sz E + o)) ∷ ‵ Rest ∷ []) ∵ use1 𝓛 (‵ (slots (R E) b (from * sz E + o) (map Some ws))) (of_cells E 𝓛 b ws (from * sz E + o)) $
@@ -136,8 +136,8 @@ module _ (E : El) {M : Type 1} {𝓤 : Ura M} (𝓛 : Logic 𝓤) (C : Calls �
   walk : Asks E d base from len → from < 2 ^ 64 → len < 2 ^ 64 → ent 𝓤 (⋆ 𝓛 Had) (WpFn 𝓤 H C Λ (function E) (vptr rb ro ∷ word base.ptr ∷ vint w64 from ∷ vint w64 len ∷ []) Post)
   walk asked fits_from fits_len =
       let full = asked.1 in let within = asked.2 in
-      let xs = take len (drop_l from (somes d.slots)) in
-      let filled : take len (drop_l from d.slots) ≡ map Some xs = run_whole d.slots (somes d.slots) from len full in
+      let xs = take len (drop_l from (slot_values d.slots)) in
+      let filled : take len (drop_l from d.slots) ≡ map Some xs = run_whole d.slots (slot_values d.slots) from len full in
       let long : length xs ≡ len = omega (arith, ap length filled, length-map xs Some, length-take len (drop_l from d.slots), length-drop from d.slots) in
       let code = (Cr E).coded.code d in
       qed 𝓛 Had ∵ enter ! C Λ (function E) (vptr rb ro ∷ word base.ptr ∷ vint w64 from ∷ vint w64 len ∷ []) _ $ alloc_all ! (λ l. pass_all ! refl ((tt, tt), (word-Good [] base.ptr, ((tt, record { fits = fits_from }), ((tt, record { fits = fits_len }), tt)))) $

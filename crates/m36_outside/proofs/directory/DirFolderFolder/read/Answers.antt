@@ -8,8 +8,8 @@ use Rattle.m36_outside.proofs.directory.DirFolderFolder.read.Goals as goal
 
 pub returns-clause-cause : goal.returns-clause-cause
 returns-clause-cause g c =
-    subst (λ n. ReadHasCause c.read_file-answer.result n c.after_read-self-inside.result) (ap (λ (s : FolderModel). s.reads) c.self.view_is)
-    c.after_read-self-inside.ensures.cause
+    subst (λ n. ReadHasCause c.read_file-answer.result n c.count_after_read-self-inside.result) (ap (λ (s : FolderModel). s.reads) c.self.view_is)
+    c.count_after_read-self-inside.ensures.cause
 
 pub returns-clause-gives : goal.returns-clause-gives
 returns-clause-gives g c =
@@ -39,10 +39,10 @@ returns-clause-wrote g c = c.note_read.ensures.wrote ∙ ap (λ (s : FolderModel
 
 pub returns-clause-count : goal.returns-clause-count
 returns-clause-count g c =
-    subst (λ (n : ℕ). n ≤ c.after_read-self-inside.result) (ap (λ (s : FolderModel). s.reads) c.self.view_is) c.after_read-self-inside.ensures.later
+    subst (λ (n : ℕ). n ≤ c.count_after_read-self-inside.result) (ap (λ (s : FolderModel). s.reads) c.self.view_is) c.count_after_read-self-inside.ensures.later
 
 pub returns-clause-count_bound : goal.returns-clause-count_bound
-returns-clause-count_bound g c = c.after_read-self-inside.ensures.bound
+returns-clause-count_bound g c = c.count_after_read-self-inside.ensures.bound
 
 pub returns-clause-other_count : goal.returns-clause-other_count
 returns-clause-other_count g c = ap (λ (s : FolderModel). s.writes) c.self.view_is

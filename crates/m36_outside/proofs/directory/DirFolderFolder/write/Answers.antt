@@ -12,8 +12,8 @@ returns-clause-says g c =
 
 pub returns-clause-cause : goal.returns-clause-cause
 returns-clause-cause g c =
-    subst (λ n. WriteHasCause c.write_answer-answer.result n c.after_put-self-inside.result) (ap (λ (s : FolderModel). s.writes) c.self.view_is)
-    (write_cause c.write_file-put.result c.write_answer-answer.result c.self.inside.write_faults c.after_put-self-inside.result c.write_answer-answer.ensures c.after_put-self-inside.ensures.cause)
+    subst (λ n. WriteHasCause c.write_answer-answer.result n c.count_after_put-self-inside.result) (ap (λ (s : FolderModel). s.writes) c.self.view_is)
+    (write_cause c.write_file-put.result c.write_answer-answer.result c.self.inside.write_faults c.count_after_put-self-inside.result c.write_answer-answer.ensures c.count_after_put-self-inside.ensures.cause)
 
 pub returns-clause-outside : goal.returns-clause-outside
 returns-clause-outside g c =
@@ -50,10 +50,10 @@ returns-clause-asked g c = c.note_write.ensures.asked ∙ ap (λ (s : FolderMode
 
 pub returns-clause-count : goal.returns-clause-count
 returns-clause-count g c =
-    subst (λ (n : ℕ). n ≤ c.after_put-self-inside.result) (ap (λ (s : FolderModel). s.writes) c.self.view_is) c.after_put-self-inside.ensures.later
+    subst (λ (n : ℕ). n ≤ c.count_after_put-self-inside.result) (ap (λ (s : FolderModel). s.writes) c.self.view_is) c.count_after_put-self-inside.ensures.later
 
 pub returns-clause-count_bound : goal.returns-clause-count_bound
-returns-clause-count_bound g c = c.after_put-self-inside.ensures.bound
+returns-clause-count_bound g c = c.count_after_put-self-inside.ensures.bound
 
 pub returns-clause-other_count : goal.returns-clause-other_count
 returns-clause-other_count g c = ap (λ (s : FolderModel). s.reads) c.self.view_is

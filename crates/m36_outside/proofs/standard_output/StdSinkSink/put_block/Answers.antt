@@ -31,8 +31,8 @@ returns-clause-took g c =
 
 pub returns-clause-cause : goal.returns-clause-cause
 returns-clause-cause g c =
-    subst (λ n. PutHasCause c.write_and_log-answer.result n c.after_put-self-inside.result) (ap (λ (s : OutputModel). s.faults) c.self.view_is)
-    c.after_put-self-inside.ensures.cause
+    subst (λ n. PutHasCause c.write_and_log-answer.result n c.count_after_put-self-inside.result) (ap (λ (s : OutputModel). s.faults) c.self.view_is)
+    c.count_after_put-self-inside.ensures.cause
 
 pub returns-clause-error : goal.returns-clause-error
 returns-clause-error g c =
@@ -41,7 +41,7 @@ returns-clause-error g c =
 
 pub returns-clause-count : goal.returns-clause-count
 returns-clause-count g c =
-    subst (λ (n : ℕ). n ≤ c.after_put-self-inside.result) (ap (λ (s : OutputModel). s.faults) c.self.view_is) c.after_put-self-inside.ensures.later
+    subst (λ (n : ℕ). n ≤ c.count_after_put-self-inside.result) (ap (λ (s : OutputModel). s.faults) c.self.view_is) c.count_after_put-self-inside.ensures.later
 
 pub returns-clause-count_bound : goal.returns-clause-count_bound
-returns-clause-count_bound g c = λ _. c.after_put-self-inside.ensures.bound
+returns-clause-count_bound g c = λ _. c.count_after_put-self-inside.ensures.bound

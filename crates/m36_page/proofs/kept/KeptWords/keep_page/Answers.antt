@@ -1,7 +1,8 @@
 -- The page is copied to the written words.
 use Rattle.std.proofs.Common.{ℕ, List, ◌+◌, ◌*◌, ◌≡◌, ◌≤◌, length, ap, subst, arith}
 use Rattle.m36_page.specs.Copied.{IsCopied}
-use Rattle.m36_page.proofs.ZerosAfter.{filled, length-filled, copied-filled}
+use Rattle.m36_word.proofs.ZerosAfter.{filled, length-filled}
+use Rattle.m36_page.proofs.ZerosAfter.{copied-filled}
 use Rattle.m36_page.proofs.kept.KeptWords.keep_page.Goals as goal
 
 pub returns : goal.returns

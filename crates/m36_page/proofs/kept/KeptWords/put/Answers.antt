@@ -1,6 +1,6 @@
 -- The word is set in the written words.
 use Rattle.std.proofs.Common.{◌+◌, ◌≡◌, ◌≤◌, ◌<◌, length, set, refl, ap, ◌∙◌, arith}
-use Rattle.m36_page.proofs.ZerosAfter.{filled, length-filled, set-filled}
+use Rattle.m36_word.proofs.ZerosAfter.{filled, length-filled, set-filled}
 use Rattle.m36_page.proofs.kept.KeptWords.put.Goals as goal
 
 pub returns : goal.returns

@@ -1,4 +1,4 @@
-use Rattle.m36_page.proofs.Built.{emptied, emptied_none}
+use Rattle.m36_page.proofs.Built.{emptied}
 use Rattle.m36_page.proofs.pager.Pager.empty_frame.Goals as goal
 
 pub returns-in-Some : goal.returns-in-Some

@@ -1,4 +1,4 @@
-use Rattle.std.proofs.Common.{List, length, sym, ap, subst, ◌∙◌}
+use Rattle.std.proofs.Common.{List, length, ap, subst, ◌∙◌}
 use Rattle.m36_page.specs.Fields.{TableFields, PagerFields}
 use Rattle.m36_page.specs.Changes.{AreAbsent}
 use Rattle.m36_page.proofs.Lay.{laid_reads}

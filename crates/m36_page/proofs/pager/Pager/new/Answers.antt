@@ -1,9 +1,6 @@
 use Rattle.std.proofs.Common.{List, ◌+◌, ◌*◌, ◌≤◌, sym, subst, arith}
 use Rattle.std.specs.Prelude.{All}
 use Rattle.m36_page.specs.Fields.{TableFields}
-use Rattle.m36_page.specs.Given.{filled_table}
-use Rattle.m36_page.specs.Residence.{HasPtwPlaces}
-use Rattle.m36_page.proofs.Parts.{parts}
 use Rattle.m36_page.proofs.Placed.{room_given, inside_made}
 use Rattle.m36_page.proofs.Lay.{below_given}
 use Rattle.m36_page.proofs.pager.Pager.new.Goals as goal

@@ -1,5 +1,5 @@
 use Rattle.std.proofs.Common.{◌≡◌, ◌∙◌, ap, sym, refl, None}
-use Rattle.m36_step.specs.Hurry.{repeated, state_after_steps}
+use Rattle.m36_step.specs.Hurry.{apply_repeatedly, state_after_steps}
 use Rattle.m36_step.specs.MachineFields.{MachineFields}
 use Rattle.m36_step.proofs.Hurrying.{turns_repeated, turns_on}
 use Rattle.m36_step.proofs.machine.MachineReplay.hurry.Goals as goal
@@ -17,5 +17,5 @@ returns-in-None-clause-on c =
     turns_on c.args.self.now c.hurry.result going c.hurry.ensures.on
 
 pub returns-clause-state : goal.returns-clause-state
-unfolding repeated
+unfolding apply_repeatedly
 returns-clause-state c = refl
