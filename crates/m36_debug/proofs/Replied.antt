@@ -35,8 +35,8 @@ pub record AfterTurn (more : List Event) (old new : Seen) : Type 0 where
   pub follow : Follow more between new
   pub input : input_by between ≡ input_by old
 
-decide_after_turn : (pieces : List (List ℕ)) (more : List Event) (old new : Seen) → Follow (outputs pieces ++ more) old new → AfterTurn more old new
-decide_after_turn pieces more old new follow =
+further : (pieces : List (List ℕ)) (more : List Event) (old new : Seen) → Follow (outputs pieces ++ more) old new → AfterTurn more old new
+further pieces more old new follow =
     let parts = follow_split (outputs pieces) more old new follow in
     record { between = parts.between; follow = parts.goes_on; input = outputs_keep pieces old parts.between parts.begins }
 
@@ -183,7 +183,7 @@ pub record WentOn {M : Type 0} (Is : Reply M → Type 0) (on : List ℕ → Sess
   pub more : List Event
   pub events_are : events ≡ outputs written ++ more
   pub goes : Goes (on kept sitting machine) more result
-  pub decide_after_turn : AfterTurn more old new
+  pub further : AfterTurn more old new
 
 -- The last was `quit`.
 pub record HasQuit {M : Type 0} (Is : Reply M → Type 0) (events : List Event) (result : Result (Unit {0}) Status) (old new : Seen) : Type 0 where
@@ -217,7 +217,7 @@ has_failed :
     {M : Type 0} (Is : Reply M → Type 0) (reply : Reply M) (events : List Event) (result : Result (Unit {0}) Status) (old new : Seen)
     → Is reply → Unwrote (written_in reply) events result → Follow events old new → HasFailed Is events result old new
 has_failed Is reply events result old new is unwrote follow =
-    let on = decide_after_turn unwrote.handed (OutputFailed unwrote.failed ∷ []) old new (subst (λ e. Follow e old new) unwrote.events_are follow) in
+    let on = further unwrote.handed (OutputFailed unwrote.failed ∷ []) old new (subst (λ e. Follow e old new) unwrote.events_are follow) in
     record { reply = reply; is = is; unwrote = unwrote; input = last_failed unwrote.failed on.between new on.follow ∙ on.input }
 
 went_on :
@@ -234,7 +234,7 @@ went_on Is on written kept s m events result old new is follow (inl all) = inl (
   more = all.more;
   events_are = all.is;
   goes = all.goes;
-  decide_after_turn = decide_after_turn written all.more old new (subst (λ e. Follow e old new) all.is follow);
+  further = further written all.more old new (subst (λ e. Follow e old new) all.is follow);
 })
 went_on Is on written kept s m events result old new is follow (inr part) =
     inr (inr (inr (has_failed Is (All written kept s m) events result old new is part follow)))
@@ -249,7 +249,7 @@ ends_after :
     (pieces : List (List ℕ)) (value : Result (Unit {0}) Status) (more events : List Event) (result : Result (Unit {0}) Status) (old new : Seen)
     → events ≡ outputs pieces ++ more → more ≡ [] → result ≡ value → Follow events old new → EndsAfter pieces value events result old new
 ends_after pieces value more events result old new is none result_is follow =
-    let on = decide_after_turn pieces more old new (subst (λ e. Follow e old new) is follow) in record {
+    let on = further pieces more old new (subst (λ e. Follow e old new) is follow) in record {
       events_are = is ∙ ap (λ e. outputs pieces ++ e) none;
       result_is = result_is;
       input = nothing_more more on.between new none on.follow ∙ on.input;

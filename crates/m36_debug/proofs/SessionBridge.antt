@@ -43,7 +43,7 @@ got_piece piece most old new did some within = record {
 
 pub got_end : (old new : Seen) → IsInput [] old new → GotEnd (input_by old) (input_by new)
 got_end old new did = record {
-  answer_at_end = did.end refl;
+  at_end = did.end refl;
   left = did.left;
   gave = ap (λ s. s.inputs) did.rest;
   faults = ap (λ s. s.input_faults) did.rest;
@@ -173,7 +173,7 @@ at_last :
     → EndedSo o m before (input_by new) written events result
 at_last o m m1 before left begun sitting written events more result now between new g did is (inl on) =
     let last = done_after on.more result on.goes in
-    let same : input_by new ≡ input_by between = nothing_more on.more on.decide_after_turn.between new last.0 on.decide_after_turn.follow ∙ on.decide_after_turn.input in
+    let same : input_by new ≡ input_by between = nothing_more on.more on.further.between new last.0 on.further.follow ∙ on.further.input in
     record {
       ended = Ok tt;
       result_is = last.1;
@@ -239,9 +239,9 @@ at_piece :
 at_piece o m m1 before left taken rest begun piece sitting written events more result now between new tells size some g did is (inl on) =
     let got = got_piece piece (rest + length piece) now between did some (omega arith) in
     let next = going_on o m m1 on.machine before (input_by now) (input_by between) rest begun on.kept piece sitting on.sitting written on.written g got on.is in
-    let later = tells taken rest on.machine on.kept on.sitting (written ++ on.written) on.more result on.decide_after_turn.between new size
-    (subst (λ (i : LinesSeen). Going o m on.machine before i rest on.kept on.sitting (written ++ on.written)) (sym on.decide_after_turn.input) next)
-    on.goes on.decide_after_turn.follow in
+    let later = tells taken rest on.machine on.kept on.sitting (written ++ on.written) on.more result on.further.between new size
+    (subst (λ (i : LinesSeen). Going o m on.machine before i rest on.kept on.sitting (written ++ on.written)) (sym on.further.input) next)
+    on.goes on.further.follow in
     record {
       ended = later.ended;
       result_is = later.result_is;

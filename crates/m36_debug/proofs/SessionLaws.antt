@@ -51,7 +51,7 @@ pub record GotPiece (piece : List ℕ) (most : ℕ) (old new : LinesSeen) : Type
 
 -- the end of the input
 pub record GotEnd (old new : LinesSeen) : Type 0 where
-  pub answer_at_end : IsAtEnd old.left
+  pub at_end : IsAtEnd old.left
   pub left : old.left ≡ prepended [] new.left
   pub gave : new.given ≡ old.given ++ [] ∷ []
   pub faults : new.faults ≡ old.faults
@@ -269,7 +269,7 @@ going_too_long o m m' before now after begun piece sitting written g got =
 -- the input has ended
 has_ended : (now after : LinesSeen) (pieces : List (List ℕ)) → GotEnd now after → HasEnded (pieces ++ [] ∷ []) after
 has_ended now after pieces got =
-    record { before = pieces; last = refl; none = subst IsAtEnd (got.left ∙ sym (preceded_none after.left)) got.answer_at_end }
+    record { before = pieces; last = refl; none = subst IsAtEnd (got.left ∙ sym (preceded_none after.left)) got.at_end }
 
 -- the lines that were taken are a prefix of all lines
 took_open :

@@ -238,8 +238,8 @@ further_same :
     {M : Type 0} (o : MachineRelations M) (turn : Turn) (run : RunningCommand) (next : AfterTurn) (g : RegsFields) (s s' : SessionStateFields) (m' : M)
     → s' ≡ session_state_after s turn → g ≡ o.regs m' → next ≡ after_turn run (is_at_break g.ppr s'.breaks) turn
     → next ≡ next_of (o.regs m') s run turn
-further_same o turn run next g s s' m' noted regs decide_after_turn =
-    decide_after_turn
+further_same o turn run next g s s' m' noted regs further =
+    further
     ∙ ap (λ (h : RegsFields). after_turn run (is_at_break h.ppr s'.breaks) turn) regs
     ∙ ap (λ (t : SessionStateFields). after_turn run (is_at_break (o.regs m').ppr t.breaks) turn) noted
     ∙ ap (λ (b : List Break). after_turn run (is_at_break (o.regs m').ppr b) turn) (breaks_stay turn s)
@@ -249,8 +249,8 @@ pub took_turn :
     → taken ≡ s.taken → o.next m turn m' → s' ≡ session_state_after s turn → g ≡ o.regs m' → next ≡ after_turn run (is_at_break g.ppr s'.breaks) turn
     → PutsPieces put (command_lines run.command g taken s' turn next) old new → came ≡ turn_result put turn next
     → TurnContract o came (standing s (Running run)) m s' m' old new
-took_turn o put turn run next came g s s' taken m m' old new counted may noted regs decide_after_turn puts comes =
-    let same : next ≡ next_of (o.regs m') s run turn = further_same o turn run next g s s' m' noted regs decide_after_turn in
+took_turn o put turn run next came g s s' taken m m' old new counted may noted regs further puts comes =
+    let same : next ≡ next_of (o.regs m') s run turn = further_same o turn run next g s s' m' noted regs further in
     let lines : command_lines run.command g taken s' turn next ≡ running_turn_lines (o.regs m') s run turn =
     ap (λ (h : RegsFields). command_lines run.command h taken s' turn next) regs
     ∙ ap (λ (n : ℕ). command_lines run.command (o.regs m') n s' turn next) counted
@@ -271,15 +271,15 @@ pub took_counts :
     (put : Put) (turn : Turn) (run : RunningCommand) (b : Bool) (next : AfterTurn) (came : Came) (s s' : SessionStateFields)
     → s' ≡ session_state_after s turn → next ≡ after_turn run b turn → came ≡ turn_result put turn next
     → TurnChangesCounts came run.left s.taken s'.taken
-took_counts put turn run b next came s s' noted decide_after_turn comes =
-    subst (λ (c : Came). TurnChangesCounts c run.left s.taken s'.taken) (sym (comes ∙ ap (λ (f : AfterTurn). turn_result put turn f) decide_after_turn))
+took_counts put turn run b next came s s' noted further comes =
+    subst (λ (c : Came). TurnChangesCounts c run.left s.taken s'.taken) (sym (comes ∙ ap (λ (f : AfterTurn). turn_result put turn f) further))
     (subst (λ (t : SessionStateFields). TurnChangesCounts (turn_result put turn (after_turn run b turn)) run.left s.taken t.taken) (sym noted) (turn_counts put turn run b s))
 
 pub took_interrupted :
     {M : Type 0} (o : MachineRelations M) (put : Put) (turn : Turn) (run : RunningCommand) (b : Bool) (next : AfterTurn) (came : Came) (m m' : M)
     → o.next m turn m' → next ≡ after_turn run b turn → came ≡ turn_result put turn next → PrecludesStepIfNoneLeft o came m m'
-took_interrupted o put turn run b next came m m' may decide_after_turn comes =
-    subst (λ (c : Came). PrecludesStepIfNoneLeft o c m m') (sym (comes ∙ ap (λ (f : AfterTurn). turn_result put turn f) decide_after_turn))
+took_interrupted o put turn run b next came m m' may further comes =
+    subst (λ (c : Came). PrecludesStepIfNoneLeft o c m m') (sym (comes ∙ ap (λ (f : AfterTurn). turn_result put turn f) further))
     (turn_interrupted o put turn run b m m' may)
 
 pub took_stepped :
