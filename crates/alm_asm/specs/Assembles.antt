@@ -15,14 +15,16 @@ use Rattle.obj36_parts.specs.declared.section.Section.TheVariants.{Text}
 use Rattle.obj36_parts.specs.Fields.{LinkFields}
 use Rattle.obj36_parts.specs.PartsFields.{PartsFields}
 use Rattle.obj36_parts.specs.ObjectSegment.{definition_names, are_distinct, are_in_order}
-use Rattle.obj36_parts.specs.ObjectSegment.{version_of, rounded_up_to_even, first_link, sections_fit}
+use Rattle.obj36_parts.specs.ObjectSegment.{version_of, rounded_up_to_even, first_link}
+use Rattle.obj36_parts.specs.ObjectSegment.{sections_fit}
 use Rattle.obj36_parts.specs.Indexes.{same_link, has_link}
 use Rattle.alm_lines.specs.Symbols.{sum_named}
 use Rattle.alm_lines.specs.Arguments.{name_at, first_arg, symbol_in, section_in}
 use Rattle.alm_lines.specs.Spots.{start, count_in, here, end_of}
 use Rattle.alm_asm.specs.Links.{operand_args, link_in, links_from}
 use Rattle.alm_asm.specs.Words.{words_of_effect}
-use Rattle.alm_lines.specs.Layout.{defined_symbol, defined_symbol_sum, symbols_with_labels, symbols_from}
+use Rattle.alm_lines.specs.Layout.{defined_symbol, defined_symbol_sum, symbols_with_labels}
+use Rattle.alm_lines.specs.Layout.{symbols_from}
 use Rattle.alm_asm.specs.Definitions.{definitions_from}
 use Rattle.alm_asm.specs.LineRefusals.{is_static}
 use Rattle.alm_asm.specs.Assembly.{tables_of, static_section, relocations_of}
@@ -57,7 +59,8 @@ tables_of_source source = tables_of source.text source.lines
 -- the words that a line places: its instruction, numbers, characters, halves or zeros
 abbrev pub words_placed : Source → List Line36 → Line36 → List ℕ
 words_placed source above line =
-    words_of_effect source.text (tables_of_source source) (spot_after source above) line.args line.deed
+    words_of_effect source.text (tables_of_source source)
+    (spot_after source above) line.args line.deed
 
 -- whether the operation is `use` and this section, which it selects, is the static one
 abbrev pub enters_static : LineEffect → Section → Bool
@@ -151,7 +154,8 @@ LabelSumsAreTheirPlaces source =
 -- labels
 abbrev pub symbols_above : Source → List Line36 → Line36 → List (List ℕ × Sum)
 symbols_above source above line =
-    symbols_with_labels source.text (symbols_from source.text [] start above) (spot_after source above) line
+    symbols_with_labels source.text (symbols_from source.text [] start above)
+    (spot_after source above) line
 
 -- The sum of the symbol of each `equ` is its number by the symbols above, and that of each `bss` is
 -- the place of its line.
@@ -161,7 +165,8 @@ DefinedSymbolSums source =
     → (span : Span) → defined_symbol line.deed line.args ≡ Some span
     → sum_named (name_at source.text span) (tables_of_source source).symbols
     ≡ Some
-    (defined_symbol_sum source.text (symbols_above source above line) (spot_after source above) line line.deed)
+    (defined_symbol_sum source.text (symbols_above source above line)
+    (spot_after source above) line line.deed)
 
 -- whether an operand is external
 abbrev pub is_external : Option Arg → Bool
@@ -201,7 +206,8 @@ pub record Assembles (source : Source) (parts : PartsFields) : Type 0 where
   pub statics : PlacesStatics source parts
   pub text_length : length parts.text ≡ (spot_after source source.lines).text
   pub statics_length :
-      length parts.statics ≡ padded_static_count (tables_of_source source).uses_outer (static_count source)
+      length parts.statics ≡ padded_static_count (tables_of_source source).uses_outer
+      (static_count source)
   pub evening :
       OccursAfter (static_count source)
       (padding_words (tables_of_source source).uses_outer (static_count source)) parts.statics
@@ -214,7 +220,8 @@ pub record Assembles (source : Source) (parts : PartsFields) : Type 0 where
   -- operands refer to the links where the object has them
   pub links_at : (tables_of_source source).first_link ≡ first_link parts
   pub definitions :
-      parts.definitions ≡ definitions_from source.text (tables_of_source source).symbols [] source.lines
+      parts.definitions ≡ definitions_from source.text
+      (tables_of_source source).symbols [] source.lines
   pub distinct : are_distinct (definition_names parts.definitions) ≡ true
   pub relocations :
       parts.relocations ≡ relocations_of source.text (tables_of_source source) source.lines

@@ -11,7 +11,8 @@ use Rattle.obj36_parts.specs.declared.section.Section.TheVariants.{Text, Linkage
 use Rattle.obj36_parts.specs.Fields.{RelocFields}
 use Rattle.obj36_parts.specs.PartsFields.{PartsFields}
 use Rattle.obj36_parts.specs.ObjectSegment.{padded_to_even}
-use Rattle.obj36_parts.specs.ObjectSegment.{rounded_up_to_even, is_well_formed, first_link_in_version}
+use Rattle.obj36_parts.specs.ObjectSegment.{rounded_up_to_even, is_well_formed}
+use Rattle.obj36_parts.specs.ObjectSegment.{first_link_in_version}
 use Rattle.alm_lines.specs.Spots.{start, next_line_spot, end_of}
 use Rattle.alm_lines.specs.Refusals.{fault_of, earlier_refusal}
 use Rattle.alm_lines.specs.Layout.{symbols_from, layout_refusal}
@@ -124,7 +125,8 @@ refusal_of source = refusal_in source.text source.lines
 
 -- the tables of lines, unless a line is refused
 abbrev pub unless_refused : List ℕ → List Line36 → Option AlmRefusal → Result Tables AlmFault
-unless_refused text lines refusal = value_unless (option_map fault_of refusal) (tables_of text lines)
+unless_refused text lines refusal =
+    value_unless (option_map fault_of refusal) (tables_of text lines)
 
 -- the number of the last line, or 1
 unfoldable pub last_line : ℕ → List Line36 → ℕ
@@ -141,7 +143,8 @@ parts_if_well_formed parts number false = Err (E8 number 1)
 abbrev pub assembled_unless_refused : Source → Option AlmRefusal → Result PartsFields AlmFault
 assembled_unless_refused source (Some refusal) = Err (fault_of refusal)
 assembled_unless_refused source None =
-    parts_if_well_formed (parts_of source) (last_line 1 source.lines) (is_well_formed (parts_of source))
+    parts_if_well_formed (parts_of source) (last_line 1 source.lines)
+    (is_well_formed (parts_of source))
 
 -- the parts of the object of a source, or the fault of its first refusal
 unfoldable pub assembled : Source → Result PartsFields AlmFault

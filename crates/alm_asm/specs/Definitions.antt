@@ -47,7 +47,8 @@ definition_of_name text symbols is_entry span =
 
 -- the definition that an argument gives; only a symbol gives one
 abbrev pub definition_of_arg : List ℕ → List (List ℕ × Sum) → Bool → Arg → List Named
-definition_of_arg text symbols is_entry (arg.Symbol span) = definition_of_name text symbols is_entry span ∷ []
+definition_of_arg text symbols is_entry (arg.Symbol span) =
+    definition_of_name text symbols is_entry span ∷ []
 definition_of_arg text symbols is_entry (arg.Number word) = []
 definition_of_arg text symbols is_entry (arg.Chars words) = []
 definition_of_arg text symbols is_entry (arg.Plain terms) = []
@@ -157,7 +158,8 @@ names_refusal text symbols line is_entry done first (arg ∷ arguments) =
 
 -- As `names_refusal`, for a line that may define no names, which the last argument says. Then only
 -- `first` can refuse it.
-abbrev pub definitions_refusal : List ℕ → List (List ℕ × Sum) → Line36 → List Named → Option AlmRefusal
+abbrev pub definitions_refusal :
+    List ℕ → List (List ℕ × Sum) → Line36 → List Named → Option AlmRefusal
     → List Arg → Option Bool → Option AlmRefusal
 definitions_refusal text symbols line done first arguments None = first
 definitions_refusal text symbols line done first arguments (Some is_entry) =

@@ -78,7 +78,8 @@ with_definition_unless_refused None g name = with_definition g name
 -- the sizes with the definition of an argument; only a symbol gives one
 abbrev pub with_arg : List ℕ → List (List ℕ × Sum) → Line36 → Bool → Growth → Arg → Growth
 with_arg text symbols line is_entry g (arg.Symbol span) =
-    with_definition_unless_refused (sum_refusal line span.from is_entry (sum_named (name_at text span) symbols)) g
+    with_definition_unless_refused (sum_refusal line span.from is_entry
+    (sum_named (name_at text span) symbols)) g
     (name_at text span)
 with_arg text symbols line is_entry g (arg.Number word) = g
 with_arg text symbols line is_entry g (arg.Chars words) = g
@@ -154,7 +155,8 @@ half_count text symbols spot terms =
     (kind_of (sum_of text symbols spot terms))
 
 -- the number of relocations of the words that a line places
-abbrev pub line_relocation_count : List ℕ → List (List ℕ × Sum) → LocationCounter → List Arg → LineEffect → ℕ
+abbrev pub line_relocation_count :
+    List ℕ → List (List ℕ × Sum) → LocationCounter → List Arg → LineEffect → ℕ
 line_relocation_count text symbols spot arguments deed.Nothing = 0
 line_relocation_count text symbols spot arguments (deed.Instruction code bit27) =
     operand_count text symbols spot (first_arg arguments)
@@ -171,14 +173,16 @@ line_relocation_count text symbols spot arguments deed.Even = 0
 line_relocation_count text symbols spot arguments deed.Bound = 0
 
 -- the sizes with the relocations of a line
-unfoldable pub with_relocations : List ℕ → List (List ℕ × Sum) → LocationCounter → Line36 → Growth → Growth
+unfoldable pub with_relocations :
+    List ℕ → List (List ℕ × Sum) → LocationCounter → Line36 → Growth → Growth
 with_relocations text symbols spot line g =
     record g { symbol = g.symbol + line_relocation_count text symbols spot line.args line.deed }
 
 -- ---- lines
 
 -- the sizes with the definitions, the link and the relocations of a line
-unfoldable pub growth_after_line : List ℕ → List (List ℕ × Sum) → LocationCounter → Growth → Line36 → Growth
+unfoldable pub growth_after_line :
+    List ℕ → List (List ℕ × Sum) → LocationCounter → Growth → Line36 → Growth
 growth_after_line text symbols spot g line =
     with_relocations text symbols spot line
     (with_link_if_any (with_definitions text symbols line g (defines_entries line.deed))
@@ -193,13 +197,16 @@ has_section_over_limit spot g =
     || is_over_limit g.symbol
 
 -- the refusal of the first line with which one of these sections is too long
-unfoldable pub growth_refusal : List ℕ → List (List ℕ × Sum) → Growth → LocationCounter → List Line36
+unfoldable pub growth_refusal :
+    List ℕ → List (List ℕ × Sum) → Growth → LocationCounter → List Line36
     → Option AlmRefusal
 growth_refusal text symbols g spot [] = None
 growth_refusal text symbols g spot (line ∷ lines) =
-    if has_section_over_limit (next_line_spot text spot line) (growth_after_line text symbols spot g line) then Some
+    if has_section_over_limit (next_line_spot text spot line)
+    (growth_after_line text symbols spot g line) then Some
     (refusal_at line line.start E8)
-    else growth_refusal text symbols (growth_after_line text symbols spot g line) (next_line_spot text spot line)
+    else growth_refusal text symbols (growth_after_line text symbols spot g line)
+    (next_line_spot text spot line)
     lines
 
 -- ---- bounds of the growth

@@ -1,5 +1,6 @@
 -- Laws about places, symbols and parts of words.
-use Rattle.std.specs.Prelude.{ℕ, ◌≡◌, ◌%◌, ◌^◌, Bool, true, false, ◌&&◌, ◌||◌, nat_le, List, [], ◌∷◌}
+use Rattle.std.specs.Prelude.{ℕ, ◌≡◌, ◌%◌, ◌^◌, Bool, true, false, ◌&&◌, ◌||◌, nat_le, List, []}
+use Rattle.std.specs.Prelude.{◌∷◌}
 use Rattle.std.specs.Prelude.{◌++◌, length, Option, Some, None, is_some, Ok}
 use Rattle.alm_tokens.specs.Tokens.{slice_of}
 use Rattle.alm_parse.specs.SourceFields.{Source}
@@ -25,7 +26,8 @@ use Rattle.alm_lines.specs.Spots.{start, count_in, place, size_of, end_of}
 use Rattle.alm_lines.specs.SpotFields.{LocationCounter}
 use Rattle.alm_asm.specs.Links.{link_of, offset_of_link_in}
 use Rattle.alm_asm.specs.Relocations.{operand_part}
-use Rattle.alm_asm.specs.Words.{pointer_register_instruction, instruction_of_parts, halves_word, words_of_line, words_from}
+use Rattle.alm_asm.specs.Words.{pointer_register_instruction, instruction_of_parts, halves_word}
+use Rattle.alm_asm.specs.Words.{words_of_line, words_from}
 use Rattle.alm_lines.specs.Layout.{symbols_from}
 use Rattle.alm_lines.specs.Refusals.{fits_field}
 use Rattle.alm_lines.specs.declared.refusal.ValueField.TheVariants.{Offset}
@@ -87,7 +89,8 @@ pub record RelocatedPartsHoldValues : Type 0 where
       → part_of (operand_part None None)
       (inst_word (instruction_of_parts text tables spot code bit27 None None entry terms tag))
       ≡ half_of (sum_of text tables.symbols spot terms).value
-  pub through : (text : List ℕ) (tables : Tables) (spot : LocationCounter) (code : ℕ) (bit27 : Bool) (pr : ℕ)
+  pub through : (text : List ℕ) (tables : Tables) (spot : LocationCounter) (code : ℕ) (bit27 : Bool)
+      (pr : ℕ)
       (entry : Option Span) (terms : List Term) (tag : ℕ)
       → part_of (operand_part (Some pr) None)
       (inst_word (instruction_of_parts text tables spot code bit27 (Some pr) None entry terms tag))
@@ -95,7 +98,8 @@ pub record RelocatedPartsHoldValues : Type 0 where
   pub linked : (text : List ℕ) (tables : Tables) (spot : LocationCounter) (code : ℕ) (bit27 : Bool)
       (pr : Option ℕ) (segment : Span) (entry : Option Span) (terms : List Term) (tag : ℕ)
       → part_of (operand_part pr (Some segment))
-      (inst_word (instruction_of_parts text tables spot code bit27 pr (Some segment) entry terms tag))
+      (inst_word (instruction_of_parts text tables spot code bit27 pr
+      (Some segment) entry terms tag))
       ≡ offset_of_link_in tables.links tables.first_link
       (link_of text tables.symbols spot segment entry terms tag) % 2 ^ 15
   pub first : (text : List ℕ) (tables : Tables) (spot : LocationCounter) (arguments : List Arg)

@@ -70,7 +70,8 @@ may_name tables own = tables.uses_outer || not (needs_static own)
 
 -- Whether the link of an external operand is in the reach of `pr4|`: its offset in the linkage
 -- section is below 2^14.
-unfoldable pub is_in_reach : List ℕ → Tables → LocationCounter → Span → Option Span → List Term → ℕ → Bool
+unfoldable pub is_in_reach :
+    List ℕ → Tables → LocationCounter → Span → Option Span → List Term → ℕ → Bool
 is_in_reach text tables spot segment entry terms tag =
     nat_lt
     (offset_of_link_in tables.links tables.first_link
@@ -83,21 +84,24 @@ internal_operand_field (Some pr) = Offset
 internal_operand_field None = Half
 
 -- the refusal of the expression after an external name
-abbrev pub link_expression : List ℕ → List (List ℕ × Sum) → LocationCounter → Line36 → Span → Option Span
+abbrev pub link_expression :
+    List ℕ → List (List ℕ × Sum) → LocationCounter → Line36 → Span → Option Span
     → List Term → Option AlmRefusal
 link_expression text symbols spot line segment entry terms =
     number_refusal text symbols spot line terms (external_place segment entry)
 
 -- Whether the link of an external operand is in reach. An operand whose expression has no value is
 -- not a link, so its place is not checked.
-unfoldable pub link_is_in_reach : List ℕ → Tables → LocationCounter → Span → Option Span → List Term → ℕ → Bool
+unfoldable pub link_is_in_reach :
+    List ℕ → Tables → LocationCounter → Span → Option Span → List Term → ℕ → Bool
 link_is_in_reach text tables spot segment entry terms tag =
     not (has_number text tables.symbols spot terms)
     || is_in_reach text tables spot segment entry terms tag
 
 -- The refusal of an external operand: that of its expression; or E7 at its segment, if its link is
 -- out of reach or it names a static section that the lines do not have.
-abbrev pub external_refusal : List ℕ → Tables → LocationCounter → Line36 → Span → Option Span → List Term → ℕ
+abbrev pub external_refusal :
+    List ℕ → Tables → LocationCounter → Line36 → Span → Option Span → List Term → ℕ
     → Option AlmRefusal
 external_refusal text tables spot line segment entry terms tag =
     let at = refusal_at line segment.from E7 in
@@ -108,13 +112,15 @@ external_refusal text tables spot line segment entry terms tag =
     (refusal_unless (may_name tables (own_section (slice_of text segment))) at)
 
 -- the refusal of an operand that is an expression, without a segment
-abbrev pub internal_operand_refusal : List ℕ → Tables → LocationCounter → Line36 → ValueField → List Term → Option AlmRefusal
+abbrev pub internal_operand_refusal :
+    List ℕ → Tables → LocationCounter → Line36 → ValueField → List Term → Option AlmRefusal
 internal_operand_refusal text tables spot line room terms =
     expression_refusal text tables.symbols spot line terms (expression_place terms) room true
 
 -- the refusal of an operand with these parts: external if it names a segment, and otherwise an
 -- expression
-abbrev pub refusal_of_operand_parts : List ℕ → Tables → LocationCounter → Line36 → Option ℕ → Option Span → Option Span
+abbrev pub refusal_of_operand_parts :
+    List ℕ → Tables → LocationCounter → Line36 → Option ℕ → Option Span → Option Span
     → List Term → ℕ → Option AlmRefusal
 refusal_of_operand_parts text tables spot line pr (Some segment) entry terms tag =
     external_refusal text tables spot line segment entry terms tag
@@ -122,7 +128,8 @@ refusal_of_operand_parts text tables spot line pr None entry terms tag =
     internal_operand_refusal text tables spot line (internal_operand_field pr) terms
 
 -- the refusal of the operand of an instruction, if it has one; no other argument is refused here
-abbrev pub operand_refusal : List ℕ → Tables → LocationCounter → Line36 → Option Arg → Option AlmRefusal
+abbrev pub operand_refusal :
+    List ℕ → Tables → LocationCounter → Line36 → Option Arg → Option AlmRefusal
 operand_refusal text tables spot line (Some (arg.Symbol span)) = None
 operand_refusal text tables spot line (Some (arg.Number word)) = None
 operand_refusal text tables spot line (Some (arg.Chars words)) = None
@@ -143,7 +150,8 @@ may_select spot Static = not spot.uses_inner
 -- The refusal of an instruction: E7 at the operation outside the text, and those of its operand.
 abbrev pub instruction_refusal : List ℕ → Tables → LocationCounter → Line36 → Option AlmRefusal
 instruction_refusal text tables spot line =
-    earlier_refusal (refusal_unless (is_text_section spot.section) (refusal_at line (op_place line.op) E7))
+    earlier_refusal (refusal_unless (is_text_section spot.section)
+    (refusal_at line (op_place line.op) E7))
     (operand_refusal text tables spot line (first_arg line.args))
 
 -- the refusal of a `use` line: E7 at the operation, if the static words are in the other section
@@ -155,11 +163,13 @@ use_refusal text spot line =
 -- the first refusal of the two expressions of a `zero` line
 abbrev pub halves_refusal : List ℕ → Tables → LocationCounter → Line36 → Option AlmRefusal
 halves_refusal text tables spot line =
-    earlier_refusal (internal_operand_refusal text tables spot line Half (terms_in (first_arg line.args)))
+    earlier_refusal (internal_operand_refusal text tables spot line Half
+    (terms_in (first_arg line.args)))
     (internal_operand_refusal text tables spot line Half (terms_in (second_arg line.args)))
 
 -- the refusal of the operation of a line, apart from those of the names and symbols that it defines
-abbrev pub refusal_of_effect : List ℕ → Tables → LocationCounter → Line36 → LineEffect → Option AlmRefusal
+abbrev pub refusal_of_effect :
+    List ℕ → Tables → LocationCounter → Line36 → LineEffect → Option AlmRefusal
 refusal_of_effect text tables spot line deed.Nothing = None
 refusal_of_effect text tables spot line (deed.Instruction code bit27) =
     instruction_refusal text tables spot line
@@ -180,7 +190,8 @@ abbrev pub with_links : Tables → List LinkFields → Tables
 with_links tables links = record tables { links = links }
 
 -- the first refusal of a line: of its definitions or of its operation
-unfoldable pub line_refusal : List ℕ → Tables → List Named → LocationCounter → Line36 → Option AlmRefusal
+unfoldable pub line_refusal :
+    List ℕ → Tables → List Named → LocationCounter → Line36 → Option AlmRefusal
 line_refusal text tables done spot line =
     earlier_refusal
     (definitions_refusal text tables.symbols line done None line.args (defines_entries line.deed))
@@ -188,7 +199,8 @@ line_refusal text tables done spot line =
 
 -- The refusal of the first line that is refused. It is earlier in the text than those of all lines
 -- below.
-unfoldable pub lines_refusal : List ℕ → Tables → List Named → LocationCounter → List Line36 → Option AlmRefusal
+unfoldable pub lines_refusal :
+    List ℕ → Tables → List Named → LocationCounter → List Line36 → Option AlmRefusal
 lines_refusal text tables done spot [] = None
 lines_refusal text tables done spot (line ∷ lines) =
     option_or

@@ -1,6 +1,7 @@
 -- Values that are computed once for each line: that of its first argument, and the index of its
 -- link.
-use Rattle.std.specs.Prelude.{ℕ, ◌≡◌, ◌<◌, Bool, true, false, nat_lt, List, [], ◌∷◌, ◌++◌, length, Option, Some, None}
+use Rattle.std.specs.Prelude.{ℕ, ◌≡◌, ◌<◌, Bool, true, false, nat_lt, List, [], ◌∷◌, ◌++◌, length}
+use Rattle.std.specs.Prelude.{Option, Some, None}
 use Rattle.std.specs.List.{position}
 use Rattle.alm_parse.specs.declared.args.Arg.{Arg}
 use Rattle.alm_parse.specs.declared.line.Line36.{Line36}
@@ -20,7 +21,8 @@ index_in_links links None = None
 index_in_links links (Some link) = position (same_link link) links
 
 -- the values of a line: that of its first argument, and the index of its link
-unfoldable pub values_of_line : List ℕ → List (List ℕ × Sum) → List LinkFields → LocationCounter → Line36 → LineValues
+unfoldable pub values_of_line :
+    List ℕ → List (List ℕ × Sum) → List LinkFields → LocationCounter → Line36 → LineValues
 values_of_line text symbols links spot line =
     record {
       value = value_of_expression text symbols spot (terms_in (first_arg line.args));
@@ -40,7 +42,8 @@ with_values before [] seen = before
 with_values before (argument ∷ arguments) seen = before ++ seen ∷ []
 
 -- the values of the lines that have arguments, in order
-unfoldable pub values_from : List ℕ → List (List ℕ × Sum) → List LinkFields → LocationCounter → List Line36
+unfoldable pub values_from :
+    List ℕ → List (List ℕ × Sum) → List LinkFields → LocationCounter → List Line36
     → List LineValues
 values_from text symbols links spot [] = []
 values_from text symbols links spot (line ∷ lines) =

@@ -52,7 +52,8 @@ entry_name text (Some span) = name_at text span
 entry_name text None = []
 
 -- the link of an external operand
-unfoldable pub link_of : List ℕ → List (List ℕ × Sum) → LocationCounter → Span → Option Span → List Term → ℕ
+unfoldable pub link_of :
+    List ℕ → List (List ℕ × Sum) → LocationCounter → Span → Option Span → List Term → ℕ
     → LinkFields
 link_of text symbols spot segment entry terms tag =
     record {
@@ -82,7 +83,8 @@ operand_args deed.Bound arguments = []
 
 -- The link of an operand with these parts. It is a link if it names a segment and its expression
 -- has a value.
-abbrev pub link_of_parts : List ℕ → List (List ℕ × Sum) → LocationCounter → Option Span → Option Span → List Term → ℕ
+abbrev pub link_of_parts :
+    List ℕ → List (List ℕ × Sum) → LocationCounter → Option Span → Option Span → List Term → ℕ
     → Option LinkFields
 link_of_parts text symbols spot (Some segment) entry terms tag =
     if has_number text symbols spot terms
@@ -106,17 +108,20 @@ with_link links None = links
 with_link links (Some link) = appended_unless (has_link link links) links link
 
 -- the links with that of a line
-unfoldable pub links_after : List ℕ → List (List ℕ × Sum) → List LinkFields → LocationCounter → Line36
+unfoldable pub links_after :
+    List ℕ → List (List ℕ × Sum) → List LinkFields → LocationCounter → Line36
     → List LinkFields
 links_after text symbols links spot line =
     with_link links (link_in text symbols spot (first_arg (operand_args line.deed line.args)))
 
 -- the links of the lines, after those so far
-unfoldable pub links_from : List ℕ → List (List ℕ × Sum) → List LinkFields → LocationCounter → List Line36
+unfoldable pub links_from :
+    List ℕ → List (List ℕ × Sum) → List LinkFields → LocationCounter → List Line36
     → List LinkFields
 links_from text symbols links spot [] = links
 links_from text symbols links spot (line ∷ lines) =
-    links_from text symbols (links_after text symbols links spot line) (next_line_spot text spot line) lines
+    links_from text symbols (links_after text symbols links spot line)
+    (next_line_spot text spot line) lines
 
 -- ---- the place of a link
 

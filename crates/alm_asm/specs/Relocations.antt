@@ -52,17 +52,20 @@ abbrev pub operand_kind : Option Span → Sum → Kind
 operand_kind segment sum = operand_value_kind segment (kind_of sum)
 
 -- the relocation of the operand of an instruction, as a list, which is empty if it has none
-abbrev pub operand_relocation : List ℕ → List (List ℕ × Sum) → LocationCounter → Option Arg → List RelocFields
+abbrev pub operand_relocation :
+    List ℕ → List (List ℕ × Sum) → LocationCounter → Option Arg → List RelocFields
 operand_relocation text symbols spot (Some (arg.Symbol span)) = []
 operand_relocation text symbols spot (Some (arg.Number word)) = []
 operand_relocation text symbols spot (Some (arg.Chars words)) = []
 operand_relocation text symbols spot (Some (arg.Plain terms)) = []
 operand_relocation text symbols spot (Some (arg.Operand pr segment entry terms tag)) =
-    relocation_of_part spot (operand_part pr segment) (operand_kind segment (sum_of text symbols spot terms))
+    relocation_of_part spot (operand_part pr segment)
+    (operand_kind segment (sum_of text symbols spot terms))
 operand_relocation text symbols spot None = []
 
 -- the relocations, with those of the words of a line with this operation
-abbrev pub with_line_relocations : List ℕ → List (List ℕ × Sum) → LocationCounter → List RelocFields → List Arg → LineEffect
+abbrev pub with_line_relocations :
+    List ℕ → List (List ℕ × Sum) → LocationCounter → List RelocFields → List Arg → LineEffect
     → List RelocFields
 with_line_relocations text symbols spot marks arguments deed.Nothing = marks
 with_line_relocations text symbols spot marks arguments (deed.Instruction code bit27) =
@@ -74,14 +77,17 @@ with_line_relocations text symbols spot marks arguments deed.Use = marks
 with_line_relocations text symbols spot marks arguments deed.Words = marks
 with_line_relocations text symbols spot marks arguments deed.Zero =
     marks
-    ++ relocation_of_part spot left_part (kind_of (sum_of text symbols spot (terms_in (first_arg arguments))))
-    ++ relocation_of_part spot right_part (kind_of (sum_of text symbols spot (terms_in (second_arg arguments))))
+    ++ relocation_of_part spot left_part
+    (kind_of (sum_of text symbols spot (terms_in (first_arg arguments))))
+    ++ relocation_of_part spot right_part
+    (kind_of (sum_of text symbols spot (terms_in (second_arg arguments))))
 with_line_relocations text symbols spot marks arguments deed.Block = marks
 with_line_relocations text symbols spot marks arguments deed.Even = marks
 with_line_relocations text symbols spot marks arguments deed.Bound = marks
 
 -- the relocations, with those of the words of a line, if it is in this section
-unfoldable pub relocations_after : List ℕ → List (List ℕ × Sum) → Section → List RelocFields → LocationCounter
+unfoldable pub relocations_after :
+    List ℕ → List (List ℕ × Sum) → Section → List RelocFields → LocationCounter
     → Line36 → List RelocFields
 relocations_after text symbols section marks spot line =
     if same_section spot.section section
@@ -89,7 +95,8 @@ relocations_after text symbols section marks spot line =
     else marks
 
 -- the relocations of the lines in a section, after those so far
-unfoldable pub relocations_from : List ℕ → List (List ℕ × Sum) → Section → List RelocFields → LocationCounter
+unfoldable pub relocations_from :
+    List ℕ → List (List ℕ × Sum) → Section → List RelocFields → LocationCounter
     → List Line36 → List RelocFields
 relocations_from text symbols section marks spot [] = marks
 relocations_from text symbols section marks spot (line ∷ lines) =

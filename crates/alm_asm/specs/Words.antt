@@ -51,11 +51,13 @@ pointer_register_instruction code bit27 pr offset tag =
 -- The fields of an instruction whose operand is an expression: its value is the offset after a
 -- pointer register, or the address.
 abbrev pub internal_instruction : ℕ → Bool → Option ℕ → ℕ → ℕ → ℕ → InstFields
-internal_instruction code bit27 (Some pr) y offset tag = pointer_register_instruction code bit27 pr offset tag
+internal_instruction code bit27 (Some pr) y offset tag =
+    pointer_register_instruction code bit27 pr offset tag
 internal_instruction code bit27 None y offset tag = address_instruction code bit27 y tag
 
 -- The fields of an instruction with an operand of these parts. An external operand is `pr4|link,*`.
-abbrev pub instruction_of_parts : List ℕ → Tables → LocationCounter → ℕ → Bool → Option ℕ → Option Span → Option Span
+abbrev pub instruction_of_parts :
+    List ℕ → Tables → LocationCounter → ℕ → Bool → Option ℕ → Option Span → Option Span
     → List Term → ℕ → InstFields
 instruction_of_parts text tables spot code bit27 pr (Some segment) entry terms tag =
     pointer_register_instruction code bit27 linkage_register
@@ -66,11 +68,16 @@ instruction_of_parts text tables spot code bit27 pr None entry terms tag =
     (offset_of (sum_of text tables.symbols spot terms).value) tag
 
 -- The fields of an instruction with this argument. Without an operand its address and tag are 0.
-abbrev pub instruction_of_arg : List ℕ → Tables → LocationCounter → ℕ → Bool → Option Arg → InstFields
-instruction_of_arg text tables spot code bit27 (Some (arg.Symbol span)) = address_instruction code bit27 0 0
-instruction_of_arg text tables spot code bit27 (Some (arg.Number word)) = address_instruction code bit27 0 0
-instruction_of_arg text tables spot code bit27 (Some (arg.Chars words)) = address_instruction code bit27 0 0
-instruction_of_arg text tables spot code bit27 (Some (arg.Plain terms)) = address_instruction code bit27 0 0
+abbrev pub instruction_of_arg :
+    List ℕ → Tables → LocationCounter → ℕ → Bool → Option Arg → InstFields
+instruction_of_arg text tables spot code bit27 (Some (arg.Symbol span)) =
+    address_instruction code bit27 0 0
+instruction_of_arg text tables spot code bit27 (Some (arg.Number word)) =
+    address_instruction code bit27 0 0
+instruction_of_arg text tables spot code bit27 (Some (arg.Chars words)) =
+    address_instruction code bit27 0 0
+instruction_of_arg text tables spot code bit27 (Some (arg.Plain terms)) =
+    address_instruction code bit27 0 0
 instruction_of_arg text tables spot code bit27 (Some (arg.Operand pr segment entry terms tag)) =
     instruction_of_parts text tables spot code bit27 pr segment entry terms tag
 instruction_of_arg text tables spot code bit27 None = address_instruction code bit27 0 0
@@ -99,17 +106,20 @@ words_of_effect text tables spot arguments deed.Equ = []
 words_of_effect text tables spot arguments deed.Use = []
 words_of_effect text tables spot arguments deed.Words = words_of_args [] arguments
 words_of_effect text tables spot arguments deed.Zero = halves_word text tables spot arguments ∷ []
-words_of_effect text tables spot arguments deed.Block = replicate (number_in (second_arg arguments)) 0
+words_of_effect text tables spot arguments deed.Block =
+    replicate (number_in (second_arg arguments)) 0
 words_of_effect text tables spot arguments deed.Even = replicate (place spot % 2) 0
 words_of_effect text tables spot arguments deed.Bound = []
 
 -- the words that a line places in a section
 unfoldable pub words_of_line : List ℕ → Tables → Section → LocationCounter → Line36 → List ℕ
 words_of_line text tables section spot line =
-    if same_section spot.section section then words_of_effect text tables spot line.args line.deed else []
+    if same_section spot.section section then words_of_effect text tables spot line.args line.deed
+    else []
 
 -- the words of the lines in a section, after those so far
-unfoldable pub words_from : List ℕ → Tables → Section → List ℕ → LocationCounter → List Line36 → List ℕ
+unfoldable pub words_from :
+    List ℕ → Tables → Section → List ℕ → LocationCounter → List Line36 → List ℕ
 words_from text tables section words spot [] = words
 words_from text tables section words spot (line ∷ lines) =
     words_from text tables section (words ++ words_of_line text tables section spot line)

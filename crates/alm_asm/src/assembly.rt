@@ -12,7 +12,8 @@ ghost use Rattle.alm_asm.specs.LineRefusals.{lines_refusal};
 ghost use Rattle.alm_asm.specs.Links.{links_from};
 ghost use Rattle.alm_asm.specs.Growth.{first_growth, growth_refusal};
 ghost use Rattle.alm_asm.specs.Assembles.{Assembles};
-ghost use Rattle.alm_asm.specs.Assembly.{parts_if_well_formed, first_link, tables_of, parts_with, last_line};
+ghost use Rattle.alm_asm.specs.Assembly.{parts_if_well_formed, first_link, tables_of, parts_with};
+ghost use Rattle.alm_asm.specs.Assembly.{last_line};
 ghost use Rattle.alm_asm.specs.Assembly.{refusal_in, unless_refused, assembled};
 
 use crate::growth::growth_refusal;

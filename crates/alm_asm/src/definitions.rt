@@ -1,7 +1,8 @@
 //! Definitions: the names of `entry` and `segdef` lines in order, and their refusals.
 
 ghost use Rattle.std.specs.Prelude.{[], ◌∷◌, ◌++◌, ◌≡◌, Option, OnOk, IfOk};
-ghost use Rattle.alm_asm.specs.Definitions.{section_of, definition_of_name, definition_of_arg, with_names, defines_entries};
+ghost use Rattle.alm_asm.specs.Definitions.{section_of, definition_of_name, definition_of_arg};
+ghost use Rattle.alm_asm.specs.Definitions.{with_names, defines_entries};
 ghost use Rattle.alm_asm.specs.Definitions.{definitions_after, definitions_from};
 ghost use Rattle.alm_asm.specs.Definitions.{is_defined_name, is_label_kind, is_label, sum_refusal};
 ghost use Rattle.alm_asm.specs.Definitions.{name_refusal, arg_refusal, names_refusal};
@@ -55,7 +56,8 @@ fn push_named(
     arg: &Arg,
     done: &mut Defs,
 ) -> Result<(), NoMemory>
-    ensures { OnOk result (done.new ≡ done.old ++ definition_of_arg text.now symbols.now is_entry arg.now) }
+    ensures { OnOk result (done.new ≡ done.old ++ definition_of_arg text.now symbols.now is_entry
+        arg.now) }
 {
     match arg {
         Arg::Symbol(span) => done.push(definition_of_name(text, symbols, is_entry, *span)),

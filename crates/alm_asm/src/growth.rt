@@ -9,11 +9,14 @@ ghost use Rattle.alm_asm.specs.LineValues.{index_in_links, is_below, values_from
 ghost use Rattle.alm_lines.specs.Spots.{start, next_line_spot};
 ghost use Rattle.alm_asm.specs.Links.{operand_args, link_of_parts, link_in, links_from};
 ghost use Rattle.alm_asm.specs.Definitions.{defines_entries};
-ghost use Rattle.alm_asm.specs.Growth.{GrowsAtMost, first_growth, with_name, with_names, with_definition};
+ghost use Rattle.alm_asm.specs.Growth.{GrowsAtMost, first_growth, with_name, with_names};
+ghost use Rattle.alm_asm.specs.Growth.{with_definition};
 ghost use Rattle.alm_asm.specs.Growth.{with_arg, with_args, with_definitions};
 ghost use Rattle.alm_asm.specs.Growth.{with_new_link, with_link_once, with_link_if_any};
-ghost use Rattle.alm_asm.specs.Growth.{relocation_count, operand_field, is_internal, operand_count, half_count};
-ghost use Rattle.alm_asm.specs.Growth.{line_relocation_count, with_relocations, growth_after_line, has_section_over_limit, growth_refusal};
+ghost use Rattle.alm_asm.specs.Growth.{relocation_count, operand_field, is_internal, operand_count};
+ghost use Rattle.alm_asm.specs.Growth.{half_count};
+ghost use Rattle.alm_asm.specs.Growth.{line_relocation_count, with_relocations, growth_after_line};
+ghost use Rattle.alm_asm.specs.Growth.{has_section_over_limit, growth_refusal};
 
 use crate::definitions::{defines_entries, sum_refusal};
 use crate::line_refusal::internal_operand_field;
@@ -206,7 +209,8 @@ fn count_definitions(
     ensures larger { OnOk result (GrowsAtMost (11 * 2 ^ 64) growth.old growth.new) }
     ensures value { OnOk result
         (growth.new
-        ≡ with_definitions text.now symbols.now line.now growth.old (defines_entries line.now.deed)) }
+        ≡ with_definitions text.now symbols.now line.now growth.old
+        (defines_entries line.now.deed)) }
 {
     match defines_entries(line.deed) {
         None => Ok(()),
@@ -273,7 +277,8 @@ fn count_operand(
     growth: &mut Growth,
 ) -> Result<(), NoMemory>
     requires room { growth.old.definition ≤ 2 ^ 79 }
-    requires value { value ≡ value_of_expression text.now symbols.now spot (terms_in (first_arg args.now)) }
+    requires value { value ≡ value_of_expression text.now symbols.now spot
+        (terms_in (first_arg args.now)) }
     requires place { place
         ≡ index_in_links _links.now (link_in text.now symbols.now spot (first_arg args.now)) }
     requires first { AreFirst growth.old.links _links.now }
@@ -385,7 +390,8 @@ fn operand_count(
     args: &[Arg],
     value: Value,
 ) -> u64
-    requires { value ≡ value_of_expression text.now symbols.now spot (terms_in (first_arg args.now)) }
+    requires { value ≡ value_of_expression text.now symbols.now spot
+        (terms_in (first_arg args.now)) }
     ensures value { result ≡ operand_count text.now symbols.now spot (first_arg args.now) }
     ensures bound { result ≤ 1 }
 {
@@ -442,8 +448,10 @@ fn line_relocation_count(
     line: &Line36,
     value: Value,
 ) -> u64
-    requires { value ≡ value_of_expression text.now symbols.now spot (terms_in (first_arg line.now.args)) }
-    ensures value { result ≡ line_relocation_count text.now symbols.now spot line.now.args line.now.deed }
+    requires { value ≡ value_of_expression text.now symbols.now spot
+        (terms_in (first_arg line.now.args)) }
+    ensures value { result ≡ line_relocation_count text.now symbols.now spot line.now.args
+        line.now.deed }
     ensures bound { result ≤ 2 }
 {
     let args = line.args.items();
@@ -510,7 +518,8 @@ fn count_line(
     ensures value { OnOk result
         (growth.new ≡ growth_after_line text.now symbols.now spot growth.old line.now) }
     ensures links { OnOk result
-        (links_from text.now symbols.now growth.new.links (next_line_spot text.now spot line.now) _more.now
+        (links_from text.now symbols.now growth.new.links
+        (next_line_spot text.now spot line.now) _more.now
         ≡ links.now) }
 {
     count_definitions(text, symbols, line, growth)?;

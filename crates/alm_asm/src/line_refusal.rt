@@ -9,9 +9,11 @@ ghost use Rattle.obj36_parts.specs.ObjectSegment.{link_offset};
 ghost use Rattle.m36_word.specs.Field.{offset_limit};
 ghost use Rattle.alm_lines.specs.Spots.{start};
 ghost use Rattle.alm_asm.specs.Definitions.{definitions_after};
-ghost use Rattle.alm_asm.specs.LineRefusals.{refusal_unless, op_place, external_place, needs_static};
+ghost use Rattle.alm_asm.specs.LineRefusals.{refusal_unless, op_place, external_place};
+ghost use Rattle.alm_asm.specs.LineRefusals.{needs_static};
 ghost use Rattle.alm_asm.specs.LineRefusals.{may_name, internal_operand_field, link_expression};
-ghost use Rattle.alm_asm.specs.LineRefusals.{link_is_in_reach, external_refusal, internal_operand_refusal};
+ghost use Rattle.alm_asm.specs.LineRefusals.{link_is_in_reach, external_refusal};
+ghost use Rattle.alm_asm.specs.LineRefusals.{internal_operand_refusal};
 ghost use Rattle.alm_asm.specs.LineRefusals.{operand_refusal, may_select};
 ghost use Rattle.alm_asm.specs.LineRefusals.{instruction_refusal, use_refusal, halves_refusal};
 ghost use Rattle.alm_asm.specs.LineRefusals.{refusal_of_effect, line_refusal, lines_refusal};
@@ -141,7 +143,8 @@ fn link_is_in_reach(
     requires value { value ≡ value_of_expression text.now tables.now.symbols spot terms.now }
     requires place { place
         ≡ index_in_links tables.now.links
-        (link_of_parts text.now tables.now.symbols spot (Option.Some _segment) _entry terms.now _tag) }
+        (link_of_parts text.now tables.now.symbols spot
+        (Option.Some _segment) _entry terms.now _tag) }
     ensures { result ≡ link_is_in_reach text.now tables.now spot _segment _entry terms.now _tag }
 {
     let symbols = &tables.symbols;
@@ -222,7 +225,8 @@ fn operand_refusal(
     place: Option<u64>,
 ) -> Option<AlmRefusal>
     requires value { value
-        ≡ value_of_expression text.now tables.now.symbols spot (terms_in (first_arg line.now.args)) }
+        ≡ value_of_expression text.now tables.now.symbols spot
+        (terms_in (first_arg line.now.args)) }
     requires place { place
         ≡ index_in_links tables.now.links
         (link_in text.now tables.now.symbols spot (first_arg line.now.args)) }
@@ -281,7 +285,8 @@ fn instruction_refusal(
     place: Option<u64>,
 ) -> Option<AlmRefusal>
     requires value { value
-        ≡ value_of_expression text.now tables.now.symbols spot (terms_in (first_arg line.now.args)) }
+        ≡ value_of_expression text.now tables.now.symbols spot
+        (terms_in (first_arg line.now.args)) }
     requires place { place
         ≡ index_in_links tables.now.links
         (link_in text.now tables.now.symbols spot (first_arg line.now.args)) }
@@ -310,7 +315,8 @@ fn halves_refusal(
     value: Value,
 ) -> Option<AlmRefusal>
     requires { value
-        ≡ value_of_expression text.now tables.now.symbols spot (terms_in (first_arg line.now.args)) }
+        ≡ value_of_expression text.now tables.now.symbols spot
+        (terms_in (first_arg line.now.args)) }
     ensures { result ≡ halves_refusal text.now tables.now spot line.now }
 {
     let args = line.args.items();
@@ -350,7 +356,8 @@ fn refusal_of_effect(
     place: Option<u64>,
 ) -> Option<AlmRefusal>
     requires value { value
-        ≡ value_of_expression text.now tables.now.symbols spot (terms_in (first_arg line.now.args)) }
+        ≡ value_of_expression text.now tables.now.symbols spot
+        (terms_in (first_arg line.now.args)) }
     requires place { place
         ≡ index_in_links tables.now.links
         (link_in text.now tables.now.symbols spot (first_arg (operand_args deed line.now.args))) }
@@ -384,7 +391,8 @@ fn line_refusal(
     done: &mut Defs,
 ) -> Result<Option<AlmRefusal>, NoMemory>
     requires value { seen.now.value
-        ≡ value_of_expression text.now tables.now.symbols spot (terms_in (first_arg line.now.args)) }
+        ≡ value_of_expression text.now tables.now.symbols spot
+        (terms_in (first_arg line.now.args)) }
     requires place { seen.now.place
         ≡ index_in_links tables.now.links
         (link_in text.now tables.now.symbols spot

@@ -123,7 +123,8 @@ fn link_in(
     args: &[Arg],
     value: Value,
 ) -> Option<Link>
-    requires { value ≡ value_of_expression text.now symbols.now spot (terms_in (first_arg args.now)) }
+    requires { value ≡ value_of_expression text.now symbols.now spot
+        (terms_in (first_arg args.now)) }
     ensures { result ≡ link_in text.now symbols.now spot (first_arg args.now) }
 {
     match args {
@@ -189,7 +190,8 @@ pub fn add_link_of_line(
     line: &Line36,
     value: Value,
 ) -> Result<Option<u64>, NoMemory>
-    requires { value ≡ value_of_expression text.now symbols.now spot (terms_in (first_arg line.now.args)) }
+    requires { value ≡ value_of_expression text.now symbols.now spot
+        (terms_in (first_arg line.now.args)) }
     ensures links { OnOk result
         (links.new ≡ links_after text.now symbols.now links.old spot line.now) }
     ensures place { IfOk result (λ place.

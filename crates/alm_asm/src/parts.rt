@@ -7,7 +7,8 @@ ghost use Rattle.obj36_parts.specs.declared.section.Section.TheVariants.{Text};
 ghost use Rattle.alm_asm.specs.Words.{words_from};
 ghost use Rattle.alm_asm.specs.Definitions.{definitions_from};
 ghost use Rattle.alm_asm.specs.Parts.{parts_from_tables};
-ghost use Rattle.alm_asm.specs.Assembly.{bound_after_line, bound_from, static_section, relocations_of, padded_statics, parts_with};
+ghost use Rattle.alm_asm.specs.Assembly.{bound_after_line, bound_from, static_section};
+ghost use Rattle.alm_asm.specs.Assembly.{relocations_of, padded_statics, parts_with};
 
 use crate::definitions::definitions_of;
 use crate::relocations::push_relocations_in;
@@ -201,7 +202,8 @@ struct Contents {
 // The parts of the object, which take the links from the tables.
 fn parts_of(tables: Tables, contents: Contents) -> Parts
     requires { contents.entry_bound < 2 ^ 18 }
-    ensures { result ≡ parts_from_tables tables contents.placed contents.noted contents.entry_bound }
+    ensures { result ≡ parts_from_tables tables contents.placed contents.noted
+        contents.entry_bound }
 {
     Parts {
         text: contents.placed.text,

@@ -8,7 +8,8 @@ ghost use Rattle.alm_lines.specs.Values.{value_of_expression};
 ghost use Rattle.alm_asm.specs.LineValues.{values_from};
 ghost use Rattle.alm_lines.specs.Spots.{start};
 ghost use Rattle.alm_parse.specs.declared.deed.LineEffect.TheVariants as deed;
-ghost use Rattle.alm_asm.specs.Relocations.{relocation_of_part, operand_part, operand_value_kind, operand_relocation, with_line_relocations};
+ghost use Rattle.alm_asm.specs.Relocations.{relocation_of_part, operand_part, operand_value_kind};
+ghost use Rattle.alm_asm.specs.Relocations.{operand_relocation, with_line_relocations};
 ghost use Rattle.alm_asm.specs.Relocations.{relocations_after, relocations_from};
 
 use crate::links::same_section;
@@ -78,9 +79,11 @@ fn push_operand(
     value: Value,
     marks: &mut Relocs,
 ) -> Result<(), NoMemory>
-    requires { value ≡ value_of_expression text.now symbols.now spot (terms_in (first_arg args.now)) }
+    requires { value ≡ value_of_expression text.now symbols.now spot
+        (terms_in (first_arg args.now)) }
     ensures { OnOk result
-        (marks.new ≡ marks.old ++ operand_relocation text.now symbols.now spot (first_arg args.now)) }
+        (marks.new ≡ marks.old ++ operand_relocation text.now symbols.now spot
+        (first_arg args.now)) }
 {
     match args {
         [
@@ -114,7 +117,8 @@ fn push_halves(
     value: Value,
     marks: &mut Relocs,
 ) -> Result<(), NoMemory>
-    requires { value ≡ value_of_expression text.now symbols.now spot (terms_in (first_arg args.now)) }
+    requires { value ≡ value_of_expression text.now symbols.now spot
+        (terms_in (first_arg args.now)) }
     ensures { OnOk result
         (marks.new ≡ with_line_relocations text.now symbols.now spot marks.old args.now deed.Zero) }
 {
@@ -136,8 +140,10 @@ fn push_relocations(
     deed: LineEffect,
     marks: &mut Relocs,
 ) -> Result<(), NoMemory>
-    requires { value ≡ value_of_expression text.now symbols.now spot (terms_in (first_arg args.now)) }
-    ensures { OnOk result (marks.new ≡ with_line_relocations text.now symbols.now spot marks.old args.now deed) }
+    requires { value ≡ value_of_expression text.now symbols.now spot
+        (terms_in (first_arg args.now)) }
+    ensures { OnOk result (marks.new ≡ with_line_relocations text.now symbols.now spot marks.old
+        args.now deed) }
 {
     match deed {
         LineEffect::Instruction(_, _) => push_operand(text, symbols, spot, args, value, marks),
@@ -165,7 +171,8 @@ fn push_line_relocations(
     value: Value,
     marks: &mut Relocs,
 ) -> Result<(), NoMemory>
-    requires { value ≡ value_of_expression text.now symbols.now spot (terms_in (first_arg line.now.args)) }
+    requires { value ≡ value_of_expression text.now symbols.now spot
+        (terms_in (first_arg line.now.args)) }
     ensures { OnOk result
         (marks.new ≡ relocations_after text.now symbols.now section marks.old spot line.now) }
 {
@@ -191,7 +198,8 @@ pub fn push_relocations_in(
     requires seen { seen.now
         ≡ values_from text.now tables.now.symbols tables.now.links start lines.now }
     ensures { OnOk result
-        (marks.new ≡ relocations_from text.now tables.now.symbols section marks.old start lines.now) }
+        (marks.new ≡ relocations_from text.now tables.now.symbols section marks.old start
+        lines.now) }
 {
     let mut spot = LocationCounter::start();
     let mut rest = lines;

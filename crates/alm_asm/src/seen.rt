@@ -89,7 +89,8 @@ fn compute_line_values(
     ensures links { OnOk result
         (links.new ≡ links_after text.now symbols.now links.old spot line.now) }
     ensures value { IfOk result (λ seen.
-        seen.value ≡ value_of_expression text.now symbols.now spot (terms_in (first_arg line.now.args))) }
+        seen.value ≡ value_of_expression text.now symbols.now spot
+        (terms_in (first_arg line.now.args))) }
     ensures place { IfOk result (λ seen.
         seen.place
         ≡ index_in_links links.new
@@ -162,7 +163,8 @@ fn next_without_args<'a>(
         (link_in _text.now _symbols.now _spot
         (first_arg (operand_args _line.now.deed _line.now.args))) }
     ensures later { result.1.now
-        ≡ values_from _text.now _symbols.now _links.now (next_line_spot _text.now _spot _line.now) _more.now }
+        ≡ values_from _text.now _symbols.now _links.now
+        (next_line_spot _text.now _spot _line.now) _more.now }
 {
     let nothing = LineValues {
         value: empty_expression_value(),
@@ -192,7 +194,8 @@ fn next_with_args<'a>(
         (link_in _text.now _symbols.now _spot
         (first_arg (operand_args _line.now.deed _line.now.args))) }
     ensures later { result.1.now
-        ≡ values_from _text.now _symbols.now _links.now (next_line_spot _text.now _spot _line.now) _more.now }
+        ≡ values_from _text.now _symbols.now _links.now
+        (next_line_spot _text.now _spot _line.now) _more.now }
 {
     match left {
         [seen, later @ ..] => (*seen, later),
@@ -219,7 +222,8 @@ pub fn next_values<'a>(
         (link_in text.now symbols.now spot
         (first_arg (operand_args line.now.deed line.now.args))) }
     ensures later { result.1.now
-        ≡ values_from text.now symbols.now links.now (next_line_spot text.now spot line.now) more.now }
+        ≡ values_from text.now symbols.now links.now
+        (next_line_spot text.now spot line.now) more.now }
 {
     if line.args.items().is_empty() {
         next_without_args(text, symbols, links, spot, line, more, left)

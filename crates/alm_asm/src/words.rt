@@ -6,9 +6,12 @@ ghost use Rattle.alm_lines.specs.Arguments.{first_arg, terms_in};
 ghost use Rattle.alm_lines.specs.Values.{value_of_expression};
 ghost use Rattle.alm_asm.specs.LineValues.{index_in_links, values_from};
 ghost use Rattle.alm_lines.specs.Spots.{start};
-ghost use Rattle.alm_asm.specs.Links.{link_of, link_of_parts, link_in, offset_of_link_in, operand_args};
-ghost use Rattle.alm_asm.specs.Words.{address_instruction, pointer_register_instruction, internal_instruction, instruction_of_arg};
-ghost use Rattle.alm_asm.specs.Words.{instruction_word, halves_word, words_of_effect, words_of_line};
+ghost use Rattle.alm_asm.specs.Links.{link_of, link_of_parts, link_in, offset_of_link_in};
+ghost use Rattle.alm_asm.specs.Links.{operand_args};
+ghost use Rattle.alm_asm.specs.Words.{address_instruction, pointer_register_instruction};
+ghost use Rattle.alm_asm.specs.Words.{internal_instruction, instruction_of_arg};
+ghost use Rattle.alm_asm.specs.Words.{instruction_word, halves_word, words_of_effect};
+ghost use Rattle.alm_asm.specs.Words.{words_of_line};
 ghost use Rattle.alm_asm.specs.Words.{words_from, instruction_of_parts};
 
 use crate::links::{link_of, offset_of_link, offset_of_link_in, same_section};
@@ -121,7 +124,8 @@ fn external_inst(
         ≡ index_in_links tables.now.links
         (link_of_parts text.now tables.now.symbols spot (Option.Some segment) entry terms.now tag) }
     ensures { result
-        ≡ instruction_of_parts text.now tables.now spot operation.code operation.bit27 None (Some segment) entry
+        ≡ instruction_of_parts text.now tables.now spot operation.code operation.bit27 None
+        (Some segment) entry
         terms.now tag }
 {
     let offset = external_offset(text, tables, spot, segment, entry, terms, tag, value, place);
@@ -142,7 +146,8 @@ fn internal_operand_instruction(
 ) -> Inst
     requires { value ≡ value_of_expression _text.now _tables.now.symbols _spot _terms.now }
     ensures { result
-        ≡ instruction_of_parts _text.now _tables.now _spot operation.code operation.bit27 pr None None
+        ≡ instruction_of_parts _text.now _tables.now _spot operation.code operation.bit27 pr None
+        None
         _terms.now tag }
 {
     internal_instruction(operation, pr, value, tag)
@@ -165,7 +170,8 @@ fn instruction_of_arg(
         ≡ index_in_links tables.now.links
         (link_in text.now tables.now.symbols spot (first_arg args.now)) }
     ensures { result
-        ≡ instruction_of_arg text.now tables.now spot operation.code operation.bit27 (first_arg args.now) }
+        ≡ instruction_of_arg text.now tables.now spot operation.code operation.bit27
+        (first_arg args.now) }
 {
     match args {
         [
@@ -292,7 +298,8 @@ fn push_line_words(
     words: &mut Words,
 ) -> Result<(), NoMemory>
     requires value { seen.now.value
-        ≡ value_of_expression text.now tables.now.symbols spot (terms_in (first_arg line.now.args)) }
+        ≡ value_of_expression text.now tables.now.symbols spot
+        (terms_in (first_arg line.now.args)) }
     requires place { seen.now.place
         ≡ index_in_links tables.now.links
         (link_in text.now tables.now.symbols spot

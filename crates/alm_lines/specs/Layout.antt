@@ -65,7 +65,8 @@ equ_refusal text symbols spot line =
 
 -- the refusal of the value of the symbol that an operation defines: that of the expression of an
 -- `equ`
-abbrev pub defined_symbol_refusal : List ℕ → List (List ℕ × Sum) → LocationCounter → Line36 → LineEffect → Option AlmRefusal
+abbrev pub defined_symbol_refusal :
+    List ℕ → List (List ℕ × Sum) → LocationCounter → Line36 → LineEffect → Option AlmRefusal
 defined_symbol_refusal text symbols spot line deed.Nothing = None
 defined_symbol_refusal text symbols spot line (deed.Instruction code bit27) = None
 defined_symbol_refusal text symbols spot line deed.Entry = None
@@ -103,7 +104,8 @@ equ_sum text symbols spot line =
     (sum_of text symbols spot (terms_in (second_arg line.args)))
 
 -- the sum of the symbol that an operation defines: the number of an `equ`, or the place of the line
-abbrev pub defined_symbol_sum : List ℕ → List (List ℕ × Sum) → LocationCounter → Line36 → LineEffect → Sum
+abbrev pub defined_symbol_sum :
+    List ℕ → List (List ℕ × Sum) → LocationCounter → Line36 → LineEffect → Sum
 defined_symbol_sum text symbols spot line deed.Nothing = here spot
 defined_symbol_sum text symbols spot line (deed.Instruction code bit27) = here spot
 defined_symbol_sum text symbols spot line deed.Entry = here spot
@@ -117,24 +119,29 @@ defined_symbol_sum text symbols spot line deed.Even = here spot
 defined_symbol_sum text symbols spot line deed.Bound = here spot
 
 -- the symbols with that which an operation defines, if it defines one
-abbrev pub with_defined_symbol : List ℕ → List (List ℕ × Sum) → Option Span → Sum → List (List ℕ × Sum)
+abbrev pub with_defined_symbol :
+    List ℕ → List (List ℕ × Sum) → Option Span → Sum → List (List ℕ × Sum)
 with_defined_symbol text symbols None sum = symbols
 with_defined_symbol text symbols (Some span) sum = with_symbol symbols (name_at text span) sum
 
 -- the refusal of the symbol that an operation defines, if it is defined already
-abbrev pub own_redefinition : List ℕ → Line36 → List (List ℕ × Sum) → Option Span → Option AlmRefusal
+abbrev pub own_redefinition :
+    List ℕ → Line36 → List (List ℕ × Sum) → Option Span → Option AlmRefusal
 own_redefinition text line symbols None = None
 own_redefinition text line symbols (Some span) = redefinition text line symbols span
 
 -- the symbols with that which the operation of a line defines, if it defines one
-unfoldable pub symbols_with_defined : List ℕ → List (List ℕ × Sum) → LocationCounter → Line36 → LineEffect
+unfoldable pub symbols_with_defined :
+    List ℕ → List (List ℕ × Sum) → LocationCounter → Line36 → LineEffect
     → List (List ℕ × Sum)
 symbols_with_defined text symbols spot line deed =
-    with_defined_symbol text symbols (defined_symbol deed line.args) (defined_symbol_sum text symbols spot line deed)
+    with_defined_symbol text symbols (defined_symbol deed line.args)
+    (defined_symbol_sum text symbols spot line deed)
 
 -- the refusal of the symbol that the operation of a line defines: it is defined already, or its
 -- value is refused
-unfoldable pub definition_refusal : List ℕ → List (List ℕ × Sum) → LocationCounter → Line36 → LineEffect → Option AlmRefusal
+unfoldable pub definition_refusal :
+    List ℕ → List (List ℕ × Sum) → LocationCounter → Line36 → LineEffect → Option AlmRefusal
 definition_refusal text symbols spot line deed =
     earlier_refusal (own_redefinition text line symbols (defined_symbol deed line.args))
     (defined_symbol_refusal text symbols spot line deed)
@@ -144,20 +151,24 @@ definition_refusal text symbols spot line deed =
 -- the refusal (E8) of a section with more words than it may have, at the line that makes it too
 -- long
 unfoldable pub over_limit_refusal : Line36 → LocationCounter → Option AlmRefusal
-over_limit_refusal line spot = if is_over_limit (count spot) then Some (refusal_at line line.start E8) else None
+over_limit_refusal line spot =
+    if is_over_limit (count spot) then Some (refusal_at line line.start E8) else None
 
 -- the symbols with the labels of a line
-abbrev pub symbols_with_labels : List ℕ → List (List ℕ × Sum) → LocationCounter → Line36 → List (List ℕ × Sum)
+abbrev pub symbols_with_labels :
+    List ℕ → List (List ℕ × Sum) → LocationCounter → Line36 → List (List ℕ × Sum)
 symbols_with_labels text symbols spot line = with_labels text (here spot) symbols line.labels
 
 -- the symbols with those that a line defines
-unfoldable pub symbols_after : List ℕ → List (List ℕ × Sum) → LocationCounter → Line36 → List (List ℕ × Sum)
+unfoldable pub symbols_after :
+    List ℕ → List (List ℕ × Sum) → LocationCounter → Line36 → List (List ℕ × Sum)
 symbols_after text symbols spot line =
     symbols_with_defined text (symbols_with_labels text symbols spot line) spot line line.deed
 
 -- the first in the text of `first`, the refusals of the symbols of a line, and that of a section
 -- that it makes too long
-unfoldable pub refusal_after : List ℕ → Option AlmRefusal → List (List ℕ × Sum) → LocationCounter → Line36
+unfoldable pub refusal_after :
+    List ℕ → Option AlmRefusal → List (List ℕ × Sum) → LocationCounter → Line36
     → Option AlmRefusal
 refusal_after text first symbols spot line =
     earlier_refusal
@@ -176,7 +187,8 @@ symbols_from text symbols spot (line ∷ lines) =
 
 -- the first in the text of the refusal `first`, those of the definitions of the lines, and those of
 -- sections that are too long
-unfoldable pub layout_refusal : List ℕ → Option AlmRefusal → List (List ℕ × Sum) → LocationCounter → List Line36
+unfoldable pub layout_refusal :
+    List ℕ → Option AlmRefusal → List (List ℕ × Sum) → LocationCounter → List Line36
     → Option AlmRefusal
 layout_refusal text first symbols spot [] = first
 layout_refusal text first symbols spot (line ∷ lines) =

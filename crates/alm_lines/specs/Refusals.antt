@@ -76,7 +76,8 @@ is_kind_allowed may_move Inexpressible = false
 
 -- whether a sum fits a field and an object can express it there
 unfoldable pub is_expressible : ValueField → Bool → Sum → Bool
-is_expressible room may_move sum = fits_field room sum.value && is_kind_allowed may_move (kind_of sum)
+is_expressible room may_move sum =
+    fits_field room sum.value && is_kind_allowed may_move (kind_of sum)
 
 -- The refusal of an expression that begins at `place`: E6 at its first symbol that is not defined,
 -- if there is one, and otherwise E7, unless `said`: an object can express its value.
@@ -88,7 +89,8 @@ refusal_unless_expressible line None place false = Some (refusal_at line place E
 -- The refusal of an expression that begins at `place`: E6 at its first symbol that is not defined,
 -- or otherwise E7 if its value does not fit. A value that depends on a refused `equ` is not
 -- refused.
-unfoldable pub expression_refusal : List ℕ → List (List ℕ × Sum) → LocationCounter → Line36 → List Term → ℕ
+unfoldable pub expression_refusal :
+    List ℕ → List (List ℕ × Sum) → LocationCounter → Line36 → List Term → ℕ
     → ValueField → Bool → Option AlmRefusal
 expression_refusal text symbols spot line terms place room may_move =
     let sum = sum_of text symbols spot terms in

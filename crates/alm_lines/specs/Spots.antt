@@ -122,9 +122,11 @@ next_spot text (deed.Instruction code bit27) arguments spot =
 next_spot text deed.Entry arguments spot = spot
 next_spot text deed.Segdef arguments spot = spot
 next_spot text deed.Equ arguments spot = spot
-next_spot text deed.Words arguments spot = plus_words spot (size_of deed.Words arguments (place spot))
+next_spot text deed.Words arguments spot =
+    plus_words spot (size_of deed.Words arguments (place spot))
 next_spot text deed.Zero arguments spot = plus_words spot (size_of deed.Zero arguments (place spot))
-next_spot text deed.Block arguments spot = plus_words spot (size_of deed.Block arguments (place spot))
+next_spot text deed.Block arguments spot =
+    plus_words spot (size_of deed.Block arguments (place spot))
 next_spot text deed.Even arguments spot = plus_words spot (size_of deed.Even arguments (place spot))
 next_spot text deed.Bound arguments spot = spot
 

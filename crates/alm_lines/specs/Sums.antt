@@ -106,7 +106,8 @@ kind_of s =
     then Moved Text
     else (if is_zero s.text && is_one s.inner && is_zero s.outer
     then Moved Linkage
-    else (if is_zero s.text && is_zero s.inner && is_one s.outer then Moved Static else Inexpressible)))
+    else (if is_zero s.text && is_zero s.inner && is_one s.outer then Moved Static else
+    Inexpressible)))
 
 -- ---- bounds of sums
 

@@ -4,7 +4,8 @@ use Rattle.alm_tokens.specs.declared.expression.Term.{Term}
 use Rattle.alm_parse.specs.declared.line.Line36.{Line36}
 use Rattle.alm_lines.specs.Sums.{half_of, offset_of, kind_of}
 use Rattle.alm_lines.specs.Expressions.{sum_of, first_undefined_place}
-use Rattle.alm_lines.specs.Refusals.{fits_field, is_kind_allowed, is_expressible, refusal_unless_expressible}
+use Rattle.alm_lines.specs.Refusals.{fits_field, is_kind_allowed, is_expressible}
+use Rattle.alm_lines.specs.Refusals.{refusal_unless_expressible}
 use Rattle.alm_lines.specs.declared.sum.Sum.{Sum}
 use Rattle.alm_lines.specs.declared.refusal.ValueField.{ValueField}
 use Rattle.alm_lines.specs.declared.refusal.ValueField.TheVariants.{Half, Offset}
@@ -26,7 +27,8 @@ value_of_sum sum undefined =
     }
 
 -- the value of an expression
-unfoldable pub value_of_expression : List ℕ → List (List ℕ × Sum) → LocationCounter → List Term → ValueFields
+unfoldable pub value_of_expression :
+    List ℕ → List (List ℕ × Sum) → LocationCounter → List Term → ValueFields
 value_of_expression text symbols spot terms =
     value_of_sum (sum_of text symbols spot terms) (first_undefined_place text symbols terms)
 
@@ -37,7 +39,8 @@ fits_value_field Offset value = value.fits_offset
 
 -- whether a value fits a field and an object can express it there
 abbrev pub value_is_expressible : ValueField → Bool → ValueFields → Bool
-value_is_expressible room may_move value = fits_value_field room value && is_kind_allowed may_move value.kind
+value_is_expressible room may_move value =
+    fits_value_field room value && is_kind_allowed may_move value.kind
 
 -- whether an expression with this value is not refused, and does not depend on a refused `equ`
 abbrev pub is_usable_value : ValueField → Bool → ValueFields → Bool
@@ -45,7 +48,8 @@ is_usable_value room may_move value =
     not (is_some value.undefined) && not value.unknown && value_is_expressible room may_move value
 
 -- Whether an expression has a value: it is not refused, and it does not depend on a refused `equ`.
-unfoldable pub has_value : List ℕ → List (List ℕ × Sum) → LocationCounter → List Term → ValueField → Bool → Bool
+unfoldable pub has_value :
+    List ℕ → List (List ℕ × Sum) → LocationCounter → List Term → ValueField → Bool → Bool
 has_value text symbols spot terms room may_move =
     let sum = sum_of text symbols spot terms in
     not (is_some (first_undefined_place text symbols terms)) && not sum.unknown
@@ -58,4 +62,5 @@ has_number text symbols spot terms = has_value text symbols spot terms Half fals
 -- the refusal of an expression that begins at `place` and has this value
 abbrev pub evaluated_refusal : Line36 → ValueFields → ℕ → ValueField → Bool → Option AlmRefusal
 evaluated_refusal line value place room may_move =
-    refusal_unless_expressible line value.undefined place (value.unknown || value_is_expressible room may_move value)
+    refusal_unless_expressible line value.undefined place
+    (value.unknown || value_is_expressible room may_move value)

@@ -9,9 +9,12 @@ ghost use Rattle.alm_lines.specs.Spots.{start, next_line_spot, HasRoomForLines};
 ghost use Rattle.alm_lines.specs.Refusals.{earlier_refusal, fits_field};
 ghost use Rattle.alm_lines.specs.declared.refusal.ValueField.TheVariants.{Half};
 ghost use Rattle.alm_lines.specs.Layout.{redefinition, with_labels, labels_refusal, defined_symbol};
-ghost use Rattle.alm_lines.specs.Layout.{defined_symbol_refusal, equ_refusal, number_sum, number_or_unknown, equ_sum};
-ghost use Rattle.alm_lines.specs.Layout.{defined_symbol_sum, with_defined_symbol, own_redefinition, symbols_with_defined, definition_refusal};
-ghost use Rattle.alm_lines.specs.Layout.{over_limit_refusal, symbols_after, refusal_after, symbols_from};
+ghost use Rattle.alm_lines.specs.Layout.{defined_symbol_refusal, equ_refusal, number_sum};
+ghost use Rattle.alm_lines.specs.Layout.{number_or_unknown, equ_sum};
+ghost use Rattle.alm_lines.specs.Layout.{defined_symbol_sum, with_defined_symbol, own_redefinition};
+ghost use Rattle.alm_lines.specs.Layout.{symbols_with_defined, definition_refusal};
+ghost use Rattle.alm_lines.specs.Layout.{over_limit_refusal, symbols_after, refusal_after};
+ghost use Rattle.alm_lines.specs.Layout.{symbols_from};
 ghost use Rattle.alm_lines.specs.Layout.{layout_refusal};
 
 use crate::arguments::{first_symbol, name_at, second_terms};
@@ -251,7 +254,8 @@ fn define_symbol_of_line(
     line: &Line36,
     deed: LineEffect,
 ) -> Result<(), NoMemory>
-    ensures { OnOk result (symbols.new ≡ symbols_with_defined text.now symbols.old spot line.now deed) }
+    ensures { OnOk result (symbols.new ≡ symbols_with_defined text.now symbols.old spot line.now
+        deed) }
 {
     let sum = defined_symbol_sum(text, symbols, spot, line, deed);
     define_operation_symbol(text, symbols, defined_symbol(deed, line.args.items()), sum)

@@ -10,8 +10,8 @@
 //! `layout_of` returns exactly the symbols that lines define, and the first refusal of a definition
 //! or of the length of a section. Each other call returns the definition of the same name in
 //! `specs/`. The only error is `NoMemory`. No count and no sum exceeds 128 bits: fewer than 2^32
-//! lines place fewer than 2^64 words each, and an expression has at most 2^32 terms (`HasRoomForLines` in
-//! `specs/Spots.antt`, and `IsTerm` in `specs/Sums.antt`).
+//! lines place fewer than 2^64 words each, and an expression has at most 2^32 terms
+//! (`HasRoomForLines` in `specs/Spots.antt`, and `IsTerm` in `specs/Sums.antt`).
 //!
 //! Source: the language is this project's own profile of the assembler of Multics.
 #![tactic(auto)]

@@ -1,8 +1,10 @@
 //! Refusals: their order in the text, and how an expression is refused.
 
 ghost use Rattle.std.specs.Prelude.{◌≡◌, ◌-◌, ◌+◌, ◌%◌, ◌^◌, ◌≤◌, length, Option};
-ghost use Rattle.alm_lines.specs.Refusals.{code_number, precedes, earlier_refusal, refusal_at, column_of};
-ghost use Rattle.alm_lines.specs.Refusals.{fault_by, fault_of, fits_field, is_kind_allowed, is_expressible};
+ghost use Rattle.alm_lines.specs.Refusals.{code_number, precedes, earlier_refusal, refusal_at};
+ghost use Rattle.alm_lines.specs.Refusals.{column_of};
+ghost use Rattle.alm_lines.specs.Refusals.{fault_by, fault_of, fits_field, is_kind_allowed};
+ghost use Rattle.alm_lines.specs.Refusals.{is_expressible};
 ghost use Rattle.alm_lines.specs.Refusals.{refusal_unless_expressible, expression_refusal};
 ghost use Rattle.alm_lines.specs.Refusals.{is_over_limit};
 

@@ -3,7 +3,8 @@
 ghost use Rattle.std.specs.Prelude.{[], ◌∷◌, ◌++◌, ◌≡◌, ◌^◌, ◌<◌, length, IfOk};
 ghost use Rattle.alm_lines.specs.Sums.{balance, IsTerm};
 ghost use Rattle.alm_lines.specs.Spots.{start, count, place, here};
-ghost use Rattle.alm_lines.specs.Spots.{plus_words, with_section, size_of, next_spot, next_line_spot, end_of};
+ghost use Rattle.alm_lines.specs.Spots.{plus_words, with_section, size_of, next_spot};
+ghost use Rattle.alm_lines.specs.Spots.{next_line_spot, end_of};
 ghost use Rattle.alm_lines.specs.Spots.{HasRoomForLines, IsOneLineFurther};
 
 use crate::arguments::{first_symbol, second_number, section_in, words_of_args};

@@ -6,7 +6,8 @@ ghost use Rattle.alm_lines.specs.Sums.{kind_of, zero_sum, IsTerm};
 ghost use Rattle.alm_lines.specs.Refusals.{expression_refusal};
 ghost use Rattle.alm_lines.specs.Expressions.{symbol_sum, atom_sum, sum_of};
 ghost use Rattle.alm_lines.specs.Expressions.{is_defined, first_undefined_place};
-ghost use Rattle.alm_lines.specs.Values.{has_value, value_of_sum, value_of_expression, fits_value_field, value_is_expressible, is_usable_value};
+ghost use Rattle.alm_lines.specs.Values.{has_value, value_of_sum, value_of_expression};
+ghost use Rattle.alm_lines.specs.Values.{fits_value_field, value_is_expressible, is_usable_value};
 ghost use Rattle.alm_lines.specs.Values.{evaluated_refusal};
 
 use crate::arguments::name_at;

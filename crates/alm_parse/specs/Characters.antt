@@ -54,7 +54,8 @@ characters_unless_bad text span None = Ok (Chars (packed_words (slice_of text sp
 -- The characters in `span`, or E2 at the operand `rest` unless only blanks or a comment are after
 -- the closing delimiter, which the last argument says.
 abbrev pub characters_if_ended : List ℕ → Span → Span → Bool → Result (List Arg) ParseRefusal
-characters_if_ended text rest span true = characters_unless_bad text span (first_bad_place text span)
+characters_if_ended text rest span true =
+    characters_unless_bad text span (first_bad_place text span)
 characters_if_ended text rest span false = Err (record { place = rest.from; code = E2 })
 
 -- The characters, given the index of the closing delimiter, or E2 at the operand `rest` if there is

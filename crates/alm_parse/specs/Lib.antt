@@ -1,7 +1,7 @@
--- Read first: `Sources`, where `source_of_text` is the lines of a text or its first refusal, and `Lines`,
--- which defines one line by its head, its operation and its operand. The other modules define the
--- tokens and the forms of operands from bytes up. `Deeds` has the effects of operations, and
--- `Spans` the properties of each line that was parsed.
+-- Read first: `Sources`, where `source_of_text` is the lines of a text or its first refusal, and
+-- `Lines`, which defines one line by its head, its operation and its operand. The other modules
+-- define the tokens and the forms of operands from bytes up. `Deeds` has the effects of operations,
+-- and `Spans` the properties of each line that was parsed.
 pub mod Refusals
 pub mod Bodies
 pub mod Operands

@@ -103,23 +103,27 @@ line_of text row head arguments =
     }
 
 -- the line with these arguments, or their refusal
-abbrev pub line_with : List ℕ → Row → Head → Result (List Arg) ParseRefusal → Result Line36 ParseRefusal
+abbrev pub line_with :
+    List ℕ → Row → Head → Result (List Arg) ParseRefusal → Result Line36 ParseRefusal
 line_with text row head given = and_then given (λ arguments. Ok (line_of text row head arguments))
 
 -- the line with this operation, or its refusal if there is none of this name: E3, or E1 if it
 -- begins with a byte that no source can have
-abbrev pub line_with_operation : List ℕ → Row → Head → Span → Option Operation → Result Line36 ParseRefusal
+abbrev pub line_with_operation :
+    List ℕ → Row → Head → Span → Option Operation → Result Line36 ParseRefusal
 line_with_operation text row head op (Some operation) =
     line_with text row head (args_of operation text op.from (span_at op.to row.span.to))
 line_with_operation text row head op None = Err (refusal_at_token text op.from E3)
 
 -- the line with this operation, if it has one, given its labels
 abbrev pub line_from : List ℕ → Row → Head → Option Span → Result Line36 ParseRefusal
-line_from text row head (Some op) = line_with_operation text row head op (operation_of (slice_of text op))
+line_from text row head (Some op) =
+    line_with_operation text row head op (operation_of (slice_of text op))
 line_from text row head None = Ok (line_of text row head [])
 
 -- the line, unless a label is refused
-abbrev pub line_unless_refused : Option ParseRefusal → List ℕ → Row → Head → Result Line36 ParseRefusal
+abbrev pub line_unless_refused :
+    Option ParseRefusal → List ℕ → Row → Head → Result Line36 ParseRefusal
 line_unless_refused (Some refusal) text row head = Err refusal
 line_unless_refused None text row head = line_from text row head head.op
 

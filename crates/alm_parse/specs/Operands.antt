@@ -26,7 +26,8 @@ body_span operand None = operand
 
 -- the tag of the modifier after the comma; 0 without a comma, None if there is no such modifier
 abbrev pub modifier_tag_after_comma : List ℕ → Span → Option ℕ → Option ℕ
-modifier_tag_after_comma text operand (Some comma) = tag_of (slice_of text (span_at (comma + 1) operand.to))
+modifier_tag_after_comma text operand (Some comma) =
+    tag_of (slice_of text (span_at (comma + 1) operand.to))
 modifier_tag_after_comma text operand None = Some 0
 
 -- the entry of an external operand, if it has one
@@ -47,15 +48,18 @@ is_operand text body pieces tag =
     has_valid_parts text body && list_all (is_term_at text) pieces && is_some tag
 
 -- the argument of an operand, or its refusal
-abbrev pub operand_of_parts : List ℕ → ℕ → Body → List TextPiece → Option ℕ → Result (List Arg) ParseRefusal
+abbrev pub operand_of_parts :
+    List ℕ → ℕ → Body → List TextPiece → Option ℕ → Result (List Arg) ParseRefusal
 operand_of_parts text at body pieces tag =
-    value_unless (operand_form_refusal text at (is_operand text body pieces tag) (first_out_of_range_place Small text pieces))
+    value_unless (operand_form_refusal text at (is_operand text body pieces tag)
+    (first_out_of_range_place Small text pieces))
     (operand_of text body (map (term_of text) pieces) (unwrap_or tag 0) ∷ [])
 
 -- the argument of an operand, or its refusal, given the index of the comma
 abbrev pub operand_with : List ℕ → Span → Body → Option ℕ → Result (List Arg) ParseRefusal
 operand_with text operand body comma =
-    operand_of_parts text operand.from body (body_pieces text body) (modifier_tag_after_comma text operand comma)
+    operand_of_parts text operand.from body (body_pieces text body)
+    (modifier_tag_after_comma text operand comma)
 
 -- the argument of the operand of an instruction, or its refusal
 unfoldable pub parse_operand : List ℕ → Span → Result (List Arg) ParseRefusal

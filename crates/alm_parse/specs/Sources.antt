@@ -30,7 +30,8 @@ fault_with_code code.E4 line column = E4 line column
 
 -- the fault of a refusal in a line
 abbrev pub fault_of : Row → ParseRefusal → AlmFault
-fault_of row refusal = fault_with_code refusal.code row.number (column_at row.span.from refusal.place)
+fault_of row refusal =
+    fault_with_code refusal.code row.number (column_at row.span.from refusal.place)
 
 -- whether the operation of a line is `end`, after which the text is ignored
 abbrev pub is_end_operation : List ℕ → Option Span → Bool
@@ -39,10 +40,12 @@ is_end_operation text None = false
 
 -- The lines of a source, given what parsing the line `row` yielded. If it is refused, so is the
 -- source. It is the last if its operation is `end`; otherwise `further` parses the lines after it.
-abbrev pub lines_after_row : List ℕ → Row → List Line36 → (List Line36 → Result (List Line36) AlmFault)
+abbrev pub lines_after_row :
+    List ℕ → Row → List Line36 → (List Line36 → Result (List Line36) AlmFault)
     → Result Line36 ParseRefusal → Result (List Line36) AlmFault
 lines_after_row text row before further (Ok line) =
-    if is_end_operation text line.op then Ok (before ++ line ∷ []) else further (before ++ line ∷ [])
+    if is_end_operation text line.op then Ok (before ++ line ∷ []) else further
+    (before ++ line ∷ [])
 lines_after_row text row before further (Err refusal) = Err (fault_of row refusal)
 
 -- the lines of a text, after those before them, or the first refusal

@@ -4,7 +4,10 @@ ghost use Rattle.std.specs.Prelude.{◌≡◌, ◌^◌, ◌<◌, ◌≤◌, ◌+
 ghost use Rattle.std.specs.List.{position};
 ghost use Rattle.m36_text.specs.Texts.{is_name_character};
 ghost use Rattle.alm_tokens.specs.Tokens.{slice_of};
-ghost use Rattle.alm_parse.specs.Bodies.{place_of, symbol_end, external_operand, body_of, own_section, is_segment_text, is_entry_text, is_text_after_entry, has_valid_parts, tail_pieces, body_pieces};
+ghost use Rattle.alm_parse.specs.Bodies.{place_of, symbol_end, external_operand, body_of};
+ghost use Rattle.alm_parse.specs.Bodies.{own_section, is_segment_text, is_entry_text};
+ghost use Rattle.alm_parse.specs.Bodies.{is_text_after_entry, has_valid_parts, tail_pieces};
+ghost use Rattle.alm_parse.specs.Bodies.{body_pieces};
 
 use alm_tokens::bytes::is_sign;
 use alm_tokens::expression::expression_pieces;

@@ -1,10 +1,12 @@
 //! The operand of `aci`: characters between two delimiters.
 
-ghost use Rattle.std.specs.Prelude.{◌∷◌, ◌≡◌, ◌^◌, ◌<◌, ◌+◌, ◌==◌, not, slice_index, drop, length, Option, IfSome, IfOk, IfErr};
+ghost use Rattle.std.specs.Prelude.{◌∷◌, ◌≡◌, ◌^◌, ◌<◌, ◌+◌, ◌==◌, not, slice_index, drop, length};
+ghost use Rattle.std.specs.Prelude.{Option, IfSome, IfOk, IfErr};
 ghost use Rattle.std.specs.List.{find, position};
 ghost use Rattle.std.specs.Option.{option_copied};
 ghost use Rattle.alm_tokens.specs.Bytes.{is_blank, is_placeable_character};
-ghost use Rattle.alm_parse.specs.Characters.{first_word, packed_words, is_blank_or_comment, first_bad_place, parse_characters};
+ghost use Rattle.alm_parse.specs.Characters.{first_word, packed_words, is_blank_or_comment};
+ghost use Rattle.alm_parse.specs.Characters.{first_bad_place, parse_characters};
 ghost use Rattle.alm_parse.specs.Refusals.{IsParserResultOf, ErrorIsInside};
 
 use crate::args::{Arg, Args, one_arg};

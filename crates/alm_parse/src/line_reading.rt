@@ -4,7 +4,9 @@ ghost use Rattle.std.specs.Prelude.{◌≡◌, ◌^◌, ◌<◌, Option, Result,
 ghost use Rattle.m36_text.specs.Results.{and_then};
 ghost use Rattle.std.specs.List.{All};
 ghost use Rattle.alm_tokens.specs.Heads.{IsLabelSpan, IsTokenSpan};
-ghost use Rattle.alm_parse.specs.Lines.{missing_operand_refusal, args_with, operand_for, args_of, is_no_symbol, label_refusal, line_of, line_with_head, parse_line};
+ghost use Rattle.alm_parse.specs.Lines.{missing_operand_refusal, args_with, operand_for, args_of};
+ghost use Rattle.alm_parse.specs.Lines.{is_no_symbol, label_refusal, line_of, line_with_head};
+ghost use Rattle.alm_parse.specs.Lines.{parse_line};
 ghost use Rattle.alm_parse.specs.Deeds.{effect_of_line};
 ghost use Rattle.alm_parse.specs.Refusals.{IsParserResultOf, IsRefusedInside, ErrorIsInside};
 
@@ -163,7 +165,8 @@ fn parse_line_parts(alloc: Global, text: &[u8], row: Row, head: &Head) -> Result
     requires text { length text.now < 2 ^ 32 }
     requires marks { All (IsLabelSpan (length text.now)) head.now.labels }
     requires op { IfSome head.now.op (IsTokenSpan (length text.now)) }
-    ensures value { IsParserResultOf (and_then result (λ given. Ok (line_of text.now row head.now given.args)))
+    ensures value { IsParserResultOf (and_then result
+        (λ given. Ok (line_of text.now row head.now given.args)))
         (line_with_head text.now row head.now) }
     ensures deed { IfOk result (λ given. given.deed ≡ effect_of_line text.now head.now.op) }
     ensures inside { IfErr result (ErrorIsInside (length text.now)) }

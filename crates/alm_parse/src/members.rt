@@ -4,7 +4,8 @@ ghost use Rattle.std.specs.Prelude.{◌≡◌, ◌^◌, ◌<◌, None, IfOk, IfE
 ghost use Rattle.std.specs.List.{list_all};
 ghost use Rattle.m36_text.specs.Results.{value_unless};
 ghost use Rattle.alm_tokens.specs.Lists.{is_symbol_at};
-ghost use Rattle.alm_parse.specs.Members.{symbol_arg, number_arg, parse_symbols, numbers_of_members, parse_numbers};
+ghost use Rattle.alm_parse.specs.Members.{symbol_arg, number_arg, parse_symbols};
+ghost use Rattle.alm_parse.specs.Members.{numbers_of_members, parse_numbers};
 ghost use Rattle.alm_parse.specs.Refusals.{operand_form_refusal, IsParserResultOf, ErrorIsInside};
 
 use crate::args::{Arg, Args};
@@ -36,7 +37,8 @@ fn symbols_of(
 ) -> Result<Args, ParseError>
     requires { at < length text.now }
     ensures value { IsParserResultOf result
-        (value_unless (operand_form_refusal text.now at (list_all (is_symbol_at text.now) members.now) None)
+        (value_unless (operand_form_refusal text.now at
+        (list_all (is_symbol_at text.now) members.now) None)
         (map symbol_arg members.now)) }
     ensures inside { IfErr result (ErrorIsInside (length text.now)) }
 {

@@ -1,7 +1,8 @@
 //! Parses the operand of an instruction.
 
 ghost use Rattle.std.specs.Prelude.{◌≡◌, ◌^◌, ◌<◌, Option, IfSome, IfErr, length};
-ghost use Rattle.alm_parse.specs.Operands.{body_span, modifier_tag_after_comma, entry_if_any, operand_of, parse_operand};
+ghost use Rattle.alm_parse.specs.Operands.{body_span, modifier_tag_after_comma, entry_if_any};
+ghost use Rattle.alm_parse.specs.Operands.{operand_of, parse_operand};
 ghost use Rattle.alm_parse.specs.Refusals.{IsParserResultOf, ErrorIsInside};
 
 use crate::args::{Arg, Args, one_arg};

@@ -3,7 +3,8 @@
 ghost use Rattle.std.specs.Prelude.{[], ◌∷◌, ◌≡◌, ◌≤◌, ◌^◌, ◌<◌, Option, IfOk, IfErr, length, map};
 ghost use Rattle.alm_tokens.specs.Expressions.{expression_pieces, term_of};
 ghost use Rattle.alm_parse.specs.declared.args.Arg.TheVariants as arg;
-ghost use Rattle.alm_parse.specs.Pairs.{value_of_terms, value_of_members, parse_value, halves_of_terms, halves_of_members, parse_halves};
+ghost use Rattle.alm_parse.specs.Pairs.{value_of_terms, value_of_members, parse_value};
+ghost use Rattle.alm_parse.specs.Pairs.{halves_of_terms, halves_of_members, parse_halves};
 ghost use Rattle.alm_parse.specs.Pairs.{block_of_members, parse_block, used_section, parse_section};
 ghost use Rattle.alm_parse.specs.Refusals.{IsParserResultOf, ErrorIsInside};
 

@@ -1,6 +1,7 @@
 //! A whole source.
 
-ghost use Rattle.std.specs.Prelude.{List, [], ◌∷◌, ◌++◌, ◌≡◌, ◌^◌, ◌<◌, ◌≤◌, length, OnOk, OnErr, IfOk, All};
+ghost use Rattle.std.specs.Prelude.{List, [], ◌∷◌, ◌++◌, ◌≡◌, ◌^◌, ◌<◌, ◌≤◌, length, OnOk, OnErr};
+ghost use Rattle.std.specs.Prelude.{IfOk, All};
 ghost use Rattle.alm_parse.specs.Spans.{LineIn};
 ghost use Rattle.alm_parse.specs.Sources.{is_end_operation, read_lines, source_of_text, IsResultOf};
 

@@ -6,7 +6,8 @@ use Rattle.alm_tokens.specs.declared.pieces.TextPiece.{TextPiece}
 use Rattle.alm_tokens.specs.declared.expression.Atom.{Atom}
 use Rattle.alm_tokens.specs.declared.expression.Atom.TheVariants.{Number, Symbol, Here}
 use Rattle.alm_tokens.specs.declared.expression.Term.{Term}
-use Rattle.alm_tokens.specs.Tokens.{slice_of, is_text, is_symbol, number_or_zero, parsed_expression_number}
+use Rattle.alm_tokens.specs.Tokens.{slice_of, is_text, is_symbol, number_or_zero}
+use Rattle.alm_tokens.specs.Tokens.{parsed_expression_number}
 use Rattle.alm_tokens.specs.Tokens.{greatest_number}
 use Rattle.alm_tokens.specs.Numerals.{is_number, is_negative}
 use Rattle.alm_tokens.specs.Pieces.{pieces_of, piece_at}
@@ -39,7 +40,8 @@ unfoldable pub atom_of : List ℕ → Atom
 atom_of bytes =
     if is_current_place bytes
     then Here
-    else (if is_number bytes then Number (number_or_zero (parsed_expression_number bytes)) else Symbol)
+    else (if is_number bytes then Number (number_or_zero (parsed_expression_number bytes)) else
+    Symbol)
 
 -- the term in a piece, with its sign
 abbrev pub term_of : List ℕ → TextPiece → Term

@@ -57,7 +57,8 @@ operand_start text rest = first_in (λ b. not (is_blank b)) text rest
 unfoldable pub operand_end_from : ℕ → ℕ → List ℕ → ℕ
 operand_end_from end at [] = end
 operand_end_from end at (b ∷ rest) =
-    if begins_comment b then end else operand_end_from (if is_blank b then end else at + 1) (at + 1) rest
+    if begins_comment b then end else operand_end_from (if is_blank b then end else at + 1)
+    (at + 1) rest
 
 -- the index after the operand, given the text after the operation
 abbrev pub operand_end : List ℕ → Span → ℕ

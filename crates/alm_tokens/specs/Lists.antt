@@ -23,7 +23,8 @@ member_has_form_of numeral text member = has_form_of numeral (slice_of text memb
 
 -- whether a member is a number out of its range
 abbrev pub is_out_of_range : Numeral → List ℕ → TextPiece → Bool
-is_out_of_range numeral text member = is_over_number_limit (number_magnitude numeral (slice_of text member.span))
+is_out_of_range numeral text member =
+    is_over_number_limit (number_magnitude numeral (slice_of text member.span))
 
 -- the index where the first number begins that is out of its range
 unfoldable pub first_out_of_range_place : Numeral → List ℕ → List TextPiece → Option ℕ

@@ -45,7 +45,8 @@ registers =
 -- the tag of a register: 0 to 7 by its name, or 8 to 15 for X0 to X7
 unfoldable pub register_tag : List ℕ → Option ℕ
 register_tag bytes =
-    option_or (number_of_name registers bytes) (option_map (λ n. 8 + n) (octal_in 1 (without_x bytes)))
+    option_or (number_of_name registers bytes)
+    (option_map (λ n. 8 + n) (octal_in 1 (without_x bytes)))
 
 -- the number of a pointer register that is written `pr0` to `pr7`
 abbrev pub pr_number_by_digit : List ℕ → Option ℕ
@@ -113,4 +114,5 @@ indirect_last_modifier bytes =
 unfoldable pub tag_of : List ℕ → Option ℕ
 tag_of bytes =
     option_or (single_tag bytes)
-    (option_or (register_tag bytes) (option_or (indirect_first_modifier bytes) (indirect_last_modifier bytes)))
+    (option_or (register_tag bytes) (option_or (indirect_first_modifier bytes)
+    (indirect_last_modifier bytes)))

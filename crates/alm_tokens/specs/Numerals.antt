@@ -6,7 +6,8 @@ use Rattle.m36_text.specs.Reading.{number_read}
 use Rattle.m36_text.specs.declared.reading.NumberFault.{NumberFault}
 use Rattle.alm_tokens.specs.declared.numerals.Numeral.{Numeral}
 use Rattle.alm_tokens.specs.declared.numerals.Numeral.TheVariants.{Decimal, Octal, Small}
-use Rattle.alm_tokens.specs.Tokens.{has_digits, has_no_leading_zero, number_or_zero, parsed_expression_number}
+use Rattle.alm_tokens.specs.Tokens.{has_digits, has_no_leading_zero, number_or_zero}
+use Rattle.alm_tokens.specs.Tokens.{parsed_expression_number}
 use Rattle.alm_tokens.specs.Bytes.{is_minus, is_sign}
 
 -- whether a number begins with a minus
@@ -40,7 +41,8 @@ has_allowed_zeros Small bytes = has_no_leading_zero bytes
 
 -- whether a text is a number of this notation, of any size
 abbrev pub has_form_of : Numeral → List ℕ → Bool
-has_form_of numeral bytes = has_digits (number_magnitude numeral bytes) && has_allowed_zeros numeral bytes
+has_form_of numeral bytes =
+    has_digits (number_magnitude numeral bytes) && has_allowed_zeros numeral bytes
 
 -- whether a text has the form of a number in an expression, within the limit or not
 unfoldable pub is_number : List ℕ → Bool
@@ -52,10 +54,12 @@ signed_word negative magnitude = (if negative then 2 ^ 36 - magnitude else magni
 
 -- the word of a number in this notation; 0 if the text is no such number or it is out of range
 abbrev pub number_word : Numeral → List ℕ → ℕ
-number_word Decimal bytes = signed_word (is_negative bytes) (number_or_zero (number_magnitude Decimal bytes))
+number_word Decimal bytes =
+    signed_word (is_negative bytes) (number_or_zero (number_magnitude Decimal bytes))
 number_word Octal bytes = signed_word false (number_or_zero (number_magnitude Octal bytes))
 number_word Small bytes = signed_word false (number_or_zero (number_magnitude Small bytes))
 
 -- The word of a negative number from -2^35 on is this number in two's complement.
 abbrev pub NegativesAreTwosComplement : Type 0
-NegativesAreTwosComplement = (m : ℕ) → m ≤ 2 ^ 35 → signed (2 ^ 35) (signed_word true m) ≡ neg_ℤ (pos m)
+NegativesAreTwosComplement =
+    (m : ℕ) → m ≤ 2 ^ 35 → signed (2 ^ 35) (signed_word true m) ≡ neg_ℤ (pos m)

@@ -1,7 +1,8 @@
 //! Classes of bytes.
 
 ghost use Rattle.std.specs.Prelude.{◌≡◌};
-ghost use Rattle.alm_tokens.specs.Bytes.{is_blank, begins_symbol, is_sign, is_placeable_character, is_source_byte};
+ghost use Rattle.alm_tokens.specs.Bytes.{is_blank, begins_symbol, is_sign, is_placeable_character};
+ghost use Rattle.alm_tokens.specs.Bytes.{is_source_byte};
 
 use m36_text::{is_letter, is_name_character};
 

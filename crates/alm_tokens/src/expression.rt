@@ -1,8 +1,11 @@
 //! Expressions: terms joined by `+` and `-`.
 
-ghost use Rattle.std.specs.Prelude.{List, [], ◌∷◌, ◌++◌, ◌≡◌, ◌^◌, ◌<◌, ◌≤◌, length, map, OnOk, OnErr, IfOk};
+ghost use Rattle.std.specs.Prelude.{List, [], ◌∷◌, ◌++◌, ◌≡◌, ◌^◌, ◌<◌, ◌≤◌, length, map, OnOk};
+ghost use Rattle.std.specs.Prelude.{OnErr, IfOk};
 ghost use Rattle.std.specs.List.{list_all};
-ghost use Rattle.alm_tokens.specs.Expressions.{is_current_place, is_term, is_term_at, without_first_minus, expression_pieces, atom_of, term_of, IsSmall};
+ghost use Rattle.alm_tokens.specs.Expressions.{is_current_place, is_term, is_term_at};
+ghost use Rattle.alm_tokens.specs.Expressions.{without_first_minus, expression_pieces, atom_of};
+ghost use Rattle.alm_tokens.specs.Expressions.{term_of, IsSmall};
 
 use crate::numerals::is_number;
 use crate::pieces::{Pieces, Separator, TextPiece, pieces_of};

@@ -1,9 +1,11 @@
 //! Finds the labels, the operation and the operand of a line.
 
-ghost use Rattle.std.specs.Prelude.{◌≡◌, ◌^◌, ◌<◌, ◌≤◌, ◌==◌, not, Option, Some, None, IfSome, IfOk, length};
+ghost use Rattle.std.specs.Prelude.{◌≡◌, ◌^◌, ◌<◌, ◌≤◌, ◌==◌, not, Option, Some, None, IfSome};
+ghost use Rattle.std.specs.Prelude.{IfOk, length};
 ghost use Rattle.std.specs.List.{All, position};
 ghost use Rattle.alm_tokens.specs.Bytes.{is_blank};
-ghost use Rattle.alm_tokens.specs.Heads.{IsLabelSpan, IsTokenSpan, token_step, token, head_of, operand_start, operand_end, operand_in, delimited_operand};
+ghost use Rattle.alm_tokens.specs.Heads.{IsLabelSpan, IsTokenSpan, token_step, token, head_of};
+ghost use Rattle.alm_tokens.specs.Heads.{operand_start, operand_end, operand_in, delimited_operand};
 
 use crate::bytes::is_blank;
 use crate::span::{Span, Spans, bytes_of, first_byte};

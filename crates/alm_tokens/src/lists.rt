@@ -3,7 +3,8 @@
 ghost use Rattle.std.specs.Prelude.{◌≡◌, ◌^◌, ◌<◌, IfSome, IfOk, length};
 ghost use Rattle.std.specs.List.{list_all, find};
 ghost use Rattle.std.specs.Option.{option_copied};
-ghost use Rattle.alm_tokens.specs.Lists.{members, is_symbol_at, member_has_form_of, is_out_of_range, first_out_of_range_place};
+ghost use Rattle.alm_tokens.specs.Lists.{members, is_symbol_at, member_has_form_of};
+ghost use Rattle.alm_tokens.specs.Lists.{is_out_of_range, first_out_of_range_place};
 
 use crate::numerals::{Numeral, has_form_of, is_number_out_of_range};
 use crate::pieces::{Pieces, Separator, TextPiece, pieces_of};

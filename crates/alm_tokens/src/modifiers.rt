@@ -2,7 +2,10 @@
 
 ghost use Rattle.std.specs.Prelude.{◌≡◌, ◌<◌, IfSome};
 ghost use Rattle.m36_text.specs.Numbers.{octal_in};
-ghost use Rattle.alm_tokens.specs.Modifiers.{without_x, register_tag, pr_number_by_digit, pr_number_by_name, pr_number, single_tag, indirect_first_modifier, indirect_last_modifier, tag_of};
+ghost use Rattle.alm_tokens.specs.Modifiers.{without_x, register_tag, pr_number_by_digit};
+ghost use Rattle.alm_tokens.specs.Modifiers.{pr_number_by_name, pr_number, single_tag};
+ghost use Rattle.alm_tokens.specs.Modifiers.{indirect_first_modifier, indirect_last_modifier};
+ghost use Rattle.alm_tokens.specs.Modifiers.{tag_of};
 
 use m36_text::{is_text, octal_in};
 

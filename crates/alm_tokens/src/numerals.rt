@@ -1,7 +1,9 @@
 //! Numbers that a word can hold.
 
 ghost use Rattle.std.specs.Prelude.{◌≡◌, ◌≤◌, ◌^◌, ◌<◌, IfOk};
-ghost use Rattle.alm_tokens.specs.Numerals.{is_negative, without_sign, greatest_word, number_magnitude, has_form_of, is_number, signed_word, number_word};
+ghost use Rattle.alm_tokens.specs.Numerals.{is_negative, without_sign, greatest_word};
+ghost use Rattle.alm_tokens.specs.Numerals.{number_magnitude, has_form_of, is_number, signed_word};
+ghost use Rattle.alm_tokens.specs.Numerals.{number_word};
 ghost use Rattle.alm_tokens.specs.Tokens.{is_over_number_limit, number_or_zero};
 
 use crate::bytes::is_sign;

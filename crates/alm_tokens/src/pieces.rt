@@ -1,7 +1,8 @@
 //! Divides a text into pieces: the members of a list at commas, and the terms of an expression at
 //! signs.
 
-ghost use Rattle.std.specs.Prelude.{List, [], ◌∷◌, ◌++◌, ◌≡◌, ◌^◌, ◌<◌, ◌≤◌, length, OnOk, OnErr, IfOk};
+ghost use Rattle.std.specs.Prelude.{List, [], ◌∷◌, ◌++◌, ◌≡◌, ◌^◌, ◌<◌, ◌≤◌, length, OnOk, OnErr};
+ghost use Rattle.std.specs.Prelude.{IfOk};
 ghost use Rattle.alm_tokens.specs.Pieces.{separates, pieces_of};
 
 use crate::bytes::is_sign;

@@ -1,6 +1,7 @@
 //! Parts of a text.
 
-ghost use Rattle.std.specs.Prelude.{List, [], ◌∷◌, ◌++◌, ◌≡◌, ◌≤◌, ◌+◌, ◌^◌, ◌<◌, length, max, slice_index, OnOk, OnErr};
+ghost use Rattle.std.specs.Prelude.{List, [], ◌∷◌, ◌++◌, ◌≡◌, ◌≤◌, ◌+◌, ◌^◌, ◌<◌, length, max};
+ghost use Rattle.std.specs.Prelude.{slice_index, OnOk, OnErr};
 ghost use Rattle.alm_tokens.specs.Tokens.{slice_of};
 
 use m36_word::NoMemory;

@@ -1,7 +1,8 @@
 //! Symbols and numbers.
 
 ghost use Rattle.std.specs.Prelude.{◌≡◌, ◌≤◌, IfOk};
-ghost use Rattle.alm_tokens.specs.Tokens.{is_symbol, has_digits, is_over_number_limit, parsed_expression_number, greatest_number};
+ghost use Rattle.alm_tokens.specs.Tokens.{is_symbol, has_digits, is_over_number_limit};
+ghost use Rattle.alm_tokens.specs.Tokens.{parsed_expression_number, greatest_number};
 
 use crate::bytes::begins_symbol;
 use crate::span::first_byte;

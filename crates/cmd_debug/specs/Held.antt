@@ -30,5 +30,6 @@ past_turning =
 -- what a session uses of a booted system
 abbrev pub super_turning : MachineRelations SuperFields
 super_turning =
-    machine_relations (λ s. s.regs) super_content (λ before turn later. SuperTurns before turn later)
+    machine_relations (λ s. s.regs) super_content
+    (λ before turn later. SuperTurns before turn later)
     (λ before n answer later. SuperBack before n answer later)

@@ -31,7 +31,8 @@ fn hold_session<M: Stepper, W: World>(
     world: &mut W,
 ) -> Result<(), Status>
     requires { name ≡ stdin_name }
-    ensures { Performs (session (machine_relations M.regs M.content M.next M.went) machine.old) result
+    ensures { Performs (session (machine_relations M.regs M.content M.next M.went) machine.old)
+        result
         (W.seen world.old) (W.seen world.new) }
 {
     ended_by(debug(alloc, machine, world), name)

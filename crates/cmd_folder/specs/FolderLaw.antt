@@ -66,7 +66,8 @@ pub record GoesByFindings (command : FolderCommand) (given : FolderFields) (syst
   pub first : ℕ × ℕ
   pub others : List (ℕ × ℕ)
   pub found : AreFindings system.core booted_dbr (first ∷ others)
-  pub goes : Goes (command_after_audit command given (booted_of system) (first ∷ others)) events result
+  pub goes : Goes (command_after_audit command given (booted_of system) (first ∷ others)) events
+      result
 
 -- ---- the one text of a run
 

@@ -59,14 +59,17 @@ run_after_audit run output given first findings =
 abbrev pub command_after_audit :
     FolderCommand → FolderFields → Booted → List (ℕ × ℕ) → Program quiet (Unit {0})
 command_after_audit Audit given first findings = audit_only findings
-command_after_audit (Run run) given first findings = run_after_audit run output.Console given first findings
-command_after_audit (Trace run) given first findings = run_after_audit run output.Trace given first findings
+command_after_audit (Run run) given first findings =
+    run_after_audit run output.Console given first findings
+command_after_audit (Trace run) given first findings =
+    run_after_audit run output.Trace given first findings
 
 -- Audits the system. Memory may run out here, and after that only in a link service.
 unfoldable pub on_system :
     FolderCommand → FolderFields → SuperFields → Program quiet (Unit {0})
 on_system command given system =
-    wants (some (AreFolderFindings given.lib system) (command_after_audit command given (booted_of system)))
+    wants (some (AreFolderFindings given.lib system)
+    (command_after_audit command given (booted_of system)))
 
 -- What a command does with the system that the folder's library boots to. There is at most one, by
 -- `system` of `BootedLaw` of `cmd_folder`.

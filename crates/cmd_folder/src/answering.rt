@@ -7,7 +7,8 @@ ghost use Rattle.m36_super.specs.SuperFields.{booted_of};
 ghost use Rattle.cmd_image.specs.ImageAudit.{is_run_allowed};
 ghost use Rattle.m36_program.specs.Performs.{Performs};
 ghost use Rattle.cmd_folder.specs.BootedSystems.{IsFresh};
-ghost use Rattle.cmd_folder.specs.OnFolder.{audit_and_run, audit_and_run_if, command_after_audit, on_folder};
+ghost use Rattle.cmd_folder.specs.OnFolder.{audit_and_run, audit_and_run_if, command_after_audit};
+ghost use Rattle.cmd_folder.specs.OnFolder.{on_folder};
 ghost use Rattle.cmd_folder.specs.FolderProgram.{folder_program};
 ghost use Rattle.cmd_folder.specs.RunSays.{run_of};
 
@@ -36,7 +37,8 @@ fn run_audited<W: World>(
 ) -> Result<(), Status>
     requires { system.old.next_event ≡ Step }
     ensures { Performs (audit_and_run (run_of system.old.lib output denied.now) steps
-        (booted_of system.old) (finding_pairs findings.now)) result (W.seen world.old) (W.seen world.new) }
+        (booted_of system.old) (finding_pairs findings.now)) result (W.seen world.old)
+        (W.seen world.new) }
 {
     match put_audit(findings, world) {
         Ok(()) => run(system, steps, output, denied, world),

@@ -1,7 +1,8 @@
 //! The line `denied` of a segment, if a run ended because a right to the segment was missing.
 
 ghost use Rattle.std.specs.Prelude.{◌≡◌, None, Some, MatchOption};
-ghost use Rattle.cmd_folder.specs.RunText.{is_right_violation, is_missing_right, denied_by_fault, denied_by_end, denied_segment, denied_line_of};
+ghost use Rattle.cmd_folder.specs.RunText.{is_right_violation, is_missing_right, denied_by_fault};
+ghost use Rattle.cmd_folder.specs.RunText.{denied_by_end, denied_segment, denied_line_of};
 
 use crate::finish::Finish;
 use m36_acl::DeniedLines;

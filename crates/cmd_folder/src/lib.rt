@@ -19,8 +19,8 @@
 //! | while files are read, the system is booted or its core audited | nothing |
 //! | in a link service of a run | the audit's text, and what is written of the turns before it |
 //!
-//! [`perform_folder_command`] performs this program over any world, so its contract has the order of the
-//! events. By its type the program writes no file and takes no input.
+//! [`perform_folder_command`] performs this program over any world, so its contract has the order
+//! of the events. By its type the program writes no file and takes no input.
 //!
 //! [`law_folder`] says what the program means (`specs/FolderLaw.antt`):
 //!
@@ -36,10 +36,10 @@
 //!
 //! A turn is no event, so no contract of a command says when a turn is made. The code puts the
 //! characters of a console service before it makes the next turn: each step and each service
-//! requires that no text of the console waits in the block (`IsConsoleTextPut`), and the loop of [`run`]
-//! keeps that. So a reader of a pipe sees the characters while the program runs. The lines of a
-//! trace are gathered in a block. It is handed over when it is full, at the end, and when a link
-//! service runs out of memory.
+//! requires that no text of the console waits in the block (`IsConsoleTextPut`), and the loop of
+//! [`run`] keeps that. So a reader of a pipe sees the characters while the program runs. The lines
+//! of a trace are gathered in a block. It is handed over when it is full, at the end, and when a
+//! link service runs out of memory.
 //!
 //! With `--user` the line `denied` of a segment follows the end line if the run ended because a
 //! right to that segment was missing.

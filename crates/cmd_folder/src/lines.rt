@@ -6,7 +6,8 @@ ghost use Rattle.m36_text.specs.Lines.{as_line};
 ghost use Rattle.m36_trace.specs.TraceLine.{line_of};
 ghost use Rattle.m36_step.specs.declared.turns.Turn.TheVariants as turn;
 ghost use Rattle.m36_program.specs.Gathered.{Adds, Puts};
-ghost use Rattle.cmd_folder.specs.RunText.{console_pieces, pieces_of_turn, denied_pieces, end_pieces};
+ghost use Rattle.cmd_folder.specs.RunText.{console_pieces, pieces_of_turn, denied_pieces};
+ghost use Rattle.cmd_folder.specs.RunText.{end_pieces};
 ghost use Rattle.cmd_folder.specs.RunSays.{IsConsoleTextPut};
 
 use crate::command::RunOutput;
@@ -109,7 +110,8 @@ pub(crate) fn add_step<W: World>(
     world: &mut W,
 ) -> Put
     requires { IsConsoleTextPut output block.old }
-    ensures adds { Adds result block.old block.new (pieces_of_turn output taken (turn.Stepped told.now))
+    ensures adds { Adds result block.old block.new
+        (pieces_of_turn output taken (turn.Stepped told.now))
         (W.seen world.old) (W.seen world.new) }
     ensures shown { IsConsoleTextPut output block.new }
 {
@@ -129,7 +131,8 @@ pub(crate) fn add_link_line<W: World>(
     world: &mut W,
 ) -> Put
     requires { IsConsoleTextPut output block.old }
-    ensures adds { Adds result block.old block.new (pieces_of_turn output taken (turn.Linked note.now))
+    ensures adds { Adds result block.old block.new
+        (pieces_of_turn output taken (turn.Linked note.now))
         (W.seen world.old) (W.seen world.new) }
     ensures shown { IsConsoleTextPut output block.new }
 {
@@ -149,7 +152,8 @@ pub(crate) fn add_console_text<W: World>(
     world: &mut W,
 ) -> Put
     requires { IsConsoleTextPut output block.old }
-    ensures adds { Adds result block.old block.new (pieces_of_turn output taken (turn.Console note.now))
+    ensures adds { Adds result block.old block.new
+        (pieces_of_turn output taken (turn.Console note.now))
         (W.seen world.old) (W.seen world.new) }
     ensures shown { IsConsoleTextPut output block.new }
 {

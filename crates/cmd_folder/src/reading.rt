@@ -25,7 +25,8 @@ fn read_file<W: World>(
     world: &mut W,
     files: SegmentFiles,
 ) -> Result<SegmentFiles, Status>
-    ensures performs { (may : May) → Performs {may = may} (read_and_append file_words files name.now)
+    ensures performs { (may : May) → Performs {may = may}
+        (read_and_append file_words files name.now)
         result (W.seen world.old) (W.seen world.new) }
     ensures more { IfOk result (λ more. length more ≡ length files + 1) }
 {
@@ -67,7 +68,8 @@ fn read_files_and_boot<W: World>(
     access: Access,
     world: &mut W,
 ) -> Result<BootedFolder, Status>
-    ensures performs { (may : May) → Performs {may = may} (files_booted access) (folder_result result)
+    ensures performs { (may : May) → Performs {may = may} (files_booted access)
+        (folder_result result)
         (W.seen world.old) (W.seen world.new) }
     ensures booted { IfOk result (λ booted. IsFresh booted.system) }
 {
@@ -87,7 +89,8 @@ pub fn read_system<W: World>(
     user: &Option<User>,
     world: &mut W,
 ) -> Result<BootedFolder, Status>
-    ensures performs { (may : May) → Performs {may = may} (folder_given user.now) (folder_result result)
+    ensures performs { (may : May) → Performs {may = may} (folder_given user.now)
+        (folder_result result)
         (W.seen world.old) (W.seen world.new) }
     ensures booted { IfOk result (λ booted. IsFresh booted.system) }
 {

@@ -9,7 +9,8 @@ ghost use Rattle.m36_super.specs.SuperTurn.{IsNoService};
 ghost use Rattle.m36_program.specs.Performs.{Performs};
 ghost use Rattle.m36_program.specs.Program.{puts_all};
 ghost use Rattle.cmd_folder.specs.RunProgram.{RunContext, put_run_end, run_from};
-ghost use Rattle.cmd_folder.specs.RunSays.{IsConsoleTextPut, run_of, rest_from_step, rest_from_service, TurnResult, MatchesNextEvent};
+ghost use Rattle.cmd_folder.specs.RunSays.{IsConsoleTextPut, run_of, rest_from_step};
+ghost use Rattle.cmd_folder.specs.RunSays.{rest_from_service, TurnResult, MatchesNextEvent};
 
 use crate::command::RunOutput;
 use crate::ending::finish_status;

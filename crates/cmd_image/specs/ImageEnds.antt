@@ -58,7 +58,8 @@ EndsByFindings command state findings events result =
 
 -- The audit has at least one finding. The call put what the findings require, and has their
 -- status.
-pub record EndsBySomeFindings (command : ImageCommand) (state : State (List ℕ)) (events : List Event)
+pub record EndsBySomeFindings (command : ImageCommand) (state : State (List ℕ))
+    (events : List Event)
     (result : Result (Unit {0}) Status) : Type 0 where
   pub first : ℕ × ℕ
   pub others : List (ℕ × ℕ)

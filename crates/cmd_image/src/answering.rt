@@ -3,7 +3,8 @@
 ghost use Rattle.m36_audit.specs.Findings.{finding_pairs};
 ghost use Rattle.m36_program.specs.Performs.{Performs};
 ghost use Rattle.cmd_image.specs.ImageAudit.{is_run_allowed};
-ghost use Rattle.cmd_image.specs.ImageProgram.{audit_only, audit_and_run, audit_and_run_if, command_after_audit, on_image, image_program};
+ghost use Rattle.cmd_image.specs.ImageProgram.{audit_only, audit_and_run, audit_and_run_if};
+ghost use Rattle.cmd_image.specs.ImageProgram.{command_after_audit, on_image, image_program};
 
 use crate::command::{BareRun, ImageCommand};
 use crate::findings::put_audit;
@@ -61,7 +62,8 @@ fn answer_bare<W: World>(
     world: &mut W,
 ) -> Result<(), Status>
     ensures { Performs
-        (audit_and_run_if (is_run_allowed (finding_pairs findings.now) bare.unaudited) bare.steps image (finding_pairs findings.now))
+        (audit_and_run_if (is_run_allowed (finding_pairs findings.now) bare.unaudited) bare.steps
+        image (finding_pairs findings.now))
         result (W.seen world.old) (W.seen world.new) }
 {
     if is_run_allowed(findings, bare) {

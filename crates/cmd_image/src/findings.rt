@@ -27,7 +27,8 @@ pub fn put_line<W: World>(mut line: ArrayString<160>, world: &mut W) -> Result<(
 
 // Puts the line of a finding.
 fn put_finding<W: World>(finding: &Finding, world: &mut W) -> Result<(), Status>
-    ensures { Performs {may = quiet} (put_one (as_line (finding_line (finding_pair finding.now)))) result
+    ensures { Performs {may = quiet} (put_one (as_line (finding_line (finding_pair finding.now))))
+        result
         (W.seen world.old) (W.seen world.new) }
 {
     put_line(finding_line(finding), world)
@@ -36,7 +37,8 @@ fn put_finding<W: World>(finding: &Finding, world: &mut W) -> Result<(), Status>
 // Puts a line for each finding.
 #[tactic(auto, using(crate::proofs::AuditPuts::findings_in_turn))]
 fn put_findings<W: World>(findings: &[Finding], world: &mut W) -> Result<(), Status>
-    ensures { Performs {may = quiet} (puts_all (finding_pieces (finding_pairs findings.now)) (done tt))
+    ensures { Performs {may = quiet} (puts_all (finding_pieces (finding_pairs findings.now))
+        (done tt))
         result (W.seen world.old) (W.seen world.new) }
 {
     for finding in findings {
@@ -61,7 +63,8 @@ pub fn put_yes<W: World>(world: &mut W) -> Result<(), Status>
 /// Puts the text of an audit, line by line.
 #[tactic(auto, using(crate::proofs::AuditPuts::audit_texts))]
 pub fn put_audit<W: World>(findings: &[Finding], world: &mut W) -> Result<(), Status>
-    ensures { Performs {may = quiet} (puts_all (audit_pieces (finding_pairs findings.now)) (done tt))
+    ensures { Performs {may = quiet} (puts_all (audit_pieces (finding_pairs findings.now))
+        (done tt))
         result (W.seen world.old) (W.seen world.new) }
 {
     if findings.is_empty() {

@@ -10,8 +10,8 @@
 //! - If nothing was found, or `--unaudited` is given, `bare FILE` runs the machine. It puts a trace
 //!   line for each step, and then the end line.
 //!
-//! [`perform_image_command`] performs this program over any world, so its contract has the order of the
-//! events. A step of the machine is no event: only its line is.
+//! [`perform_image_command`] performs this program over any world, so its contract has the order of
+//! the events. A step of the machine is no event: only its line is.
 //!
 //! By its type the program writes no file and takes no input.
 //!

@@ -62,7 +62,8 @@ pub fn is_run_allowed(findings: &[Finding], bare: BareRun) -> bool
 // `NoMemory`.
 fn audit_core(alloc: Global, core: &Core, dbr: Dbr) -> Result<Verdict, NoMemory>
     ensures found { IfOk result (λ v. AreFindings core.now dbr (finding_pairs v.findings.items)) }
-    ensures isolated { IfOk result (λ v. finding_pairs v.findings.items ≡ [] → IsIsolated core.now dbr) }
+    ensures isolated { IfOk result (λ v. finding_pairs v.findings.items ≡ [] → IsIsolated core.now
+        dbr) }
 {
     audit(alloc, core, dbr)
 }

@@ -13,7 +13,8 @@ use Rattle.m36_status.specs.declared.setting.Set.{Set}
 use Rattle.m36_status.specs.declared.status.Code.TheVariants as code
 use Rattle.m36_status.specs.Refusing.{RuleResult}
 use Rattle.m36_status.specs.Rules.{file_refusal}
-use Rattle.cmd_tools.specs.Assemblies.{Assembly, assembly_of, object_bytes, object_set, IsMadeOrFault}
+use Rattle.cmd_tools.specs.Assemblies.{Assembly, assembly_of, object_bytes, object_set}
+use Rattle.cmd_tools.specs.Assemblies.{IsMadeOrFault}
 use Rattle.cmd_tools.specs.PrintAndAlm.{source_refused}
 
 -- a file of the generator, as a file to write

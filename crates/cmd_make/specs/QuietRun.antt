@@ -32,15 +32,18 @@ after_service Print taken on b = on b
 after_service (next_event.Over e) taken on b = done (summary_of_run (Over e) taken b)
 
 -- what follows a service, by the next event after it; the number is the count of steps taken
-abbrev pub continue_after_service : ℕ → (Booted → Program quiet RunSummary) → TurnAndState → Program quiet RunSummary
+abbrev pub continue_after_service :
+    ℕ → (Booted → Program quiet RunSummary) → TurnAndState → Program quiet RunSummary
 continue_after_service taken on made = after_service made.after.next_event taken on made.after
 
 -- What follows a step, by the next event: another step; a link service, for which memory may run
 -- out; a console service; or the end of the run.
 abbrev pub serve_event :
-    NextEvent → Library → ℕ → (Booted → Program quiet RunSummary) → Booted → Program quiet RunSummary
+    NextEvent → Library → ℕ → (Booted → Program quiet RunSummary) → Booted
+    → Program quiet RunSummary
 serve_event Step lib taken on b = on b
-serve_event (Link at) lib taken on b = wants (some (FindsMemory lib b) (continue_after_service taken on))
+serve_event (Link at) lib taken on b =
+    wants (some (FindsMemory lib b) (continue_after_service taken on))
 serve_event Print lib taken on b = some (IsPossibleTurn lib b) (continue_after_service taken on)
 serve_event (next_event.Over e) lib taken on b = done (summary_of_run (Over e) taken b)
 

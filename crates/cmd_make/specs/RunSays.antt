@@ -30,7 +30,8 @@ RestOfRun = ℕ → ℕ → Program quiet RunSummary
 -- what is left before a step, which is counted in `taken` already
 abbrev pub rest_from_step : Library → Booted → RestOfRun
 rest_from_step lib b taken left =
-    some (IsPossibleTurn lib b) (λ made. serve lib taken (λ b. run_from lib taken left b) made.after)
+    some (IsPossibleTurn lib b) (λ made. serve lib taken (λ b. run_from lib taken left b)
+    made.after)
 
 -- what is left after a step, before its service if it has one
 abbrev pub rest_from_service : Library → Booted → RestOfRun
@@ -46,7 +47,8 @@ pub record StepFollows (lib : Library) (first : RestOfRun) (after : SuperFields)
 -- The run has ended in this way.
 pub record RunIsOver (e : End) (first : RestOfRun) (after : SuperFields) : Type 0 where
   pub goes :
-      (taken left : ℕ) → Goes (first taken left) [] (Ok (summary_of_run (Over e) taken (booted_of after)))
+      (taken left : ℕ) → Goes (first taken left) []
+      (Ok (summary_of_run (Over e) taken (booted_of after)))
 
 -- A link service ran out of memory.
 pub record RunsOutOfMemory (first : RestOfRun) : Type 0 where

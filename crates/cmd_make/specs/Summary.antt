@@ -33,7 +33,8 @@ head_pieces count findings = head_line count ∷ audit_pieces findings
 
 -- the lines after the run, if it has ended: the end line, and X1
 abbrev pub end_pieces : Option Finish → ℕ → RegsFields → List (List ℕ)
-end_pieces how steps regs = end_line_and_rest how steps (λ (last : Finish). as_line (sum_line regs) ∷ [])
+end_pieces how steps regs =
+    end_line_and_rest how steps (λ (last : Finish). as_line (sum_line regs) ∷ [])
 
 -- how many segments a system has
 abbrev pub segment_count : Library → ℕ

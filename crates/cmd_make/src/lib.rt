@@ -24,8 +24,9 @@
 //! (`specs/InMemory.antt`). Neither are the turns of the run, so no contract says when a turn is
 //! made: only the lines after the run depend on it.
 //!
-//! [`perform_make`] performs the program over any world, so its contract has the order of the events:
-//! all files are written before the first line is put. By its type the program takes no input.
+//! [`perform_make`] performs the program over any world, so its contract has the order of the
+//! events: all files are written before the first line is put. By its type the program takes no
+//! input.
 //!
 //! `specs/Making.antt` says which files a seed makes, `specs/Made.antt` what they boot to,
 //! `specs/QuietRun.antt` what a run is of which no turn is written, and `specs/Summary.antt` which

@@ -6,7 +6,8 @@ ghost use Rattle.m36_text.specs.Texts.{name_limit};
 ghost use Rattle.m36_outside.specs.ReadAnswer.{file_limit};
 ghost use Rattle.m36_status.specs.Refusing.{IsRuleResult};
 ghost use Rattle.cmd_tools.specs.Assemblies.{with_parts, assembly_of};
-ghost use Rattle.cmd_make.specs.Making.{object_name, object_set_or_refusal, object_of, with_objects, ObjectResult};
+ghost use Rattle.cmd_make.specs.Making.{object_name, object_set_or_refusal, object_of};
+ghost use Rattle.cmd_make.specs.Making.{with_objects, ObjectResult};
 
 use crate::sets::Sets;
 use alm_asm::assemble;

@@ -6,7 +6,8 @@ ghost use Rattle.m36_super.specs.SuperFields.{booted_of};
 ghost use Rattle.m36_super.specs.SuperTurn.{IsNoService};
 ghost use Rattle.m36_program.specs.Goes.{Goes};
 ghost use Rattle.cmd_make.specs.QuietRun.{run_from};
-ghost use Rattle.cmd_make.specs.RunSays.{rest_from_step, rest_from_service, TurnResult, MatchesNextEvent, summary_in_result};
+ghost use Rattle.cmd_make.specs.RunSays.{rest_from_step, rest_from_service, TurnResult};
+ghost use Rattle.cmd_make.specs.RunSays.{MatchesNextEvent, summary_in_result};
 
 use cmd_folder::finish::Finish;
 use m36_model::{At, End, StepRecord};
@@ -49,7 +50,8 @@ fn after_link(system: &Super) -> AfterTurn
 #[tactic(auto, using(crate::proofs::Serving::services))]
 fn perform_link_service(system: &mut Super, at: At) -> AfterTurn
     requires { system.old.next_event ≡ Link at }
-    ensures { TurnResult result system.old.lib (rest_from_service system.old.lib (booted_of system.old))
+    ensures { TurnResult result system.old.lib
+        (rest_from_service system.old.lib (booted_of system.old))
         system.new }
 {
     match system.serve_link(at) {
@@ -62,7 +64,8 @@ fn perform_link_service(system: &mut Super, at: At) -> AfterTurn
 #[tactic(auto, using(crate::proofs::Serving::services))]
 fn perform_console_service(system: &mut Super) -> AfterTurn
     requires { system.old.next_event ≡ Print }
-    ensures { TurnResult result system.old.lib (rest_from_service system.old.lib (booted_of system.old))
+    ensures { TurnResult result system.old.lib
+        (rest_from_service system.old.lib (booted_of system.old))
         system.new }
 {
     match system.turn() {
@@ -75,7 +78,8 @@ fn perform_console_service(system: &mut Super) -> AfterTurn
 // Performs the service that is next, if there is one.
 #[tactic(auto, using(crate::proofs::Serving::services))]
 fn serve(system: &mut Super) -> AfterTurn
-    ensures { TurnResult result system.old.lib (rest_from_service system.old.lib (booted_of system.old))
+    ensures { TurnResult result system.old.lib
+        (rest_from_service system.old.lib (booted_of system.old))
         system.new }
 {
     match system.next_event() {
@@ -90,7 +94,8 @@ fn serve(system: &mut Super) -> AfterTurn
 // overwritten.
 fn take_step(system: &mut Super, told: &mut StepRecord) -> AfterTurn
     requires { system.old.next_event ≡ Step }
-    ensures { TurnResult result system.old.lib (rest_from_step system.old.lib (booted_of system.old))
+    ensures { TurnResult result system.old.lib
+        (rest_from_step system.old.lib (booted_of system.old))
         system.new }
 {
     system.step_told(told);

@@ -13,7 +13,8 @@ ghost use Rattle.cmd_folder.specs.RunText.{finish_status};
 ghost use Rattle.cmd_folder.specs.BootedSystems.{IsFresh};
 ghost use Rattle.cmd_folder.specs.RunProgram.{finish_may_end};
 ghost use Rattle.cmd_make.specs.Summary.{segments_line, sum_line, head_pieces};
-ghost use Rattle.cmd_make.specs.MakeProgram.{put_summary, run_and_summarise, runs_or_ends, make_after_audit, on_booted};
+ghost use Rattle.cmd_make.specs.MakeProgram.{put_summary, run_and_summarise, runs_or_ends};
+ghost use Rattle.cmd_make.specs.MakeProgram.{make_after_audit, on_booted};
 
 use crate::running::{RunEnd, run_quietly};
 use arrayvec::ArrayString;
@@ -61,7 +62,8 @@ fn sum_line(regs: &Regs) -> ArrayString<160>
 // Puts the lines before the run: the count of segments, and the audit's text.
 #[tactic(auto, using(crate::proofs::SummarySteps::heading))]
 fn put_head<W: World>(count: u64, findings: &[Finding], world: &mut W) -> Result<(), Status>
-    ensures { Performs {may = quiet} (puts_all (head_pieces count (finding_pairs findings.now)) (done tt))
+    ensures { Performs {may = quiet} (puts_all (head_pieces count (finding_pairs findings.now))
+        (done tt))
         result (W.seen world.old) (W.seen world.new) }
 {
     match put_line(segments_line(count), world) {
@@ -135,7 +137,8 @@ fn perform_for_findings<W: World>(
     world: &mut W,
 ) -> Result<(), Status>
     requires { system.old.next_event ≡ Step }
-    ensures { Performs (make_after_audit system.old.lib (booted_of system.old) (finding_pairs findings.now))
+    ensures { Performs (make_after_audit system.old.lib (booted_of system.old)
+        (finding_pairs findings.now))
         result (W.seen world.old) (W.seen world.new) }
 {
     let count = system.catalog().count() as u64;

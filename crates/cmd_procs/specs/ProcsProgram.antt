@@ -34,7 +34,8 @@ procs_in_file name = then_with (file_bytes name) (decode name)
 -- ---- the joint audit, and the run
 
 -- The findings of the joint audit. If there are none, every schedule of the processes is isolated.
-pub record AreScheduleFindings (s : Processes (List ℕ)) (findings : List JointFindingFields) : Type 0 where
+pub record AreScheduleFindings (s : Processes (List ℕ))
+    (findings : List JointFindingFields) : Type 0 where
   pub found : AreJointFindings s.store (dbrs_of s) findings
   pub isolated : findings ≡ [] → SchedulesAreIsolated s
 
@@ -51,13 +52,16 @@ unfoldable pub audit_and_run : ProcsFields → List JointFindingFields → Progr
 audit_and_run p findings = puts_all (joint_audit_pieces findings) (run_schedule p)
 
 -- puts the audit's text, and runs the schedule if the Boolean is true; otherwise ends with AuditNo
-abbrev pub audit_and_run_if : Bool → ProcsFields → List JointFindingFields → Program quiet (Unit {0})
+abbrev pub audit_and_run_if :
+    Bool → ProcsFields → List JointFindingFields → Program quiet (Unit {0})
 audit_and_run_if true p findings = audit_and_run p findings
 audit_and_run_if false p findings = audit_only findings
 
 -- what the command does after a joint audit with these findings; the Boolean is `--unaudited`
-abbrev pub procs_after_audit : Bool → ProcsFields → List JointFindingFields → Program quiet (Unit {0})
-procs_after_audit unaudited p findings = audit_and_run_if (is_run_allowed findings unaudited) p findings
+abbrev pub procs_after_audit :
+    Bool → ProcsFields → List JointFindingFields → Program quiet (Unit {0})
+procs_after_audit unaudited p findings =
+    audit_and_run_if (is_run_allowed findings unaudited) p findings
 
 -- ---- the command
 

@@ -6,7 +6,8 @@ ghost use Rattle.m36_audit.specs.Joints.{all_found};
 ghost use Rattle.m36_program.specs.Performs.{Performs};
 ghost use Rattle.cmd_image.specs.ImageAudit.{is_run_allowed};
 ghost use Rattle.cmd_procs.specs.Scheduled.{dbrs_of, SchedulesAreIsolated};
-ghost use Rattle.cmd_procs.specs.ProcsProgram.{audit_only, audit_and_run, procs_after_audit, on_procs, procs_program};
+ghost use Rattle.cmd_procs.specs.ProcsProgram.{audit_only, audit_and_run, procs_after_audit};
+ghost use Rattle.cmd_procs.specs.ProcsProgram.{on_procs, procs_program};
 
 use crate::findings::put_joint_audit;
 use crate::reading::read_procs;

@@ -6,7 +6,8 @@ ghost use Rattle.m36_audit.specs.Joints.{found_of, all_found};
 ghost use Rattle.m36_program.specs.Performs.{Performs};
 ghost use Rattle.m36_program.specs.Program.{quiet, done, puts_all};
 ghost use Rattle.m36_program.specs.Readers.{put_one};
-ghost use Rattle.cmd_procs.specs.JointText.{process_line, between_line, joint_finding_line, joint_finding_pieces, joint_audit_pieces};
+ghost use Rattle.cmd_procs.specs.JointText.{process_line, between_line, joint_finding_line};
+ghost use Rattle.cmd_procs.specs.JointText.{joint_finding_pieces, joint_audit_pieces};
 
 use arrayvec::ArrayString;
 use cmd_image::audit_lines::place_text;
@@ -59,7 +60,8 @@ fn joint_finding_line(finding: &JointFinding) -> ArrayString<160>
 
 // Puts the line of a finding.
 fn put_joint_finding<W: World>(finding: &JointFinding, world: &mut W) -> Result<(), Status>
-    ensures { Performs {may = quiet} (put_one (as_line (joint_finding_line (found_of finding.now)))) result
+    ensures { Performs {may = quiet} (put_one (as_line (joint_finding_line (found_of finding.now))))
+        result
         (W.seen world.old) (W.seen world.new) }
 {
     put_line(joint_finding_line(finding), world)
@@ -68,7 +70,8 @@ fn put_joint_finding<W: World>(finding: &JointFinding, world: &mut W) -> Result<
 // Puts a line for each finding.
 #[tactic(auto, using(crate::proofs::JointTexts::findings_in_turn))]
 fn put_joint_findings<W: World>(findings: &[JointFinding], world: &mut W) -> Result<(), Status>
-    ensures { Performs {may = quiet} (puts_all (joint_finding_pieces (all_found findings.now)) (done tt))
+    ensures { Performs {may = quiet} (puts_all (joint_finding_pieces (all_found findings.now))
+        (done tt))
         result (W.seen world.old) (W.seen world.new) }
 {
     for finding in findings {
@@ -83,7 +86,8 @@ fn put_joint_findings<W: World>(findings: &[JointFinding], world: &mut W) -> Res
 /// Puts the text of a joint audit, line by line.
 #[tactic(auto, using(crate::proofs::JointTexts::joint_texts))]
 pub fn put_joint_audit<W: World>(findings: &[JointFinding], world: &mut W) -> Result<(), Status>
-    ensures { Performs {may = quiet} (puts_all (joint_audit_pieces (all_found findings.now)) (done tt))
+    ensures { Performs {may = quiet} (puts_all (joint_audit_pieces (all_found findings.now))
+        (done tt))
         result (W.seen world.old) (W.seen world.new) }
 {
     if findings.is_empty() {

@@ -10,8 +10,8 @@
 //! 4. If nothing was found, or with `--unaudited`, the schedule is run: a line is put for each of
 //!    its steps, and the last line.
 //!
-//! Memory does not run out once a line was put. [`perform_procs_command`] performs this program over any
-//! world.
+//! Memory does not run out once a line was put. [`perform_procs_command`] performs this program
+//! over any world.
 //!
 //! By its type the program writes no file and takes no input.
 //!

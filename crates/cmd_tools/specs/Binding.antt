@@ -29,7 +29,8 @@ names_or_refusal file (Err fault) = Err (bind_refused file fault)
 
 -- the report of a bound object: the file with the object, and the print of it
 abbrev pub report_of_bound_object : List ℕ → PartsFields → ReportFields
-report_of_bound_object name parts = record { sets = object_set name parts ∷ []; text = print_of name parts }
+report_of_bound_object name parts =
+    record { sets = object_set name parts ∷ []; text = print_of name parts }
 
 -- the report of the bound object, or the refusal of the bind file
 abbrev pub bind_report_or_refusal :

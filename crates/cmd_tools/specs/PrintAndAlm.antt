@@ -47,5 +47,6 @@ alm_report_or_refusal files (Err fault) = Err (source_refused files.source fault
 -- ---- the contract of the part of `alm` that works without files
 
 -- The result is the report of the assembly of a source, or the refusal of the source, or NoMemory.
-abbrev pub IsReportOrFault : List ℕ → Result ReportFields AlmFault → Result Assembly AlmFault → Type 0
+abbrev pub IsReportOrFault :
+    List ℕ → Result ReportFields AlmFault → Result Assembly AlmFault → Type 0
 IsReportOrFault name result given = IsMadeOrFault (report_of_assembly name) result given

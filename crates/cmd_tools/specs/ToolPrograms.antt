@@ -25,7 +25,8 @@ use Rattle.cmd_tools.specs.Reporting.{put_text, write_report}
 
 -- reads an object, and makes its print
 unfoldable pub print_report : {may : May} → List ℕ → Program may ReportFields
-print_report name = then_with (file_object name) (λ parts. rule_program (Ok (report_of_print name parts)))
+print_report name =
+    then_with (file_object name) (λ parts. rule_program (Ok (report_of_print name parts)))
 
 -- the whole command: reads the object, and puts its print
 unfoldable pub print_program : List ℕ → Program quiet (Unit {0})
@@ -36,7 +37,8 @@ print_program name = then_with (print_report name) (λ report. put_text report.t
 -- reads the access lists, and reports what a user may do with each segment of a catalog
 unfoldable pub lists_report : {may : May} → List ℕ → CatalogFields → Program may ReportFields
 lists_report user catalog =
-    then_with (access_lists catalog) (λ lists. rule_program (Ok (report_of_access user catalog lists)))
+    then_with (access_lists catalog) (λ lists. rule_program
+    (Ok (report_of_access user catalog lists)))
 
 -- reads the boot text and the access lists, and reports what a user may do with each segment
 unfoldable pub access_report : {may : May} → List ℕ → Program may ReportFields
@@ -51,7 +53,8 @@ access_program user = then_with (access_report user) (λ report. put_text report
 -- reads and assembles a source, and reports the object
 unfoldable pub alm_report : {may : May} → AlmFiles → Program may ReportFields
 alm_report files =
-    then_with (file_bytes files.source) (λ bytes. rule_program (alm_report_or_refusal files (assembly_of bytes)))
+    then_with (file_bytes files.source)
+    (λ bytes. rule_program (alm_report_or_refusal files (assembly_of bytes)))
 
 -- the whole command: assembles the source, writes the object, and then puts the listing
 unfoldable pub alm_program : AlmFiles → Program may_write_files (Unit {0})

@@ -32,7 +32,8 @@ fn report_with_listing(
     lines: &Lines36,
     object: &Object,
 ) -> Result<Report, AlmFault>
-    ensures { IsReportOrFault name.now result (Ok (record { source = lines.now; parts = object.now })) }
+    ensures { IsReportOrFault name.now result
+        (Ok (record { source = lines.now; parts = object.now })) }
 {
     let content = object_bytes(alloc, object)?;
     let listing = listing(alloc, name.bytes(), lines, object)?;

@@ -5,12 +5,14 @@ ghost use Rattle.m36_outside.specs.ReadAnswer.{file_limit};
 ghost use Rattle.m36_bindfile.specs.BindFile.{bind_lines, names_or_fault, BindResult};
 ghost use Rattle.m36_bind.specs.Bound.{bound_object_of};
 ghost use Rattle.m36_status.specs.Refusing.{IsRuleResult, IsRuleRefusal};
-ghost use Rattle.cmd_tools.specs.Binding.{bind_refused, names_or_refusal, report_of_bound_object, bind_report_or_refusal};
+ghost use Rattle.cmd_tools.specs.Binding.{bind_refused, names_or_refusal, report_of_bound_object};
+ghost use Rattle.cmd_tools.specs.Binding.{bind_report_or_refusal};
 ghost use Rattle.m36_program.specs.Performs.{Performs};
 ghost use Rattle.m36_files.specs.EachFile.{read_and_append, read_each};
 ghost use Rattle.m36_files.specs.FileReaders.{file_object};
 ghost use Rattle.m36_files.specs.Writing.{may_write_files};
-ghost use Rattle.cmd_tools.specs.ToolPrograms.{components_report, text_report, bind_report, bind_program};
+ghost use Rattle.cmd_tools.specs.ToolPrograms.{components_report, text_report, bind_report};
+ghost use Rattle.cmd_tools.specs.ToolPrograms.{bind_program};
 
 use crate::bind_files::BindFiles;
 use crate::objects::object_bytes;
@@ -87,7 +89,8 @@ fn refuse_bind(alloc: Global, name: &[u8], fault: BindFault) -> Refusal
 #[tactic(auto, using(crate::proofs::BindLaws::naming))]
 fn names_in(alloc: Global, file: &[u8], text: &[u8]) -> Result<Names, Refusal>
     requires { length text.now ≤ file_limit }
-    ensures { IsRuleResult result (names_or_refusal file.now (names_or_fault (bind_lines text.now))) }
+    ensures { IsRuleResult result (names_or_refusal file.now
+        (names_or_fault (bind_lines text.now))) }
 {
     match component_names_of(alloc, text) {
         Ok(names) => Ok(names),
@@ -166,7 +169,8 @@ fn bind_and_report(
     objects: &[Object],
 ) -> Result<Report, Refusal>
     requires { length text.now ≤ file_limit }
-    ensures { IsRuleResult result (bind_report_or_refusal files.now (bound_object_of text.now names.now objects.now)) }
+    ensures { IsRuleResult result (bind_report_or_refusal files.now
+        (bound_object_of text.now names.now objects.now)) }
 {
     match bind_text(alloc, text, names, objects) {
         Ok(object) => {
@@ -188,7 +192,8 @@ fn read_and_bind<W: World>(
     world: &mut W,
 ) -> Result<Report, Status>
     requires { length text.now ≤ file_limit }
-    ensures { Performs {may = may_write_files} (components_report files.now text.now names.now) result
+    ensures { Performs {may = may_write_files}
+        (components_report files.now text.now names.now) result
         (W.seen world.old) (W.seen world.new) }
 {
     match read_objects(alloc, names, world) {

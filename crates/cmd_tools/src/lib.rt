@@ -24,9 +24,9 @@
 //!
 //! A report follows from what was read (`specs/PrintAndAlm.antt`, `specs/Binding.antt`,
 //! `specs/Accesses.antt`). It has the files that are written, and the text that is then printed, a
-//! piece for each line (`specs/Reports.antt`). `make` uses the objects of sources and their refusals
-//! too: [`objects::object_bytes`] gives the bytes of an object, and [`refuse_source`] refuses a
-//! source.
+//! piece for each line (`specs/Reports.antt`). `make` uses the objects of sources and their
+//! refusals too: [`objects::object_bytes`] gives the bytes of an object, and [`refuse_source`]
+//! refuses a source.
 //!
 //! Formats are those of `m36_list` and `obj36`; the machine's words are those of the Multics
 //! Processor Manual AL39.

@@ -48,7 +48,8 @@ new_segment line given = record { line = line; dir = given.dir; name = given.nam
 -- the lists after a `segment` line, or its fault
 abbrev pub with_segment : ℕ → Lists → Entry → ListsResult
 with_segment line above given =
-    if has_segment above given then Err (fault.C2 line) else Ok (above ++ new_segment line given ∷ [])
+    if has_segment above given then Err (fault.C2 line) else Ok
+    (above ++ new_segment line given ∷ [])
 
 -- ---- a `term` line, which belongs to the last segment
 

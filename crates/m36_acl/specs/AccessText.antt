@@ -74,7 +74,8 @@ with_space_and_word text word = (text ++ codes " ") ++ word
 unfoldable pub access_line : Lists → List ℕ → List (List ℕ) → SegmentFields → List ℕ
 access_line lists user directories s =
     as_line
-    (with_space_and_word (with_space_and_word (with_space_and_word (directory_in directories s) (first_name_of s))
+    (with_space_and_word (with_space_and_word (with_space_and_word (directory_in directories s)
+    (first_name_of s))
     (mode_of (decision_on lists user directories s)))
     (deciding_term lists user directories s))
 
@@ -82,7 +83,8 @@ access_line lists user directories s =
 unfoldable pub denied_line : Lists → List ℕ → List (List ℕ) → SegmentFields → List ℕ
 denied_line lists user directories s =
     as_line
-    (with_space_and_word (with_space_and_word (with_space_and_word (codes "denied") (directory_in directories s)) (first_name_of s))
+    (with_space_and_word (with_space_and_word (with_space_and_word (codes "denied")
+    (directory_in directories s)) (first_name_of s))
     (deciding_term lists user directories s))
 
 -- ---- for all segments, in their order

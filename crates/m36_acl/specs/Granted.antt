@@ -21,7 +21,8 @@ first_name_of s = unwrap_or (slice_get s.names 0) []
 -- whether an access list is that of this segment of the catalog
 abbrev pub is_list_for : CatalogFields → AclSegmentFields → SegmentFields → Bool
 is_list_for catalog given s =
-    is_same_entry (entry given.dir given.name) (entry (directory_in catalog.directories s) (first_name_of s))
+    is_same_entry (entry given.dir given.name)
+    (entry (directory_in catalog.directories s) (first_name_of s))
 
 -- whether the list is that of a segment of the catalog
 abbrev pub is_in_catalog : CatalogFields → AclSegmentFields → Bool
@@ -36,7 +37,8 @@ first_unknown catalog lists =
 
 -- what a user may do with a segment of a catalog
 unfoldable pub decision_on : Lists → List ℕ → List (List ℕ) → SegmentFields → Decision
-decision_on lists user directories s = policy lists (directory_in directories s) (first_name_of s) user
+decision_on lists user directories s =
+    policy lists (directory_in directories s) (first_name_of s) user
 
 -- a segment with the rights of a decision
 abbrev pub with_decision : SegmentFields → Decision → SegmentFields

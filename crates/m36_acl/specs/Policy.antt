@@ -43,7 +43,8 @@ decision_at terms (Some place) = decision_of_term place (slice_get terms place)
 -- The mode of the first term that matches the user, with the index of that term. If none matches,
 -- no right and no term.
 unfoldable pub first_match_decision : List TermFields → List ℕ → Decision
-first_match_decision terms user = decision_at terms (position (λ term. matches term.text user) terms)
+first_match_decision terms user =
+    decision_at terms (position (λ term. matches term.text user) terms)
 
 -- what a user may do with a segment, by the lists
 unfoldable pub policy : Lists → List ℕ → List ℕ → List ℕ → Decision

@@ -2,7 +2,8 @@
 
 ghost use Rattle.std.specs.Prelude.{◌≡◌, ◌<◌, length};
 ghost use Rattle.m36_dir.specs.IsCatalog.{IsSegment};
-ghost use Rattle.m36_acl.specs.Granted.{first_name_of, is_list_for, is_in_catalog, first_unknown, decision_on, GrantsOne, granted_catalog};
+ghost use Rattle.m36_acl.specs.Granted.{first_name_of, is_list_for, is_in_catalog, first_unknown};
+ghost use Rattle.m36_acl.specs.Granted.{decision_on, GrantsOne, granted_catalog};
 
 use crate::acl::Acl;
 use crate::policy::Decision;

@@ -1,9 +1,13 @@
 //! The components of users and terms, and which term matches which user.
 
-ghost use Rattle.std.specs.Prelude.{◌≡◌, ◌+◌, ◌*◌, ◌≤◌, ◌&&◌, ◌||◌, true, length, ◌∷◌, [], Some, None, MatchOption, IfSome};
+ghost use Rattle.std.specs.Prelude.{◌≡◌, ◌+◌, ◌*◌, ◌≤◌, ◌&&◌, ◌||◌, true, length, ◌∷◌, [], Some};
+ghost use Rattle.std.specs.Prelude.{None, MatchOption, IfSome};
 ghost use Rattle.std.specs.List.{list_all};
-ghost use Rattle.m36_acl.specs.Users.{parts_of, components_of, is_component_character, is_component, is_tag_character, is_tag, is_wildcard};
-ghost use Rattle.m36_acl.specs.Users.{are_of_user, is_user, may_be_component, may_be_tag, are_of_term, is_term, admits, matches, component_limit, user_limit};
+ghost use Rattle.m36_acl.specs.Users.{parts_of, components_of, is_component_character};
+ghost use Rattle.m36_acl.specs.Users.{is_component, is_tag_character, is_tag, is_wildcard};
+ghost use Rattle.m36_acl.specs.Users.{are_of_user, is_user, may_be_component, may_be_tag};
+ghost use Rattle.m36_acl.specs.Users.{are_of_term, is_term, admits, matches, component_limit};
+ghost use Rattle.m36_acl.specs.Users.{user_limit};
 
 use m36_text::{is_digit, is_letter, place_of};
 

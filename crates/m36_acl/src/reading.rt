@@ -3,8 +3,10 @@
 ghost use Rattle.std.specs.Prelude.{◌≡◌, ◌<◌, ◌≤◌, ◌^◌, length, Some, Ok, IfOk, IfErr, option_map};
 ghost use Rattle.m36_text.specs.Lines.{words_of, last_of};
 ghost use Rattle.m36_dir.specs.BootOrder.{entry};
-ghost use Rattle.m36_acl.specs.AccessLine.{Segment, Term as TermLine, entry_of, term_of, parsed_line};
-ghost use Rattle.m36_acl.specs.AccessLists.{with_segment, has_term, with_term_line, with_line, lists_of, RefusesWith, ChangesTo};
+ghost use Rattle.m36_acl.specs.AccessLine.{Segment, Term as TermLine, entry_of, term_of};
+ghost use Rattle.m36_acl.specs.AccessLine.{parsed_line};
+ghost use Rattle.m36_acl.specs.AccessLists.{with_segment, has_term, with_term_line, with_line};
+ghost use Rattle.m36_acl.specs.AccessLists.{lists_of, RefusesWith, ChangesTo};
 ghost use Rattle.m36_dir.specs.BootLine.{directory_limit};
 
 use crate::above::{SegmentKey, SegmentsAbove};
@@ -47,7 +49,8 @@ fn has_term(terms: &[Term], text: &[u8]) -> bool
 // Adds a term to the last segment. C1 if there is no segment or its list is full, C2 if the list
 // has the term.
 fn add_term(above: &mut SegmentsAbove, number: u32, term: Term) -> Result<(), AclFault>
-    ensures { ChangesTo above.new result (with_term_line number above.old (last_of above.old) term) }
+    ensures { ChangesTo above.new result
+        (with_term_line number above.old (last_of above.old) term) }
 {
     let Some(terms) = above.last_terms() else {
         return Err(AclFault::C1(number));
@@ -97,7 +100,8 @@ fn add_line(
     number: u32,
     line: &[u8],
 ) -> Result<(), AclFault>
-    ensures { ChangesTo above.new result (with_line number above.old (parsed_line (Some line.now))) }
+    ensures { ChangesTo above.new result
+        (with_line number above.old (parsed_line (Some line.now))) }
 {
     let (word, rest) = first_word(line);
     let Some(given) = rest else {

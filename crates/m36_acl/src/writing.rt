@@ -4,7 +4,9 @@ ghost use Rattle.std.specs.Prelude.{◌≡◌, ◌++◌, ◌∷◌, [], length, 
 ghost use Rattle.m36_dir.specs.Catalog.{directory_in};
 ghost use Rattle.m36_dir.specs.IsCatalog.{IsSegment};
 ghost use Rattle.m36_acl.specs.Granted.{first_name_of};
-ghost use Rattle.m36_acl.specs.AccessText.{mode_text, deciding_term_in, deciding_term, with_space_and_word, access_line, denied_line, access_text, denied_lines};
+ghost use Rattle.m36_acl.specs.AccessText.{mode_text, deciding_term_in, deciding_term};
+ghost use Rattle.m36_acl.specs.AccessText.{with_space_and_word, access_line, denied_line};
+ghost use Rattle.m36_acl.specs.AccessText.{access_text, denied_lines};
 
 use crate::acl::Acl;
 use crate::denied::DeniedLines;

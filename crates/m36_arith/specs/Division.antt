@@ -1,6 +1,7 @@
 -- A division of words: it is refused, or it has a quotient and a remainder.
 -- Multics Processor Manual AL39, "Fixed-point division instructions".
-use Rattle.std.specs.Prelude.{◌≡◌, ℕ, ◌^◌, ◌<◌, true, false, not, ◌||◌, ◌==◌, int_div, Result, Ok, Err}
+use Rattle.std.specs.Prelude.{◌≡◌, ℕ, ◌^◌, ◌<◌, true, false, not, ◌||◌, ◌==◌, int_div, Result, Ok}
+use Rattle.std.specs.Prelude.{Err}
 use Rattle.m36_word.specs.Signed.{signed}
 use Rattle.m36_model.specs.Arithmetic.{in_range, quotient, remainder, is_divide_check}
 use Rattle.m36_arith.specs.declared.divisions.DivideCheck.{DivideCheck}

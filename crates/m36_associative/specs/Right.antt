@@ -3,7 +3,8 @@ use Rattle.std.specs.Prelude.{ℕ, ◌≡◌, ◌+◌, ◌*◌, ◌/◌, ◌%◌
 use Rattle.std.specs.Prelude.{length, slice_index, Contains, Ok, Some, None}
 use Rattle.m36_desc.specs.Access.{first_violation, read_rows, write_rows, fetch_rows, transfer_rows}
 use Rattle.m36_desc.specs.Fields.{SdwFields, PtwFields, DbrFields}
-use Rattle.m36_model.specs.Place.{wrapped_address, address_in_frame, ptw_at, directory_at, page_at, sdw_place}
+use Rattle.m36_model.specs.Place.{wrapped_address, address_in_frame, ptw_at, directory_at, page_at}
+use Rattle.m36_model.specs.Place.{sdw_place}
 use Rattle.m36_model.specs.Place.{core_sdw, word_place, word_place_by, marked_word, marks_by}
 use Rattle.m36_model.specs.Place.{with_marks}
 use Rattle.m36_model.specs.Store.{is_within_bound}
@@ -57,7 +58,8 @@ module _ (core : List ℕ) (dbr : DbrFields) (words tables : List ℕ) where
   -- and, in a paged descriptor segment, the PTW.
   pub record IsWatched (seg : ℕ) : Type 0 where
     pub even : (a : ℕ) → sdw_place core dbr seg ≡ Ok a → is_watched words a ≡ true
-    pub odd : (a : ℕ) → sdw_place core dbr seg ≡ Ok a → is_watched words (wrapped_address (a + 1)) ≡ true
+    pub odd : (a : ℕ) → sdw_place core dbr seg ≡ Ok a → is_watched words (wrapped_address (a + 1))
+    ≡ true
     pub directory : dbr.unpaged ≡ false → is_watched tables (directory_at dbr seg) ≡ true
 
   -- A descriptor may be kept for this segment: it is the one that core has, and the words through
@@ -70,7 +72,8 @@ module _ (core : List ℕ) (dbr : DbrFields) (words tables : List ℕ) where
   -- marks may differ), and the address is watched.
   pub record IsKeptTableWord (a : ℕ) (p : PtwFields) : Type 0 where
     pub inside : a < length core
-    pub finds : (offset : ℕ) → address_in_frame (ptw_at core a) offset ≡ address_in_frame (Some p) offset
+    pub finds : (offset : ℕ) → address_in_frame (ptw_at core a) offset
+    ≡ address_in_frame (Some p) offset
     pub watches : is_watched tables a ≡ true
 
   -- A page in front: the descriptor of its segment, where its words are in core, that its marks are
@@ -93,7 +96,8 @@ module _ (core : List ℕ) (dbr : DbrFields) (words tables : List ℕ) where
 
   -- a page in front by its key, which determines segment and page; key 0 is that of no page
   abbrev pub IsPageInFront : Page → Type 0
-  IsPageInFront p = (seg page : ℕ) → page < 256 → p.key ≡ page_key seg page → DescribesPage p seg page
+  IsPageInFront p = (seg page : ℕ) → page < 256 → p.key ≡ page_key seg page
+  → DescribesPage p seg page
 
   -- the page that is fetched from: a page in front, in one ring
   pub record IsFetching (f : Fetching) : Type 0 where

@@ -3,8 +3,10 @@
 //! None means that the page is not in front, or that it does not answer this reference. The caller
 //! then makes the reference by the tables, which also decide why it is refused, if it is.
 
-ghost use Rattle.std.specs.Prelude.{ℕ, ◌≡◌, ◌+◌, ◌/◌, ◌≤◌, ◌%◌, ◌<◌, ◌^◌, true, false, IfSome, IsTrue};
-ghost use Rattle.m36_associative.specs.Right.{AreCoherent, DescribesPage, Answers, MayRead, MayWrite, MayFetch, MayTransferTo};
+ghost use Rattle.std.specs.Prelude.{ℕ, ◌≡◌, ◌+◌, ◌/◌, ◌≤◌, ◌%◌, ◌<◌, ◌^◌, true, false, IfSome};
+ghost use Rattle.std.specs.Prelude.{IsTrue};
+ghost use Rattle.m36_associative.specs.Right.{AreCoherent, DescribesPage, Answers, MayRead};
+ghost use Rattle.m36_associative.specs.Right.{MayWrite, MayFetch, MayTransferTo};
 
 use crate::front::{Page, key_of, slot_of};
 use crate::memories::Memories;
@@ -238,7 +240,8 @@ pub fn may_transfer_to(
     requires seg { seg < 2 ^ 15 }
     requires word { word < 2 ^ 18 }
     requires right { AreCoherent core.now dbr memories.now }
-    ensures { IsTrue result → (a : ℕ) × Answers core.now dbr (MayTransferTo ring) false seg word 1 a }
+    ensures { IsTrue result → (a : ℕ) × Answers core.now dbr
+        (MayTransferTo ring) false seg word 1 a }
 {
     if let Some(_found) = find_in_fetching_page(core, dbr, memories, seg, ring, word) {
         return true;

@@ -2,7 +2,8 @@
 
 ghost use Rattle.std.specs.Prelude.{ℕ, ◌≡◌, ◌+◌, ◌/◌, ◌<◌, ◌≤◌, ◌^◌, List, Contains};
 ghost use Rattle.m36_desc.specs.Fields.{DbrFields};
-ghost use Rattle.m36_associative.specs.Right.{AreCoherent, DescribesPage, IsPageInFront, IsKeptDescriptor, IsKeptTableWord};
+ghost use Rattle.m36_associative.specs.Right.{AreCoherent, DescribesPage, IsPageInFront};
+ghost use Rattle.m36_associative.specs.Right.{IsKeptDescriptor, IsKeptTableWord};
 ghost use Rattle.m36_associative.specs.declared.front.Page.{Page};
 
 use crate::front::{Fetching, PAGES, Page, no_fetching, no_page, no_pages, slot_of};

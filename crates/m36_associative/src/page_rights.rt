@@ -17,7 +17,8 @@ fn end_of(size: u32, sdw: &Sdw, page: u32, base: u32) -> u16
     requires { page < 256 }
     ensures most { result ≤ 1024 }
     ensures inside { 0 < result → base + result ≤ size }
-    ensures bound { (w : ℕ) → w / 1024 ≡ page → w % 1024 < result → is_within_bound sdw.now w ≡ true }
+    ensures bound { (w : ℕ) → w / 1024 ≡ page → w % 1024 < result → is_within_bound sdw.now w
+        ≡ true }
 {
     let bound = 16 * (sdw.bound as u32 + 1);
     let within = bound.saturating_sub(1024 * page);
@@ -41,7 +42,8 @@ fn read_below(sdw: &Sdw) -> u8
 /// The ring below which rings may write a page; 0 if none may, or if its modified bit is off.
 #[tactic(auto, using(crate::proofs::Faces::may_write))]
 fn write_below(sdw: &Sdw, modified: bool) -> u8
-    ensures allowed { (ring : ℕ) → ring < result → first_violation (write_rows sdw.now ring) ≡ None }
+    ensures allowed { (ring : ℕ) → ring < result → first_violation (write_rows sdw.now ring)
+        ≡ None }
     ensures modified { 0 < result → modified ≡ true }
 {
     if has_ordered_brackets(sdw) && sdw.writable && modified {

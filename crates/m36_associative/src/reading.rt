@@ -1,9 +1,12 @@
 //! Lookups: in the memories first, and in core only if nothing is kept.
 
-ghost use Rattle.std.specs.Prelude.{ℕ, ◌≡◌, ◌+◌, ◌/◌, ◌%◌, ◌<◌, ◌^◌, Some, Ok, true, false, IfOk, IfSome, OnOk, OnSome, IsTrue, length};
-ghost use Rattle.m36_model.specs.Place.{wrapped_address, address_in_frame, ptw_at, directory_at, page_at, sdw_place, core_sdw, word_place};
+ghost use Rattle.std.specs.Prelude.{ℕ, ◌≡◌, ◌+◌, ◌/◌, ◌%◌, ◌<◌, ◌^◌, Some, Ok, true, false, IfOk};
+ghost use Rattle.std.specs.Prelude.{IfSome, OnOk, OnSome, IsTrue, length};
+ghost use Rattle.m36_model.specs.Place.{wrapped_address, address_in_frame, ptw_at, directory_at};
+ghost use Rattle.m36_model.specs.Place.{page_at, sdw_place, core_sdw, word_place};
 ghost use Rattle.m36_tables.specs.Tables.{TableWordIsInCore};
-ghost use Rattle.m36_associative.specs.Right.{AreCoherent, IsWatched, IsKeptDescriptor, IsKeptTableWord, DescribesPage, IsMarked, page_key};
+ghost use Rattle.m36_associative.specs.Right.{AreCoherent, IsWatched, IsKeptDescriptor};
+ghost use Rattle.m36_associative.specs.Right.{IsKeptTableWord, DescribesPage, IsMarked, page_key};
 ghost use Rattle.m36_associative.specs.Watched.{is_watched};
 
 use crate::front::{Page, slot_of};
@@ -161,7 +164,8 @@ pub fn descriptor(core: &Core, dbr: Dbr, memories: &mut Memories, seg: u16) -> R
     requires seg { seg < 2 ^ 15 }
     requires right { AreCoherent core.now dbr memories.old }
     ensures value { result ≡ core_sdw core.now dbr seg }
-    ensures directory { OnOk result (TableWordIsInCore (length core.now) dbr.unpaged (directory_at dbr seg)) }
+    ensures directory { OnOk result (TableWordIsInCore (length core.now) dbr.unpaged
+        (directory_at dbr seg)) }
     ensures right { AreCoherent core.now dbr memories.new }
 {
     if let Some(sdw) = recalled_descriptor(core, dbr, memories, seg) {
@@ -296,7 +300,8 @@ fn found_page(
     requires seg { seg < 2 ^ 15 }
     requires word { word < 2 ^ 18 }
     requires right { AreCoherent core.now dbr memories.now }
-    ensures page { IfSome result (λ r. DescribesPage core.now dbr memories.now.words memories.now.tables
+    ensures page { IfSome result (λ r. DescribesPage core.now dbr memories.now.words
+        memories.now.tables
         r.0 seg (word / 1024)) }
     ensures key { IfSome result (λ r. r.0.key ≡ page_key seg (word / 1024)) }
 {

@@ -56,14 +56,17 @@ IsKeyRecorded old new firsts after key table_number None =
     × (after ≡ slice_set firsts table_number table_number)
 
 -- as `IsKeyRecorded`, for a descriptor that may not be in core
-abbrev pub IsDescriptorRecorded : (ℕ → Option ℕ) → (ℕ → Option ℕ) → List ℕ → List ℕ → Option ℕ → ℕ → Type 0
-IsDescriptorRecorded old new firsts after None table_number = ((q : ℕ) → new q ≡ old q) × (after ≡ firsts)
+abbrev pub IsDescriptorRecorded :
+    (ℕ → Option ℕ) → (ℕ → Option ℕ) → List ℕ → List ℕ → Option ℕ → ℕ → Type 0
+IsDescriptorRecorded old new firsts after None table_number =
+    ((q : ℕ) → new q ≡ old q) × (after ≡ firsts)
 IsDescriptorRecorded old new firsts after (Some key) table_number =
     IsKeyRecorded old new firsts after key table_number (old key)
 
--- The first n descriptors are recorded, with numbers as in `AreFirstEquals`. The map has the number of
--- each of them by its words, and nothing else.
-pub record AreDescriptorsRecorded (core : List ℕ) (dbrs : List DbrFields) (n : ℕ) (places : ℕ → Option ℕ)
+-- The first n descriptors are recorded, with numbers as in `AreFirstEquals`. The map has the number
+-- of each of them by its words, and nothing else.
+pub record AreDescriptorsRecorded (core : List ℕ) (dbrs : List DbrFields) (n : ℕ)
+    (places : ℕ → Option ℕ)
     (firsts : List ℕ) : Type 0 where
   pub len : length firsts ≡ descriptors_of_process * length dbrs
   pub below : (i : ℕ) → slice_index firsts i < most_descriptors

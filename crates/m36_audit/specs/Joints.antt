@@ -3,7 +3,8 @@ use Rattle.std.specs.Prelude.{ℕ, List, ◌++◌, map, drop, length}
 use Rattle.m36_desc.specs.Fields.{DbrFields}
 use Rattle.m36_model.specs.JointAudit.{JointFindingFields, AreFindingsFrom}
 use Rattle.m36_audit.specs.RecordedNumbers.{AreRecorded}
-use Rattle.m36_audit.specs.WordOwners.{IsOfProcessBelow, OwnsTableWord, OwnsSegmentWord, HasTableNumbered}
+use Rattle.m36_audit.specs.WordOwners.{IsOfProcessBelow, OwnsTableWord, OwnsSegmentWord}
+use Rattle.m36_audit.specs.WordOwners.{HasTableNumbered}
 use Rattle.m36_audit.specs.declared.joint_verdict.JointFinding.{JointFinding}
 
 -- a finding of a joint audit, in the form that `m36_model` uses
@@ -19,8 +20,10 @@ all_found findings = map found_of findings
 pub record AreWordOwners (core : List ℕ) (dbrs : List DbrFields) (firsts : List ℕ) (n : ℕ)
     (tables segments identities : List ℕ) : Type 0 where
   pub of_tables : AreRecorded (IsOfProcessBelow (OwnsTableWord core dbrs) n) (length core) tables
-  pub of_segments : AreRecorded (IsOfProcessBelow (OwnsSegmentWord core dbrs) n) (length core) segments
-  pub of_identities : AreRecorded (IsOfProcessBelow (HasTableNumbered core dbrs firsts) n) (length core) identities
+  pub of_segments : AreRecorded (IsOfProcessBelow (OwnsSegmentWord core dbrs) n)
+      (length core) segments
+  pub of_identities : AreRecorded (IsOfProcessBelow (HasTableNumbered core dbrs firsts) n)
+      (length core) identities
 
 -- These are the findings of the first n processes: followed by the findings of the other processes,
 -- they are the findings of all.

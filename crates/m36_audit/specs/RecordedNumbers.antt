@@ -13,7 +13,8 @@ with_number seen table_number = if seen == 0 || seen == table_number then table_
 
 -- the values after one more number was recorded for a word; a word past the end of core is ignored
 abbrev pub with_number_at : List ℕ → ℕ → ℕ → List ℕ
-with_number_at values a table_number = slice_set values a (with_number (slice_index values a) table_number)
+with_number_at values a table_number =
+    slice_set values a (with_number (slice_index values a) table_number)
 
 -- two different numbers satisfy Has
 pub record TwoOf (Has : ℕ → Type 0) : Type 0 where

@@ -55,7 +55,8 @@ pub record AreMarked (Of : Table → ℕ → Type 0) (size : ℕ) (tables : List
 -- descriptor segment's page table for the segments below `directories`, and of the pages below
 -- `pages`, where each segment has 256 numbers of pages.
 abbrev pub IsMarkedSoFar : List ℕ → DbrFields → ℕ → ℕ → ℕ → Table → ℕ → Type 0
-IsMarkedSoFar core dbr sdws directories pages Sdws a = (seg : ℕ) × (seg < sdws) × IsSdwWord core dbr seg a
+IsMarkedSoFar core dbr sdws directories pages Sdws a =
+    (seg : ℕ) × (seg < sdws) × IsSdwWord core dbr seg a
 IsMarkedSoFar core dbr sdws directories pages Directory a = (seg : ℕ) × (seg < directories)
     × IsDirectoryWord dbr seg a
 IsMarkedSoFar core dbr sdws directories pages (Pages seg) a = (page : ℕ)

@@ -1,15 +1,18 @@
 -- Which processes have a table word or a segment word at each core word, and which tables of which
 -- segments these are.
-use Rattle.std.specs.Prelude.{◌≡◌, ℕ, zero, suc, ◌+◌, ◌*◌, ◌/◌, ◌%◌, ◌^◌, ◌<◌, ◌≤◌, Bool, true, false}
+use Rattle.std.specs.Prelude.{◌≡◌, ℕ, zero, suc, ◌+◌, ◌*◌, ◌/◌, ◌%◌, ◌^◌, ◌<◌, ◌≤◌, Bool, true}
+use Rattle.std.specs.Prelude.{false}
 use Rattle.std.specs.Prelude.{◌-◌, if◌then◌else◌, ◌==◌, ◌&&◌, ◌||◌, not, List, length, slice_get}
 use Rattle.std.specs.Prelude.{slice_index, Option, Some, None, Result, Ok, Err}
 use Rattle.m36_desc.specs.Fields.{SdwFields, DbrFields}
-use Rattle.m36_model.specs.Place.{wrapped_address, directory_at, page_at, page_count, sdw_place, core_sdw}
+use Rattle.m36_model.specs.Place.{wrapped_address, directory_at, page_at, page_count, sdw_place}
+use Rattle.m36_model.specs.Place.{core_sdw}
 use Rattle.m36_model.specs.Audit.{Table, Sdws, Directory, Pages, IsWordOfTable, IsSegmentWord}
 use Rattle.m36_model.specs.declared.outcome.Refusal.{Refusal}
 use Rattle.m36_audit.specs.declared.run.Run.{Run}
 use Rattle.m36_audit.specs.Classes.{descriptors_of_process}
-use Rattle.m36_audit.specs.Runs.{runs_of_segment, runs_of_process, run, with_one_more_at, count_below, covers}
+use Rattle.m36_audit.specs.Runs.{runs_of_segment, runs_of_process, run, with_one_more_at}
+use Rattle.m36_audit.specs.Runs.{count_below, covers}
 use Rattle.m36_audit.specs.RecordedNumbers.{several, with_number, with_number_at}
 
 -- The number of a table among those of all processes. Tables of two processes have the same number
@@ -22,7 +25,8 @@ identity firsts k (Pages seg) = 17 + slice_index firsts (descriptors_of_process 
 -- the values after the two words of a descriptor were recorded
 abbrev pub descriptor_recorded : ℕ → Result ℕ Refusal → List ℕ → List ℕ
 descriptor_recorded table_number (Ok even) values =
-    with_number_at (with_number_at values even table_number) (wrapped_address (even + 1)) table_number
+    with_number_at (with_number_at values even table_number)
+    (wrapped_address (even + 1)) table_number
 descriptor_recorded table_number (Err e) values = values
 
 -- the values after the word through which a descriptor is found was recorded
@@ -33,17 +37,20 @@ directory_recorded table_number false at values = with_number_at values at table
 -- the values after the first n words of a segment's page table were recorded
 unfoldable pub pages_recorded : ℕ → SdwFields → ℕ → List ℕ → List ℕ
 pages_recorded table_number d zero values = values
-pages_recorded table_number d (suc n) values = with_number_at (pages_recorded table_number d n values) (page_at d n) table_number
+pages_recorded table_number d (suc n) values =
+    with_number_at (pages_recorded table_number d n values) (page_at d n) table_number
 
 -- the values after the words of the page table of a segment were recorded, if it is paged
 abbrev pub page_table_recorded : ℕ → SdwFields → Bool → List ℕ → List ℕ
 page_table_recorded table_number d true values = values
-page_table_recorded table_number d false values = pages_recorded table_number d (page_count d) values
+page_table_recorded table_number d false values =
+    pages_recorded table_number d (page_count d) values
 
 -- the values after the words of a segment's page table were recorded, if it is live and paged
 abbrev pub table_recorded_if_live : ℕ → Result SdwFields Refusal → List ℕ → List ℕ
 table_recorded_if_live table_number (Err e) values = values
-table_recorded_if_live table_number (Ok d) values = page_table_recorded table_number d d.unpaged values
+table_recorded_if_live table_number (Ok d) values =
+    page_table_recorded table_number d d.unpaged values
 
 -- the values after the table words of one segment were recorded
 unfoldable pub segment_recorded : List ℕ → DbrFields → List ℕ → ℕ → ℕ → List ℕ → List ℕ
@@ -97,7 +104,8 @@ with_owner false seen table_number = seen
 -- a process was recorded for the core words before a, if it has something there as the test says
 pub record AreOwned (test : ℕ → Bool) (table_number a : ℕ) (old new : List ℕ) : Type 0 where
   pub len : length new ≡ length old
-  pub before : (q : ℕ) → q < a → slice_index new q ≡ with_owner (test q) (slice_index old q) table_number
+  pub before : (q : ℕ) → q < a → slice_index new q
+      ≡ with_owner (test q) (slice_index old q) table_number
   pub after : (q : ℕ) → a ≤ q → slice_index new q ≡ slice_index old q
 
 -- ---- the runs of the first descriptors of all processes

@@ -14,7 +14,7 @@ use crate::segment_runs::count_segments;
 use crate::table_words::mark_tables;
 use crate::tables::TableMarks;
 use crate::verdict::{Verdict, note};
-use crate::word_count::{first_table_and_segment_word, first_word_in_two_segments};
+use crate::words::{first_table_and_segment_word, first_word_in_two_segments};
 use arrayvec::ArrayVec;
 use m36_core::Core;
 use m36_desc::Dbr;
@@ -71,7 +71,8 @@ fn findings_of(marks: &mut TableMarks, counts: &mut RunCounts, core: &Core, dbr:
 /// breaks it. If there are none, all six conditions hold, and the tables isolate each ring from 1
 /// to 7. Fails only if memory runs out, before anything is read.
 pub fn audit(alloc: Global, core: &Core, dbr: Dbr) -> Result<Verdict, NoMemory>
-    ensures findings { IfOk result (λ v. AreFindings core.now dbr (finding_pairs v.findings.items)) }
+    ensures findings { IfOk result (λ v. AreFindings core.now dbr
+        (finding_pairs v.findings.items)) }
     ensures audited { IfOk result (λ v. (v.findings.items ≡ []) ↔ IsAudited core.now dbr) }
     ensures isolated { IfOk result (λ v. v.findings.items ≡ []
         → Isolated core_store (core_tables core.now dbr)) }

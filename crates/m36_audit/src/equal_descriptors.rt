@@ -1,9 +1,11 @@
 //! Equal descriptors of several processes: the number of the first descriptor with the same words.
 
-ghost use Rattle.std.specs.Prelude.{ℕ, ◌≡◌, ◌+◌, ◌*◌, ◌<◌, ◌≤◌, ◌^◌, Some, IfOk, OnOk, MatchOption, length, nat_eq};
+ghost use Rattle.std.specs.Prelude.{ℕ, ◌≡◌, ◌+◌, ◌*◌, ◌<◌, ◌≤◌, ◌^◌, Some, IfOk, OnOk, MatchOption};
+ghost use Rattle.std.specs.Prelude.{length, nat_eq};
 ghost use Rattle.std.specs.HashMap.{get};
 ghost use Rattle.m36_model.specs.JointAudit.{most_processes};
-ghost use Rattle.m36_audit.specs.Classes.{descriptors_of_process, IsDescriptorKey, AreFirstEquals, IsDescriptorRecorded, AreDescriptorsRecorded};
+ghost use Rattle.m36_audit.specs.Classes.{descriptors_of_process, IsDescriptorKey, AreFirstEquals};
+ghost use Rattle.m36_audit.specs.Classes.{IsDescriptorRecorded, AreDescriptorsRecorded};
 
 use crate::run::zeros;
 use m36_core::Core;
@@ -75,7 +77,8 @@ fn note(
     table_number: u32,
 ) -> Result<(), NoMemory>
     requires { table_number < length firsts.old.items }
-    ensures { OnOk result (IsDescriptorRecorded (get nat_eq places.old) (get nat_eq places.new) firsts.old.items
+    ensures { OnOk result (IsDescriptorRecorded (get nat_eq places.old) (get nat_eq places.new)
+        firsts.old.items
         firsts.new.items key table_number) }
 {
     let Some(key) = key else {
@@ -103,7 +106,8 @@ fn note_process(
     requires few { length dbrs.now ≤ most_processes }
     requires before { AreDescriptorsRecorded core.now dbrs.now (descriptors_of_process * k)
         (get nat_eq places.old) firsts.old.items }
-    ensures { OnOk result (AreDescriptorsRecorded core.now dbrs.now (descriptors_of_process * (k + 1))
+    ensures { OnOk result (AreDescriptorsRecorded core.now dbrs.now
+        (descriptors_of_process * (k + 1))
         (get nat_eq places.new) firsts.new.items) }
 {
     let dbr = dbrs[k];

@@ -4,7 +4,8 @@
 ghost use Rattle.std.specs.Prelude.{◌≡◌, ◌<◌, ◌^◌};
 ghost use Rattle.std.specs.Bool.{Decides};
 ghost use Rattle.m36_model.specs.Audit.{IsNoGate, HasNoStack};
-ghost use Rattle.m36_audit.specs.Live.{may_be_called_from_above, is_enterable_anywhere, is_ring_stack};
+ghost use Rattle.m36_audit.specs.Live.{may_be_called_from_above, is_enterable_anywhere};
+ghost use Rattle.m36_audit.specs.Live.{is_ring_stack};
 ghost use Rattle.m36_model.specs.Place.{core_sdw};
 
 use crate::live_descriptor::live_descriptor;

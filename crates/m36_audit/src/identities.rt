@@ -1,11 +1,15 @@
 //! Which table of which segment has each core word, over several processes.
 
-ghost use Rattle.std.specs.Prelude.{ℕ, ◌≡◌, ◌+◌, ◌*◌, ◌/◌, ◌<◌, ◌≤◌, ◌^◌, IfOk, length, slice_index};
+ghost use Rattle.std.specs.Prelude.{ℕ, ◌≡◌, ◌+◌, ◌*◌, ◌/◌, ◌<◌, ◌≤◌, ◌^◌, IfOk, length};
+ghost use Rattle.std.specs.Prelude.{slice_index};
 ghost use Rattle.m36_model.specs.JointAudit.{most_processes};
 ghost use Rattle.m36_model.specs.Place.{directory_at};
 ghost use Rattle.m36_audit.specs.Runs.{pages_of_segment};
 ghost use Rattle.m36_audit.specs.Classes.{descriptors_of_process, most_descriptors};
-ghost use Rattle.m36_audit.specs.WordOwners.{descriptor_recorded, directory_recorded, pages_recorded, page_table_recorded, table_recorded_if_live, segment_recorded, segments_recorded};
+ghost use Rattle.m36_audit.specs.WordOwners.{descriptor_recorded, directory_recorded};
+ghost use Rattle.m36_audit.specs.WordOwners.{pages_recorded, page_table_recorded};
+ghost use Rattle.m36_audit.specs.WordOwners.{table_recorded_if_live, segment_recorded};
+ghost use Rattle.m36_audit.specs.WordOwners.{segments_recorded};
 ghost use Rattle.m36_tables.specs.Tables.{IsSegmentCount};
 
 use crate::recorded::RecordedNumbers;
@@ -19,7 +23,8 @@ use m36_tables::{
 /// Records the two words of a descriptor at this place, if it has one.
 fn record_descriptor(recorded: &mut RecordedNumbers, place: Result<u32, Refusal>, table_number: u32)
     requires { IfOk place (λ a. a < 2 ^ 24) }
-    ensures { recorded.new.values.items ≡ descriptor_recorded table_number place recorded.old.values.items }
+    ensures { recorded.new.values.items
+        ≡ descriptor_recorded table_number place recorded.old.values.items }
 {
     match place {
         Ok(even) => {
@@ -34,7 +39,8 @@ fn record_descriptor(recorded: &mut RecordedNumbers, place: Result<u32, Refusal>
 fn record_directory(recorded: &mut RecordedNumbers, dbr: Dbr, seg: u16, table_number: u32)
     requires { seg < 2 ^ 15 }
     ensures { recorded.new.values.items
-        ≡ directory_recorded table_number dbr.unpaged (directory_at dbr seg) recorded.old.values.items }
+        ≡ directory_recorded table_number dbr.unpaged
+        (directory_at dbr seg) recorded.old.values.items }
 {
     if !dbr.unpaged {
         recorded.record_number(directory_at(dbr, seg), table_number);
@@ -45,7 +51,8 @@ fn record_directory(recorded: &mut RecordedNumbers, dbr: Dbr, seg: u16, table_nu
 #[tactic(auto, unfolding(crate::specs::WordOwners::pages_recorded))]
 fn record_pages(recorded: &mut RecordedNumbers, sdw: &Sdw, pages: u32, table_number: u32)
     requires { pages ≤ pages_of_segment }
-    ensures { recorded.new.values.items ≡ pages_recorded table_number sdw.now pages recorded.old.values.items }
+    ensures { recorded.new.values.items
+        ≡ pages_recorded table_number sdw.now pages recorded.old.values.items }
 {
     for page in 0..pages {
         recorded.record_number(page_at(sdw, page), table_number);
@@ -68,7 +75,8 @@ fn record_table_if_live(
     found: Result<Sdw, Refusal>,
     table_number: u32,
 )
-    ensures { recorded.new.values.items ≡ table_recorded_if_live table_number found recorded.old.values.items }
+    ensures { recorded.new.values.items
+        ≡ table_recorded_if_live table_number found recorded.old.values.items }
 {
     match found {
         Ok(sdw) => record_page_table(recorded, &sdw, table_number),

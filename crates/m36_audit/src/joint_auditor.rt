@@ -1,11 +1,13 @@
 //! The joint audit of several processes on one core.
 
-ghost use Rattle.std.specs.Prelude.{[], ◌≡◌, ◌+◌, ◌*◌, ◌<◌, ◌≤◌, ◌^◌, ◌↔◌, IfOk, Some, map, length, replicate, slice_get};
+ghost use Rattle.std.specs.Prelude.{[], ◌≡◌, ◌+◌, ◌*◌, ◌<◌, ◌≤◌, ◌^◌, ◌↔◌, IfOk, Some, map, length};
+ghost use Rattle.std.specs.Prelude.{replicate, slice_get};
 ghost use Rattle.arrayvec.specs.ArrayVec.{array_vec_len};
 ghost use Rattle.m36_desc.specs.Fields.{DbrFields};
 ghost use Rattle.m36_model.specs.Audit.{AreFindings};
 ghost use Rattle.m36_model.specs.Core.{core_store, core_tables};
-ghost use Rattle.m36_model.specs.JointAudit.{AreFindingsFrom, AreJointFindings, IsJointlyAudited, most_processes};
+ghost use Rattle.m36_model.specs.JointAudit.{AreFindingsFrom, AreJointFindings, IsJointlyAudited};
+ghost use Rattle.m36_model.specs.JointAudit.{most_processes};
 ghost use Rattle.m36_model.specs.JointIsolation.{JointlyIsolated};
 ghost use Rattle.m36_audit.specs.Findings.{finding_pairs};
 ghost use Rattle.m36_audit.specs.Classes.{descriptors_of_process, AreFirstEquals};
@@ -76,7 +78,8 @@ fn findings_of(
     requires marks_len { length marks.old.tables ≡ length core.now }
     requires starts_len { length counts.old.starts ≡ length core.now }
     requires stops_len { length counts.old.stops ≡ length core.now }
-    requires equal_descriptors { AreFirstEquals core.now dbrs.now (descriptors_of_process * length dbrs.now) firsts.now.items }
+    requires equal_descriptors { AreFirstEquals core.now dbrs.now
+        (descriptors_of_process * length dbrs.now) firsts.now.items }
     requires before { AreWordOwners core.now dbrs.now firsts.now.items k
         owners.old.tables.values.items owners.old.segments.values.items
         owners.old.identities.values.items }
@@ -122,7 +125,8 @@ fn findings_of_all(
     requires marks_len { length marks.old.tables ≡ length core.now }
     requires starts_len { length counts.old.starts ≡ length core.now }
     requires stops_len { length counts.old.stops ≡ length core.now }
-    requires equal_descriptors { AreFirstEquals core.now dbrs.now (descriptors_of_process * length dbrs.now) firsts.now.items }
+    requires equal_descriptors { AreFirstEquals core.now dbrs.now
+        (descriptors_of_process * length dbrs.now) firsts.now.items }
     requires before { AreWordOwners core.now dbrs.now firsts.now.items 0
         owners.old.tables.values.items owners.old.segments.values.items
         owners.old.identities.values.items }
@@ -156,7 +160,8 @@ fn joint_findings(
     requires marks_len { length marks.old.tables ≡ length core.now }
     requires starts_len { length counts.old.starts ≡ length core.now }
     requires stops_len { length counts.old.stops ≡ length core.now }
-    requires equal_descriptors { AreFirstEquals core.now dbrs.now (descriptors_of_process * length dbrs.now) firsts.now.items }
+    requires equal_descriptors { AreFirstEquals core.now dbrs.now
+        (descriptors_of_process * length dbrs.now) firsts.now.items }
     requires before { AreWordOwners core.now dbrs.now firsts.now.items 0
         owners.old.tables.values.items owners.old.segments.values.items
         owners.old.identities.values.items }

@@ -6,7 +6,8 @@ ghost use Rattle.m36_desc.specs.Access.{has_ordered_brackets};
 ghost use Rattle.m36_model.specs.JointAudit.{most_processes};
 ghost use Rattle.m36_audit.specs.Runs.{runs_of_segment, runs_of_process, run_by, AreCounted};
 ghost use Rattle.m36_audit.specs.Classes.{descriptors_of_process, most_descriptors};
-ghost use Rattle.m36_audit.specs.WordOwners.{joint_run, piece_count, with_start, with_stop, HasRoom};
+ghost use Rattle.m36_audit.specs.WordOwners.{joint_run, piece_count, with_start, with_stop};
+ghost use Rattle.m36_audit.specs.WordOwners.{HasRoom};
 
 use crate::live_descriptor::live_descriptor;
 use crate::run::{Run, RunCounts};
@@ -59,8 +60,8 @@ fn count_piece(counts: &mut RunCounts, core: &Core, sdw: &Sdw, piece: u32)
     }
 }
 
-/// Counts all runs of a segment that is live and has its brackets in order. `table_number` is the number
-/// of its descriptor among those of all processes.
+/// Counts all runs of a segment that is live and has its brackets in order. `table_number` is the
+/// number of its descriptor among those of all processes.
 fn count_pieces(
     counts: &mut RunCounts,
     core: &Core,
@@ -74,9 +75,11 @@ fn count_pieces(
     requires runs { (piece : ℕ) → piece < runs_of_segment
         → joint_run core.now dbrs.now firsts.now.items (runs_of_segment * table_number + piece)
         ≡ run_by sdw.now.unpaged core.now sdw.now piece }
-    requires before { AreCounted (joint_run core.now dbrs.now firsts.now.items) (runs_of_segment * table_number)
+    requires before { AreCounted (joint_run core.now dbrs.now firsts.now.items)
+        (runs_of_segment * table_number)
         (length core.now) counts.old.starts counts.old.stops }
-    ensures { AreCounted (joint_run core.now dbrs.now firsts.now.items) (runs_of_segment * (table_number + 1))
+    ensures { AreCounted (joint_run core.now dbrs.now firsts.now.items)
+        (runs_of_segment * (table_number + 1))
         (length core.now) counts.new.starts counts.new.stops }
 {
     for piece in 0..pieces(sdw) {
@@ -102,7 +105,8 @@ fn count_segment_if_first(
         (runs_of_segment * (descriptors_of_process * k + seg)) (length core.now) counts.old.starts
         counts.old.stops }
     ensures { AreCounted (joint_run core.now dbrs.now firsts.now.items)
-        (runs_of_segment * (descriptors_of_process * k + seg + 1)) (length core.now) counts.new.starts
+        (runs_of_segment * (descriptors_of_process * k + seg + 1))
+        (length core.now) counts.new.starts
         counts.new.stops }
 {
     let table_number = (1 << 15) * k as u32 + seg as u32;

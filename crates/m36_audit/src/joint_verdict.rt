@@ -55,7 +55,8 @@ impl JointVerdict {
 pub(crate) fn note_process(findings: &mut ArrayVec<JointFinding, 50>, process: u8, own: &Verdict)
     requires room { array_vec_len findings.old ≤ 42 }
     ensures listed { all_found findings.new.items
-        ≡ all_found findings.old.items ++ findings_of_process process (finding_pairs own.now.findings.items) }
+        ≡ all_found findings.old.items ++ findings_of_process process
+        (finding_pairs own.now.findings.items) }
     ensures len { array_vec_len findings.new ≤ array_vec_len findings.old + 6 }
 {
     let list = own.findings.as_slice();

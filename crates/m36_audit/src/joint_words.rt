@@ -8,7 +8,9 @@ ghost use Rattle.m36_model.specs.JointAudit.{IsJointTable, IsJointSegment, most_
 ghost use Rattle.m36_audit.specs.Runs.{runs_of_process, AreCounted, IsOpenCount};
 ghost use Rattle.m36_audit.specs.Classes.{descriptors_of_process, AreFirstEquals};
 ghost use Rattle.m36_audit.specs.RecordedNumbers.{AreRecorded, several};
-ghost use Rattle.m36_audit.specs.WordOwners.{joint_run, IsOfProcessBelow, HasTableNumbered, OwnsTableWord, OwnsSegmentWord, is_joint_table_word, joint_coverage};
+ghost use Rattle.m36_audit.specs.WordOwners.{joint_run, IsOfProcessBelow, HasTableNumbered};
+ghost use Rattle.m36_audit.specs.WordOwners.{OwnsTableWord, OwnsSegmentWord, is_joint_table_word};
+ghost use Rattle.m36_audit.specs.WordOwners.{joint_coverage};
 
 use crate::recorded::{RecordedNumbers, SEVERAL};
 use crate::run::RunCounts;
@@ -35,13 +37,17 @@ pub(crate) fn first_joint_table_word(
     dbrs: &[Dbr],
     firsts: &Vec<u32>,
 ) -> Option<u32>
-    requires equal_descriptors { AreFirstEquals core.now dbrs.now (descriptors_of_process * length dbrs.now)
+    requires equal_descriptors { AreFirstEquals core.now dbrs.now
+        (descriptors_of_process * length dbrs.now)
         firsts.now.items }
-    requires tables { AreRecorded (IsOfProcessBelow (OwnsTableWord core.now dbrs.now) (length dbrs.now))
+    requires tables { AreRecorded (IsOfProcessBelow (OwnsTableWord core.now dbrs.now)
+        (length dbrs.now))
         (length core.now) tables.now.values.items }
-    requires segments { AreRecorded (IsOfProcessBelow (OwnsSegmentWord core.now dbrs.now) (length dbrs.now))
+    requires segments { AreRecorded (IsOfProcessBelow (OwnsSegmentWord core.now dbrs.now)
+        (length dbrs.now))
         (length core.now) segments.now.values.items }
-    requires identities { AreRecorded (IsOfProcessBelow (HasTableNumbered core.now dbrs.now firsts.now.items)
+    requires identities { AreRecorded (IsOfProcessBelow
+        (HasTableNumbered core.now dbrs.now firsts.now.items)
         (length dbrs.now)) (length core.now) identities.now.values.items }
     requires few { length dbrs.now ≤ most_processes }
     ensures { Finds (IsJointTable core.now dbrs.now) result }
@@ -97,9 +103,11 @@ pub(crate) fn first_joint_segment_word(
     firsts: &Vec<u32>,
 ) -> Option<u32>
     requires few { length dbrs.now ≤ most_processes }
-    requires equal_descriptors { AreFirstEquals core.now dbrs.now (descriptors_of_process * length dbrs.now)
+    requires equal_descriptors { AreFirstEquals core.now dbrs.now
+        (descriptors_of_process * length dbrs.now)
         firsts.now.items }
-    requires segments { AreRecorded (IsOfProcessBelow (OwnsSegmentWord core.now dbrs.now) (length dbrs.now))
+    requires segments { AreRecorded (IsOfProcessBelow (OwnsSegmentWord core.now dbrs.now)
+        (length dbrs.now))
         (length core.now) segments.now.values.items }
     requires counted { AreCounted (joint_run core.now dbrs.now firsts.now.items)
         (runs_of_process * length dbrs.now) (length core.now) counts.now.starts

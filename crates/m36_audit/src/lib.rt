@@ -17,33 +17,33 @@
 //! exactly if all six conditions hold (`audited`), and then each ring r from 1 to 7 is isolated
 //! (`isolated`): for programs in ring r and above, up to a fault, a stop or a gate call, no word
 //! changes that ring r may not write, and no record depends on a word that ring r may not read.
-//! `Verdict::has_no_findings` says whether there are no findings. The only error is `NoMemory`, before anything
-//! is read.
+//! `Verdict::has_no_findings` says whether there are no findings. The only error is `NoMemory`,
+//! before anything is read.
 //!
-//! `joint_audit` decides the same for one to eight processes on one core, each with its DBR, and two
-//! conditions between them. No table word of one process is a table word or a segment word of
+//! `joint_audit` decides the same for one to eight processes on one core, each with its DBR, and
+//! two conditions between them. No table word of one process is a table word or a segment word of
 //! another, except in the page table of a segment that both have. No segment word of one is at the
 //! core address of one of another, except for the same word of such a segment. Two segments are the
 //! same if their descriptors are equal words. The findings are those of each process in order, and
 //! then the least core word that breaks each condition between processes. If there are none, every
 //! schedule of the processes is isolated in each ring from 1 to 7.
 //!
-//! Cost of `audit`: memory for one mark and two counts for each core word. Marks are written only up
-//! to the last word of a table, and counts up to the last word at which a run begins or ends. So the
-//! time grows with these words, with the descriptors and with the page tables, but not with the
+//! Cost of `audit`: memory for one mark and two counts for each core word. Marks are written only
+//! up to the last word of a table, and counts up to the last word at which a run begins or ends. So
+//! the time grows with these words, with the descriptors and with the page tables, but not with the
 //! words of the segments nor with the rest of core. Each table word is marked with its table.
 //! Segment words are not visited one by one: a page or an unpaged segment is a run of core words.
-//! For each core word, the auditor counts the runs that begin and end there. One pass over core then
-//! knows how many runs are open at each word. It ends at the last word at which a run begins, since
-//! after it the number of open runs does not grow.
+//! For each core word, the auditor counts the runs that begin and end there. One pass over core
+//! then knows how many runs are open at each word. It ends at the last word at which a run begins,
+//! since after it the number of open runs does not grow.
 //!
-//! Cost of `joint_audit`: three more numbers for each core word, and one for each descriptor. The marks
-//! and counts are used again for each process. Three values are recorded for each core word, each
-//! of them "none", one number, or "several": the process that has a table word there, the process
-//! that has a segment word there, and the table. Each descriptor gets the number of the first one
-//! with the same words, so page tables of equal descriptors count as one table. Runs are counted
-//! once more over all processes, for first descriptors only. So the time grows with the words of
-//! core, of the descriptors and of the page tables, and not with pairs of them.
+//! Cost of `joint_audit`: three more numbers for each core word, and one for each descriptor. The
+//! marks and counts are used again for each process. Three values are recorded for each core word,
+//! each of them "none", one number, or "several": the process that has a table word there, the
+//! process that has a segment word there, and the table. Each descriptor gets the number of the
+//! first one with the same words, so page tables of equal descriptors count as one table. Runs are
+//! counted once more over all processes, for first descriptors only. So the time grows with the
+//! words of core, of the descriptors and of the page tables, and not with pairs of them.
 //!
 //! A hash map finds the numbers of equal descriptors, with an entry for each different descriptor.
 //! Its seed depends on all descriptors, so descriptors that collide under one seed do not under
@@ -72,7 +72,7 @@ mod segment_runs;
 mod table_words;
 mod tables;
 pub mod verdict;
-mod word_count;
+mod words;
 
 pub use auditor::audit;
 pub use joint_auditor::joint_audit;

@@ -1,6 +1,7 @@
 //! Which processes have table words and segment words at each core word.
 
-ghost use Rattle.std.specs.Prelude.{◌≡◌, ◌+◌, ◌<◌, ◌≤◌, ◌^◌, ◌==◌, not, nat_lt, length, slice_index};
+ghost use Rattle.std.specs.Prelude.{◌≡◌, ◌+◌, ◌<◌, ◌≤◌, ◌^◌, ◌==◌, not, nat_lt, length};
+ghost use Rattle.std.specs.Prelude.{slice_index};
 ghost use Rattle.m36_model.specs.JointAudit.{most_processes};
 ghost use Rattle.m36_audit.specs.Runs.{runs_of_process, run, coverage, AreCounted};
 ghost use Rattle.m36_audit.specs.WordOwners.{with_owner_at, AreOwned};
@@ -8,13 +9,14 @@ ghost use Rattle.m36_audit.specs.WordOwners.{with_owner_at, AreOwned};
 use crate::recorded::RecordedNumbers;
 use crate::run::RunCounts;
 use crate::tables::TableMarks;
-use crate::word_count::open_runs_at;
+use crate::words::open_runs_at;
 use m36_core::Core;
 use m36_desc::Dbr;
 
 /// Records a process for a core word, if it has something there.
 fn record_owner(recorded: &mut RecordedNumbers, a: u32, has: bool, table_number: u32)
-    ensures { recorded.new.values.items ≡ with_owner_at has recorded.old.values.items a table_number }
+    ensures { recorded.new.values.items
+        ≡ with_owner_at has recorded.old.values.items a table_number }
 {
     if has {
         recorded.record_number(a, table_number);

@@ -1,6 +1,7 @@
 //! Runs of core words, and for each core word how many runs begin and end there.
 
-ghost use Rattle.std.specs.Prelude.{ℕ, ◌≡◌, ◌+◌, ◌-◌, ◌<◌, ◌≤◌, ◌^◌, ◌++◌, IfOk, replicate, length, slice_index, vec_capacity};
+ghost use Rattle.std.specs.Prelude.{ℕ, ◌≡◌, ◌+◌, ◌-◌, ◌<◌, ◌≤◌, ◌^◌, ◌++◌, IfOk, replicate, length};
+ghost use Rattle.std.specs.Prelude.{slice_index, vec_capacity};
 ghost use Rattle.m36_audit.specs.Runs.{with_one_more_at};
 
 use m36_word::NoMemory;
@@ -54,7 +55,8 @@ pub(crate) fn zeros(alloc: Global, size: u32) -> Result<Vec<u32>, NoMemory>
 /// already, so no memory is allocated.
 fn write_up_to(written: &mut Vec<u32>, end: usize)
     requires { end ≤ vec_capacity written.old }
-    ensures items { written.new.items ≡ written.old.items ++ replicate (end - length written.old.items) 0 }
+    ensures items { written.new.items ≡ written.old.items ++ replicate
+        (end - length written.old.items) 0 }
     ensures capacity { vec_capacity written.old ≤ vec_capacity written.new }
 {
     if written.len() < end {

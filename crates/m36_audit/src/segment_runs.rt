@@ -4,7 +4,8 @@
 ghost use Rattle.std.specs.Prelude.{◌≡◌, ◌+◌, ◌*◌, ◌/◌, ◌<◌, ◌≤◌, ◌^◌, true, false, Ok, length};
 ghost use Rattle.m36_desc.specs.Access.{has_ordered_brackets};
 ghost use Rattle.m36_model.specs.Place.{core_sdw, last_page};
-ghost use Rattle.m36_audit.specs.Runs.{word_count, unpaged_run, page_run, runs_of_segment, runs_of_process, run, AreCounted};
+ghost use Rattle.m36_audit.specs.Runs.{word_count, unpaged_run, page_run, runs_of_segment};
+ghost use Rattle.m36_audit.specs.Runs.{runs_of_process, run, AreCounted};
 
 use crate::live_descriptor::live_descriptor;
 use crate::run::{Run, RunCounts};

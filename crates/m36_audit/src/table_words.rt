@@ -16,9 +16,11 @@ use m36_tables::{descriptor_place, directory_at, page_at, segment_count, wrapped
 /// Marks the two words of a segment's descriptor.
 fn mark_descriptor(marks: &mut TableMarks, core: &Core, dbr: Dbr, seg: u16)
     requires seg { seg < 2 ^ 15 }
-    requires before { AreMarked (IsMarkedSoFar core.now dbr seg seg (pages_of_segment * seg)) (length core.now)
+    requires before { AreMarked (IsMarkedSoFar core.now dbr seg seg (pages_of_segment * seg))
+        (length core.now)
         marks.old.tables marks.old.least }
-    ensures { AreMarked (IsMarkedSoFar core.now dbr (seg + 1) seg (pages_of_segment * seg)) (length core.now)
+    ensures { AreMarked (IsMarkedSoFar core.now dbr (seg + 1) seg (pages_of_segment * seg))
+        (length core.now)
         marks.new.tables marks.new.least }
 {
     match descriptor_place(core, dbr, seg) {
@@ -35,9 +37,11 @@ fn mark_descriptor(marks: &mut TableMarks, core: &Core, dbr: Dbr, seg: u16)
 fn mark_directory(marks: &mut TableMarks, core: &Core, dbr: Dbr, seg: u16)
     requires seg { seg < 2 ^ 15 }
     requires bounds { has_descriptor_in_bounds dbr seg ≡ true }
-    requires before { AreMarked (IsMarkedSoFar core.now dbr (seg + 1) seg (pages_of_segment * seg)) (length core.now)
+    requires before { AreMarked (IsMarkedSoFar core.now dbr (seg + 1) seg (pages_of_segment * seg))
+        (length core.now)
         marks.old.tables marks.old.least }
-    ensures { AreMarked (IsMarkedSoFar core.now dbr (seg + 1) (seg + 1) (pages_of_segment * seg)) (length core.now)
+    ensures { AreMarked (IsMarkedSoFar core.now dbr (seg + 1) (seg + 1) (pages_of_segment * seg))
+        (length core.now)
         marks.new.tables marks.new.least }
 {
     if !dbr.unpaged {
@@ -50,9 +54,11 @@ fn mark_page_table(marks: &mut TableMarks, core: &Core, dbr: Dbr, seg: u16, sdw:
     requires seg { seg < 2 ^ 15 }
     requires live { core_sdw core.now dbr seg ≡ Ok sdw.now }
     requires paged { sdw.now.unpaged ≡ false }
-    requires before { AreMarked (IsMarkedSoFar core.now dbr (seg + 1) (seg + 1) (pages_of_segment * seg))
+    requires before { AreMarked (IsMarkedSoFar core.now dbr (seg + 1) (seg + 1)
+        (pages_of_segment * seg))
         (length core.now) marks.old.tables marks.old.least }
-    ensures { AreMarked (IsMarkedSoFar core.now dbr (seg + 1) (seg + 1) (pages_of_segment * (seg + 1))) (length core.now)
+    ensures { AreMarked (IsMarkedSoFar core.now dbr (seg + 1) (seg + 1)
+        (pages_of_segment * (seg + 1))) (length core.now)
         marks.new.tables marks.new.least }
 {
     let pages = sdw.bound as u32 / 64 + 1;
@@ -64,9 +70,11 @@ fn mark_page_table(marks: &mut TableMarks, core: &Core, dbr: Dbr, seg: u16, sdw:
 /// Marks the words of a segment's page table, if the segment is live and paged.
 fn mark_pages(marks: &mut TableMarks, core: &Core, dbr: Dbr, seg: u16)
     requires seg { seg < 2 ^ 15 }
-    requires before { AreMarked (IsMarkedSoFar core.now dbr (seg + 1) (seg + 1) (pages_of_segment * seg))
+    requires before { AreMarked (IsMarkedSoFar core.now dbr (seg + 1) (seg + 1)
+        (pages_of_segment * seg))
         (length core.now) marks.old.tables marks.old.least }
-    ensures { AreMarked (IsMarkedSoFar core.now dbr (seg + 1) (seg + 1) (pages_of_segment * (seg + 1))) (length core.now)
+    ensures { AreMarked (IsMarkedSoFar core.now dbr (seg + 1) (seg + 1)
+        (pages_of_segment * (seg + 1))) (length core.now)
         marks.new.tables marks.new.least }
 {
     match live_descriptor(core, dbr, seg) {
@@ -81,7 +89,8 @@ fn mark_pages(marks: &mut TableMarks, core: &Core, dbr: Dbr, seg: u16)
 
 /// Marks all table words. No word has a mark before.
 pub(crate) fn mark_tables(marks: &mut TableMarks, core: &Core, dbr: Dbr)
-    requires before { AreMarked (IsMarkedSoFar core.now dbr 0 0 0) (length core.now) marks.old.tables
+    requires before { AreMarked (IsMarkedSoFar core.now dbr 0 0 0)
+        (length core.now) marks.old.tables
         marks.old.least }
     ensures { AreMarked (IsWordOfTable core.now dbr) (length core.now) marks.new.tables
         marks.new.least }

@@ -1,7 +1,8 @@
 //! The table of each core word, as a mark; and the least core word with two tables, which breaks
 //! the second condition.
 
-ghost use Rattle.std.specs.Prelude.{ℕ, ◌≡◌, ◌+◌, ◌-◌, ◌<◌, ◌≤◌, ◌++◌, IfOk, None, length, replicate, slice_index, slice_set, vec_capacity};
+ghost use Rattle.std.specs.Prelude.{ℕ, ◌≡◌, ◌+◌, ◌-◌, ◌<◌, ◌≤◌, ◌++◌, IfOk, None, length};
+ghost use Rattle.std.specs.Prelude.{replicate, slice_index, slice_set, vec_capacity};
 ghost use Rattle.m36_audit.specs.TableMarks.{tables_marked, least_marked, lesser};
 
 use m36_word::NoMemory;
@@ -46,7 +47,8 @@ pub(crate) struct TableMarks {
 /// already, so no memory is allocated.
 fn write_up_to(written: &mut Vec<u16>, end: usize)
     requires { end ≤ vec_capacity written.old }
-    ensures items { written.new.items ≡ written.old.items ++ replicate (end - length written.old.items) 0 }
+    ensures items { written.new.items ≡ written.old.items ++ replicate
+        (end - length written.old.items) 0 }
     ensures capacity { vec_capacity written.old ≤ vec_capacity written.new }
 {
     if written.len() < end {

@@ -48,7 +48,8 @@ impl Verdict {
 /// Adds the finding that this place breaks the condition; nothing if no place does.
 pub(crate) fn note(findings: &mut ArrayVec<Finding, 6>, condition: u8, found: Option<u32>)
     requires room { array_vec_len findings.old < 6 }
-    ensures listed { finding_pairs findings.new.items ≡ finding_pairs findings.old.items ++ numbered_finding condition found }
+    ensures listed { finding_pairs findings.new.items
+        ≡ finding_pairs findings.old.items ++ numbered_finding condition found }
     ensures len { array_vec_len findings.new ≤ array_vec_len findings.old + 1 }
 {
     match found {

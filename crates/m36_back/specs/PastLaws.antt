@@ -8,7 +8,8 @@ use Rattle.m36_step.specs.declared.turns.Turn.TheVariants.{Stepped, Linked, Cons
 use Rattle.m36_step.specs.declared.turns.Turn.TheVariants.{NoMemory}
 use Rattle.m36_step.specs.declared.turns.BackAnswer.{BackAnswer}
 use Rattle.m36_step.specs.declared.turns.BackAnswer.TheVariants as back
-use Rattle.m36_back.specs.History.{History, state_at, current_state, past_answer, PastTurns, MayGoBack}
+use Rattle.m36_back.specs.History.{History, state_at, current_state, past_answer, PastTurns}
+use Rattle.m36_back.specs.History.{MayGoBack}
 
 -- going back changes nothing unless it answers Done
 pub past_stays :

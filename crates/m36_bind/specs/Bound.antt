@@ -64,7 +64,8 @@ component_words frame statics p =
     relocated_words (relocation_of frame p) statics p.parts.relocations (words_in statics p.parts)
 
 -- the words, and after them those of components, each from an even word on
-unfoldable pub with_component_words : ShapeFields → Bool → List ℕ → List PlacedComponentFields → List ℕ
+unfoldable pub with_component_words :
+    ShapeFields → Bool → List ℕ → List PlacedComponentFields → List ℕ
 with_component_words frame statics words [] = words
 with_component_words frame statics words (p ∷ all) =
     with_component_words frame statics (padded_to_even words ++ component_words frame statics p) all
@@ -139,9 +140,11 @@ abbrev pub checked_parts : PartsFields → Result PartsFields BindFault
 checked_parts parts = if is_well_formed parts then if_sections_fit parts else Err (fault.B4 0)
 
 -- the parts of the bound object, given its definitions, or B4
-abbrev pub checked_bound_parts : ShapeFields → List PlacedComponentFields → List Named → Result PartsFields BindFault
+abbrev pub checked_bound_parts :
+    ShapeFields → List PlacedComponentFields → List Named → Result PartsFields BindFault
 checked_bound_parts frame all kept =
-    if components_fit frame all then checked_parts (bound_parts frame all kept) else Err (fault.B4 0)
+    if components_fit frame all then checked_parts (bound_parts frame all kept) else Err
+    (fault.B4 0)
 
 -- ---- the whole
 
@@ -149,7 +152,8 @@ checked_bound_parts frame all kept =
 abbrev pub bound_object_of_components : ShapeFields → List PlacedComponentFields → List BindLine
     → Result PartsFields BindFault
 bound_object_of_components frame all lines =
-    and_then (with_retain_lines (exports_from frame [] all) [] 1 lines) (λ kept. checked_bound_parts frame all kept)
+    and_then (with_retain_lines (exports_from frame [] all) [] 1 lines)
+    (λ kept. checked_bound_parts frame all kept)
 
 -- the parts of the bound object of a bind file, or its first refusal
 abbrev pub bound_object_of_lines : NamedObjectsFields → List BindLine → Result PartsFields BindFault
@@ -159,7 +163,8 @@ bound_object_of_lines given lines =
 
 -- The bound object of the components of a bind file, among objects that are given by name, or the
 -- first refusal.
-unfoldable pub bound_object_of : List ℕ → List (List ℕ) → List PartsFields → Result PartsFields BindFault
+unfoldable pub bound_object_of :
+    List ℕ → List (List ℕ) → List PartsFields → Result PartsFields BindFault
 bound_object_of text names objects =
     and_then (bind_lines text)
     (λ lines. bound_object_of_lines (record { names = names; objects = objects }) lines)

@@ -33,7 +33,8 @@ pub record PlacedComponentFields : Type 0 where
   pub entries : List (List ℕ × Export)
 
 -- the component with this name, these parts and definitions, whose words begin at these bases
-abbrev pub component : List ℕ → PartsFields → BasesFields → List (List ℕ × Export) → PlacedComponentFields
+abbrev pub component :
+    List ℕ → PartsFields → BasesFields → List (List ℕ × Export) → PlacedComponentFields
 component name p b table =
     record { name = name; parts = p; shape = shape_of p; bases = b; entries = table }
 
@@ -69,16 +70,19 @@ component_named name all =
 -- ---- the lines in order
 
 -- the components, with the object that was found for line n, or the refusal of the line
-abbrev pub with_found_object : PlacedComponents → ℕ → List ℕ → Option PartsFields → Result PlacedComponents BindFault
+abbrev pub with_found_object :
+    PlacedComponents → ℕ → List ℕ → Option PartsFields → Result PlacedComponents BindFault
 with_found_object all n name None = Err (fault.B2 n)
 with_found_object all n name (Some p) =
     if list_any (same name) (names_of all.placed) then Err (fault.B3 n)
     else Ok (with_component all (component name p all.next (with_own_definitions [] p.definitions)))
 
 -- the components, with that of line n if it is an `object` line, or the refusal of the line
-abbrev pub with_component_of_line : NamedObjectsFields → PlacedComponents → ℕ → BindLine → Result PlacedComponents BindFault
+abbrev pub with_component_of_line :
+    NamedObjectsFields → PlacedComponents → ℕ → BindLine → Result PlacedComponents BindFault
 with_component_of_line given all n line.Version = Ok all
-with_component_of_line given all n (line.Object name) = with_found_object all n name (object_named given name)
+with_component_of_line given all n (line.Object name) =
+    with_found_object all n name (object_named given name)
 with_component_of_line given all n (line.Retain name) = Ok all
 
 -- the components, with those of lines from line n on
@@ -86,7 +90,8 @@ unfoldable pub with_components_of_lines : NamedObjectsFields → PlacedComponent
     → Result PlacedComponents BindFault
 with_components_of_lines given all n [] = Ok all
 with_components_of_lines given all n (next ∷ lines) =
-    and_then (with_component_of_line given all n next) (λ more. with_components_of_lines given more (n + 1) lines)
+    and_then (with_component_of_line given all n next)
+    (λ more. with_components_of_lines given more (n + 1) lines)
 
 -- The result of a call that changes `new` is that of the definition. It may be NoMemory whatever
 -- the definition gives.
@@ -99,12 +104,14 @@ abbrev pub components_in : PlacedComponents → List PlacedComponentFields
 components_in all = all.placed
 
 -- all components that lines name
-unfoldable pub components_of_lines : NamedObjectsFields → List BindLine → Result (List PlacedComponentFields) BindFault
+unfoldable pub components_of_lines :
+    NamedObjectsFields → List BindLine → Result (List PlacedComponentFields) BindFault
 components_of_lines given lines =
     and_then (with_components_of_lines given no_components 1 lines) (λ all. Ok (components_in all))
 
 -- The result of a call that changes the components to `new` and returns where the next one begins.
-abbrev pub AddsComponent : List PlacedComponentFields → Result BasesFields BindFault → Result PlacedComponents BindFault
+abbrev pub AddsComponent :
+    List PlacedComponentFields → Result BasesFields BindFault → Result PlacedComponents BindFault
     → Type 0
 AddsComponent new (Ok next) definition = definition ≡ Ok (record { placed = new; next = next })
 AddsComponent new (Err told) definition = IsBindRefusal told definition

@@ -21,7 +21,8 @@ unfoldable pub exports_from : ShapeFields → List (List ℕ × Export) → List
     → List (List ℕ × Export)
 exports_from frame table [] = table
 exports_from frame table (p ∷ all) =
-    exports_from frame (with_relocated_definitions (relocation_of frame p) table p.parts.definitions) all
+    exports_from frame (with_relocated_definitions
+    (relocation_of frame p) table p.parts.definitions) all
 
 -- the definitions so far with that of the name that line n retains, or the refusal of the line
 abbrev pub with_retained : List Named → ℕ → List ℕ → Option Export → Result (List Named) BindFault
@@ -36,7 +37,8 @@ abbrev pub with_retain_line : List (List ℕ × Export) → List Named → ℕ �
     → Result (List Named) BindFault
 with_retain_line exports kept n line.Version = Ok kept
 with_retain_line exports kept n (line.Object name) = Ok kept
-with_retain_line exports kept n (line.Retain name) = with_retained kept n name (export_named name exports)
+with_retain_line exports kept n (line.Retain name) =
+    with_retained kept n name (export_named name exports)
 
 -- the definitions so far, with those that lines from line n on retain, or the first refusal of a
 -- line
@@ -44,4 +46,5 @@ unfoldable pub with_retain_lines : List (List ℕ × Export) → List Named → 
     → Result (List Named) BindFault
 with_retain_lines exports kept n [] = Ok kept
 with_retain_lines exports kept n (next ∷ lines) =
-    and_then (with_retain_line exports kept n next) (λ more. with_retain_lines exports more (n + 1) lines)
+    and_then (with_retain_line exports kept n next)
+    (λ more. with_retain_lines exports more (n + 1) lines)

@@ -37,10 +37,12 @@ segment_link l (Some p) = own_link l (text_word_place p.bases l.expr)
 
 -- What a link to an entry of a component becomes: a link to the new place of the definition, plus
 -- the number of the link. It is unchanged if the component does not define the entry.
-abbrev pub entry_link : ShapeFields → LinkFields → PlacedComponentFields → Option Export → LinkFields
+abbrev pub entry_link :
+    ShapeFields → LinkFields → PlacedComponentFields → Option Export → LinkFields
 entry_link frame l p None = l
 entry_link frame l p (Some e) =
-    own_link l (offset_by (relocated_place (relocation_of frame p) e.def.section e.def.value) l.expr)
+    own_link l (offset_by (relocated_place (relocation_of frame p) e.def.section e.def.value)
+    l.expr)
 
 -- what a link to an entry of another segment becomes; it is unchanged if that is no component
 abbrev pub outer_link : ShapeFields → LinkFields → Option PlacedComponentFields → LinkFields
@@ -49,30 +51,36 @@ outer_link frame l (Some p) = entry_link frame l p (export_named l.entry p.entri
 
 -- What a link to an entry of its own object becomes. The value of the definition is an offset in
 -- the later of its section and that of the link.
-abbrev pub inner_link : ShapeFields → PlacedComponentFields → LinkFields → Option Export → LinkFields
+abbrev pub inner_link :
+    ShapeFields → PlacedComponentFields → LinkFields → Option Export → LinkFields
 inner_link frame p l None = l
 inner_link frame p l (Some e) =
     own_link l (offset_by
-    (relocated_place (relocation_of frame p) (later_section l.section e.def.section) e.def.value) l.expr)
+    (relocated_place (relocation_of frame p) (later_section l.section e.def.section) e.def.value)
+    l.expr)
 
 -- the link of the bound object that replaces a link of a component
-unfoldable pub bound_link : ShapeFields → List PlacedComponentFields → PlacedComponentFields → LinkFields → LinkFields
+unfoldable pub bound_link :
+    ShapeFields → List PlacedComponentFields → PlacedComponentFields → LinkFields → LinkFields
 bound_link frame all p l =
-    if nat_eq l.kind to_section then own_link l (relocated_place (relocation_of frame p) l.section l.expr)
+    if nat_eq l.kind to_section then own_link l
+    (relocated_place (relocation_of frame p) l.section l.expr)
     else if nat_eq l.kind to_segment then segment_link l (component_named l.name all)
     else if nat_eq l.kind to_entry then outer_link frame l (component_named l.name all)
     else if nat_eq l.kind to_own_entry then inner_link frame p l (export_named l.entry p.entries)
     else l
 
 -- the links of a component, after others
-unfoldable pub links_onto : ShapeFields → List PlacedComponentFields → PlacedComponentFields → List LinkFields
+unfoldable pub links_onto :
+    ShapeFields → List PlacedComponentFields → PlacedComponentFields → List LinkFields
     → List LinkFields → List LinkFields
 links_onto frame all p done [] = done
 links_onto frame all p done (l ∷ ls) =
     links_onto frame all p (done ++ bound_link frame all p l ∷ []) ls
 
 -- the links of several components, after others
-unfoldable pub links_from : ShapeFields → List PlacedComponentFields → List LinkFields → List PlacedComponentFields
+unfoldable pub links_from :
+    ShapeFields → List PlacedComponentFields → List LinkFields → List PlacedComponentFields
     → List LinkFields
 links_from frame all done [] = done
 links_from frame all done (p ∷ more) =

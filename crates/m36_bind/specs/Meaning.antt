@@ -51,7 +51,8 @@ has_word p (HeadWord v) = nat_lt v head_words
 
 -- The number `new` in the section `target` of the bound object refers to the word to which `old`
 -- refers in the component, if there is such a word.
-abbrev pub RefersToSameWord : PartsFields → PlacedComponentFields → Section → ℕ → Section → ℕ → Type 0
+abbrev pub RefersToSameWord :
+    PartsFields → PlacedComponentFields → Section → ℕ → Section → ℕ → Type 0
 RefersToSameWord bound p section old target new =
     has_word p (denoted p.shape section old) ≡ true
     → denoted (shape_of bound) target new ≡ image p.bases (denoted p.shape section old)
@@ -59,7 +60,8 @@ RefersToSameWord bound p section old target new =
 -- ---- words
 
 -- A relocation of the component, of a part of word i of its text or of its static words.
-pub record IsRelocationAt (p : PlacedComponentFields) (statics : Bool) (i : ℕ) (r : RelocFields) : Type 0 where
+pub record IsRelocationAt (p : PlacedComponentFields) (statics : Bool) (i : ℕ)
+    (r : RelocFields) : Type 0 where
   pub among : Contains p.parts.relocations r
   pub stands : is_relocation_in statics r ≡ true
   pub place : word_index_of p.shape statics r ≡ i
@@ -76,7 +78,8 @@ pub record IsRelocatedWord (bound : PartsFields) (p : PlacedComponentFields) (st
       → RefersToSameWord bound p r.target (part_of r.part old) r.target (part_of r.part new)
   pub below : (r : RelocFields) → IsRelocationAt p statics i r → r.part ≡ offset_part
       → offset_limit ≤ part_of offset_part old
-      → part_of offset_part new ≡ relocated_negative p.bases r.target (part_of offset_part old) % 2 ^ 15
+      → part_of offset_part new ≡ relocated_negative p.bases r.target
+      (part_of offset_part old) % 2 ^ 15
   pub first_bits : ((r : RelocFields) → IsRelocationAt p statics i r → r.part ≡ left_part → ⊥)
       → field new 0 3 ≡ field old 0 3
   pub offset_bits : ((r : RelocFields) → IsRelocationAt p statics i r → r.part ≡ right_part)
@@ -153,7 +156,8 @@ pub record LinksTo (bound : PartsFields) (p : PlacedComponentFields) (section : 
   pub is : new ≡ own_link old (offset_by place old.expr)
 
 -- a link to a place of the bound object, without a number that is added
-pub record LinksAt (bound : PartsFields) (p : PlacedComponentFields) (old new : LinkFields) : Type 0 where
+pub record LinksAt (bound : PartsFields) (p : PlacedComponentFields)
+    (old new : LinkFields) : Type 0 where
   pub place : BoundPlace
   pub names : RefersToSameWord bound p old.section old.expr place.section place.offset
   pub is : new ≡ own_link old place
@@ -161,14 +165,17 @@ pub record LinksAt (bound : PartsFields) (p : PlacedComponentFields) (old new : 
 -- The name of a link is that of no component, or the component does not define its entry.
 abbrev pub IsUndefined : List PlacedComponentFields → LinkFields → Type 0
 IsUndefined all l =
-    (q : PlacedComponentFields) → component_named l.name all ≡ Some q → export_named l.entry q.entries ≡ None
+    (q : PlacedComponentFields) → component_named l.name all ≡ Some q
+    → export_named l.entry q.entries ≡ None
 
 -- The link of the bound object that replaces a link of a component, by its type. A link to no
 -- component, or to a name that the component does not define, is unchanged.
-pub record ReplacesLink (bound : PartsFields) (all : List PlacedComponentFields) (p : PlacedComponentFields)
+pub record ReplacesLink (bound : PartsFields) (all : List PlacedComponentFields)
+    (p : PlacedComponentFields)
     (old new : LinkFields) : Type 0 where
   pub own : old.kind ≡ to_section → LinksAt bound p old new
-  pub segment : (q : PlacedComponentFields) → old.kind ≡ to_segment → component_named old.name all ≡ Some q
+  pub segment : (q : PlacedComponentFields) → old.kind ≡ to_segment → component_named old.name all
+      ≡ Some q
       → new ≡ own_link old (text_word_place q.bases old.expr)
   pub outer : (q : PlacedComponentFields) (e : Export) → old.kind ≡ to_entry
       → component_named old.name all ≡ Some q → export_named old.entry q.entries ≡ Some e
@@ -209,7 +216,8 @@ pub record BoundMeaning (text : List ℕ) (names : List (List ℕ)) (objects : L
   pub lines : List BindLine
   pub read : bind_lines text ≡ Ok lines
   pub components : List PlacedComponentFields
-  pub components_of : components_of_lines (record { names = names; objects = objects }) lines ≡ Ok components
+  pub components_of : components_of_lines (record { names = names; objects = objects }) lines
+      ≡ Ok components
   -- what is in the bound object
   pub order : AreInOrder first_bases components
   pub texts : (p : PlacedComponentFields) → Contains components p → HasWords bound p false
@@ -230,7 +238,8 @@ pub record BoundMeaning (text : List ℕ) (names : List (List ℕ)) (objects : L
   pub no_other_relocations : (r : RelocFields) → Contains bound.relocations r
       → RelocationSource bound components r
   pub entry_bound : bound.entry_bound ≡ first_entry_bound components
-  pub version : bound.version ≡ version_of (is_newer_bound_object (has_version_line lines) components)
+  pub version : bound.version ≡ version_of
+      (is_newer_bound_object (has_version_line lines) components)
 
 -- Each of these is the parts of an object.
 abbrev pub AreObjects : List PartsFields → Type 0

@@ -4,7 +4,9 @@ ghost use Rattle.std.specs.Prelude.{◌≡◌, ◌^◌, ◌<◌, true, [], lengt
 ghost use Rattle.obj36_parts.specs.ObjectSegment.{is_well_formed};
 ghost use Rattle.m36_bindfile.specs.BindFile.{has_version_line, is_version, BindResult};
 ghost use Rattle.m36_bind.specs.Kept.{exports_from, with_retain_lines};
-ghost use Rattle.m36_bind.specs.Bound.{bound_parts, if_sections_fit, checked_parts, checked_bound_parts, bound_object_of_components, bound_object_of_lines, bound_object_of};
+ghost use Rattle.m36_bind.specs.Bound.{bound_parts, if_sections_fit, checked_parts};
+ghost use Rattle.m36_bind.specs.Bound.{checked_bound_parts, bound_object_of_components};
+ghost use Rattle.m36_bind.specs.Bound.{bound_object_of_lines, bound_object_of};
 ghost use Rattle.m36_bind.specs.Meaning.{AreObjects, BoundMeaning};
 
 use crate::bound::{bound_parts, bound_shape_of};
@@ -94,7 +96,8 @@ fn retained_definitions(
     lines: &[BindLine],
 ) -> Result<Defs, BindFault>
     requires { length lines.now < 2 ^ 32 }
-    ensures { BindResult result (with_retain_lines (exports_from frame.now [] all.now) [] 1 lines.now) }
+    ensures { BindResult result (with_retain_lines (exports_from frame.now [] all.now) [] 1
+        lines.now) }
 {
     let exports = exports(alloc, frame, all.items())?;
     definitions_of_retain_lines(alloc, &exports, lines)

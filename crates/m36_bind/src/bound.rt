@@ -1,12 +1,17 @@
 //! The parts of the bound object.
 
-ghost use Rattle.std.specs.Prelude.{◌≡◌, ◌+◌, ◌++◌, ◌^◌, ◌<◌, ◌≤◌, [], true, false, if◌then◌else◌, IfOk, OnOk};
+ghost use Rattle.std.specs.Prelude.{◌≡◌, ◌+◌, ◌++◌, ◌^◌, ◌<◌, ◌≤◌, [], true, false, if◌then◌else◌};
+ghost use Rattle.std.specs.Prelude.{IfOk, OnOk};
 ghost use Rattle.std.specs.List.{list_any};
 ghost use Rattle.m36_bind.specs.Components.{relocation_of};
 ghost use Rattle.m36_bind.specs.Links.{links_from};
 ghost use Rattle.m36_relocate.specs.Words.{words_in, relocated_words};
 ghost use Rattle.obj36_parts.specs.ObjectSegment.{padded_to_even};
-ghost use Rattle.m36_bind.specs.Bound.{is_newer_component, is_newer_bound_object, statics_end, links_end, bound_shape_of, component_words, with_component_words, bound_relocation, with_relocation, relocations_onto, relocations_from, first_entry_bound, bound_parts};
+ghost use Rattle.m36_bind.specs.Bound.{is_newer_component, is_newer_bound_object, statics_end};
+ghost use Rattle.m36_bind.specs.Bound.{links_end, bound_shape_of, component_words};
+ghost use Rattle.m36_bind.specs.Bound.{with_component_words, bound_relocation, with_relocation};
+ghost use Rattle.m36_bind.specs.Bound.{relocations_onto, relocations_from, first_entry_bound};
+ghost use Rattle.m36_bind.specs.Bound.{bound_parts};
 
 use crate::links::links;
 use crate::placed::{Components, PlacedComponent, relocation_of};
@@ -315,8 +320,10 @@ fn text_and_statics(
     frame: &Shape,
     all: &[PlacedComponent<'_>],
 ) -> Result<ComponentWords, NoMemory>
-    ensures text { IfOk result (λ sections. sections.text ≡ with_component_words frame.now false [] all.now) }
-    ensures statics { IfOk result (λ sections. sections.statics ≡ with_component_words frame.now true [] all.now) }
+    ensures text { IfOk result (λ sections. sections.text ≡ with_component_words frame.now false []
+        all.now) }
+    ensures statics { IfOk result (λ sections. sections.statics ≡ with_component_words frame.now
+        true [] all.now) }
 {
     let text = all_component_words(alloc, frame, false, all)?;
     let statics = all_component_words(alloc, frame, true, all)?;

@@ -4,7 +4,8 @@ ghost use Rattle.std.specs.Prelude.{◌≡◌, ◌^◌, ◌<◌, ◌||◌, [], l
 ghost use Rattle.m36_bindfile.specs.BindFile.{BindResult};
 ghost use Rattle.m36_bind.specs.Components.{ChangesOrRefuses, relocation_of};
 ghost use Rattle.m36_relocate.specs.Exports.{with_relocated_definitions};
-ghost use Rattle.m36_bind.specs.Kept.{exports_from, with_retained, with_retain_line, with_retain_lines};
+ghost use Rattle.m36_bind.specs.Kept.{exports_from, with_retained, with_retain_line};
+ghost use Rattle.m36_bind.specs.Kept.{with_retain_lines};
 ghost use Rattle.obj36_parts.specs.ObjectSegment.{has_definition};
 
 use crate::placed::{PlacedComponent, relocation_of, seed_of};
@@ -23,7 +24,8 @@ fn add_component_definitions(
     p: &PlacedComponent<'_>,
 ) -> Result<(), NoMemory>
     ensures { OnOk result
-        (table.new ≡ with_relocated_definitions (relocation_of frame.now p.now) table.old p.now.parts.definitions) }
+        (table.new ≡ with_relocated_definitions (relocation_of frame.now p.now) table.old
+        p.now.parts.definitions) }
 {
     let m = relocation_of(frame, p);
     let parts = p.parts;

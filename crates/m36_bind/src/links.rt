@@ -3,7 +3,8 @@
 ghost use Rattle.std.specs.Prelude.{◌≡◌, ◌+◌, ◌%◌, ◌^◌, ◌<◌, [], OnOk, IfOk, option_map};
 ghost use Rattle.m36_bind.specs.Components.{relocation_of};
 ghost use Rattle.m36_relocate.specs.Layout.{relocated_place};
-ghost use Rattle.m36_bind.specs.Links.{own_link, offset_by, segment_link, entry_link, outer_link, inner_link, bound_link, links_onto, links_from};
+ghost use Rattle.m36_bind.specs.Links.{own_link, offset_by, segment_link, entry_link, outer_link};
+ghost use Rattle.m36_bind.specs.Links.{inner_link, bound_link, links_onto, links_from};
 
 use crate::placed::{Components, PlacedComponent, relocation_of, seed_of};
 use m36_relocate::exports::Export;

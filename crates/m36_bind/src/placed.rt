@@ -1,13 +1,17 @@
 //! The components of a bind file, and where the words of each begin.
 
-ghost use Rattle.std.specs.Prelude.{◌≡◌, ◌+◌, ◌*◌, ◌^◌, ◌<◌, ◌≤◌, false, [], ◌∷◌, ◌++◌, length, Some, IfOk, OnOk, option_map};
+ghost use Rattle.std.specs.Prelude.{◌≡◌, ◌+◌, ◌*◌, ◌^◌, ◌<◌, ◌≤◌, false, [], ◌∷◌, ◌++◌, length};
+ghost use Rattle.std.specs.Prelude.{Some, IfOk, OnOk, option_map};
 ghost use Rattle.std.specs.List.{list_any};
 ghost use Rattle.obj36_parts.specs.Names.{same};
 ghost use Rattle.obj36_parts.specs.ObjectSegment.{is_newer, segment_limit};
 ghost use Rattle.m36_relocate.specs.Exports.{with_own_definitions};
 ghost use Rattle.m36_bindfile.specs.BindFile.{BindResult};
 ghost use Rattle.m36_relocate.specs.Layout.{shape_of, first_bases, next_bases};
-ghost use Rattle.m36_bind.specs.Components.{component, relocation_of, names_of, component_named, with_found_object, with_component_of_line, components_of_lines, AddsComponent, BasesAreBounded, HasShortParts};
+ghost use Rattle.m36_bind.specs.Components.{component, relocation_of, names_of, component_named};
+ghost use Rattle.m36_bind.specs.Components.{with_found_object, with_component_of_line};
+ghost use Rattle.m36_bind.specs.Components.{components_of_lines, AddsComponent, BasesAreBounded};
+ghost use Rattle.m36_bind.specs.Components.{HasShortParts};
 
 use crate::given::NamedObjects;
 use indexmap::IndexSet;

@@ -112,7 +112,8 @@ unfoldable pub lines_from : List BindLine → List (Option BindLine)
     → Result (List BindLine) BindFault
 lines_from above [] = Ok above
 lines_from above (given ∷ more) =
-    continue_with_line (Err (fault.B1 (length above + 1))) (λ next. lines_from (above ++ next ∷ []) more)
+    continue_with_line (Err (fault.B1 (length above + 1)))
+    (λ next. lines_from (above ++ next ∷ []) more)
     (line_in_order (last_of above) given)
 
 -- whether the text after the last line feed is not empty
@@ -127,11 +128,13 @@ is_object_line (Some next) = is_object next
 
 -- whether a line is an `object` line, including a last line that lacks its line feed
 unfoldable pub has_object : List ℕ → Bool
-has_object text = list_any (λ line. is_object_line (parsed_bind_line (Some line))) (open_lines_of text)
+has_object text =
+    list_any (λ line. is_object_line (parsed_bind_line (Some line))) (open_lines_of text)
 
 -- the lines of a bind file, or B1 with a line number
 unfoldable pub bind_lines : List ℕ → Result (List BindLine) BindFault
-bind_lines text = if has_object text then lines_from [] (parsed_bind_lines text) else Err (fault.B1 1)
+bind_lines text =
+    if has_object text then lines_from [] (parsed_bind_lines text) else Err (fault.B1 1)
 
 -- ---- the meaning of the lines
 

@@ -3,7 +3,10 @@
 
 ghost use Rattle.std.specs.Prelude.{◌≡◌, Some};
 ghost use Rattle.m36_text.specs.Lines.{last_of};
-ghost use Rattle.m36_bindfile.specs.BindFile.{object_line, retain_line, version_line, line_of_two_words, parsed_bind_line, is_object, may_begin, may_follow, is_in_order_after, line_in_order, is_object_line};
+ghost use Rattle.m36_bindfile.specs.BindFile.{object_line, retain_line, version_line};
+ghost use Rattle.m36_bindfile.specs.BindFile.{line_of_two_words, parsed_bind_line, is_object};
+ghost use Rattle.m36_bindfile.specs.BindFile.{may_begin, may_follow, is_in_order_after};
+ghost use Rattle.m36_bindfile.specs.BindFile.{line_in_order, is_object_line};
 
 use crate::line::{BindLine, BindLines};
 use m36_text::{Name, first_word, is_file_name, only_word};

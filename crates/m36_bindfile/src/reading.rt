@@ -1,7 +1,9 @@
 //! Parses the lines of a bind file in order, up to the first that has no form or is out of order.
 
 ghost use Rattle.std.specs.Prelude.{◌≡◌, ◌+◌, ◌++◌, ◌<◌, ◌≤◌, ◌^◌, [], length, IfOk, OnOk};
-ghost use Rattle.m36_bindfile.specs.BindFile.{parsed_bind_lines, lines_from, lacks_line_feed, has_object, bind_lines, with_component, component_names, names_or_fault, BindResult};
+ghost use Rattle.m36_bindfile.specs.BindFile.{parsed_bind_lines, lines_from, lacks_line_feed};
+ghost use Rattle.m36_bindfile.specs.BindFile.{has_object, bind_lines, with_component};
+ghost use Rattle.m36_bindfile.specs.BindFile.{component_names, names_or_fault, BindResult};
 ghost use Rattle.m36_text.specs.Once.{appended_if_new};
 ghost use Rattle.m36_text.specs.Texts.{are_same};
 
@@ -88,7 +90,8 @@ fn add_name(
     name: &Name,
 ) -> Result<(), NoMemory>
     requires { seen.old.keys ≡ names.old }
-    ensures names { OnOk result (names.new ≡ appended_if_new (are_same name.now) names.old name.now) }
+    ensures names { OnOk result (names.new ≡ appended_if_new (are_same name.now) names.old
+        name.now) }
     ensures seen { OnOk result (seen.new.keys ≡ names.new) }
 {
     if seen.insert(name.copied())? {

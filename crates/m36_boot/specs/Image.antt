@@ -7,7 +7,8 @@ use Rattle.m36_desc.specs.Fields.{SdwFields}
 use Rattle.m36_desc.specs.Access.{has_ordered_brackets}
 use Rattle.m36_desc.specs.Descriptors.{sdw_of, sdw_even, sdw_odd}
 use Rattle.m36_model.specs.Place.{core_sdw, page_count}
-use Rattle.m36_model.specs.BootedCore.{descriptor_words, booted_dbr, wired_frames, table_words, table_at}
+use Rattle.m36_model.specs.BootedCore.{descriptor_words, booted_dbr, wired_frames, table_words}
+use Rattle.m36_model.specs.BootedCore.{table_at}
 use Rattle.m36_model.specs.BootedCore.{absent_ptw, IsPage, IsLaid}
 use Rattle.m36_model.specs.Flat.{Flat}
 use Rattle.m36_model.specs.Residence.{Paged, flat_of}
@@ -66,7 +67,8 @@ pub record AreDescribed
       → slice_index new a ≡ described_word catalog files a
   pub others : (a : ℕ) → 2 * count ≤ a → slice_index new a ≡ slice_index old a
   pub whole :
-      (seg : ℕ) (d : SdwFields) → seg < count → booted_sdw catalog files seg ≡ Some d → IsWellFormed d
+      (seg : ℕ) (d : SdwFields) → seg < count → booted_sdw catalog files seg ≡ Some d
+      → IsWellFormed d
 
 -- ---- pages
 
@@ -85,7 +87,8 @@ tables_from catalog files lay seg (suc n) =
     ++ tables_from catalog files lay (seg + 1) n
 
 -- the page tables of all segments of the image, in the order of their numbers
-unfoldable pub booted_tables : CatalogFields → List (List ℕ) → Option NewSectionFields → List PageTable
+unfoldable pub booted_tables :
+    CatalogFields → List (List ℕ) → Option NewSectionFields → List PageTable
 booted_tables catalog files lay =
     tables_from catalog files lay 0 (first_segment + length catalog.segments)
 
@@ -97,7 +100,8 @@ content_by (Some d) words w =
     if nat_lt (w / 1024) (page_count d) then Some (slice_index words w) else None
 
 -- the content of a word of a segment of the image; None if it has no place
-unfoldable pub booted_content : CatalogFields → List (List ℕ) → Option NewSectionFields → ℕ → ℕ → Option ℕ
+unfoldable pub booted_content :
+    CatalogFields → List (List ℕ) → Option NewSectionFields → ℕ → ℕ → Option ℕ
 booted_content catalog files lay seg w =
     content_by (booted_sdw catalog files seg) (booted_words files lay seg) w
 

@@ -14,7 +14,8 @@ use Rattle.obj36_parts.specs.ObjectSegment.{linkage_register}
 use Rattle.m36_link.specs.Fields.{NewSectionFields, SnapFields}
 use Rattle.m36_link.specs.Known.{first_segment, linkage_segment, catalog_number}
 use Rattle.m36_boot.specs.Segments.{stack_segment, stack_pages, linkage_pages, file_at}
-use Rattle.m36_boot.specs.Segments.{ring_descriptor, catalog_descriptor, catalog_descriptor_at, booted_sdw}
+use Rattle.m36_boot.specs.Segments.{ring_descriptor, catalog_descriptor, catalog_descriptor_at}
+use Rattle.m36_boot.specs.Segments.{booted_sdw}
 use Rattle.m36_boot.specs.Segments.{stack_words, linkage_words, booted_words}
 use Rattle.m36_boot.specs.Start.{may_start, section_base, start_regs}
 

@@ -87,7 +87,8 @@ abbrev pub start_answer_at : CatalogFields → List (List ℕ) → Option ℕ �
 start_answer_at catalog files None = Err fault.U3
 start_answer_at catalog files (Some seg) =
     if is_object (segment_of catalog seg) (object_in files seg) then
-    start_answer_if (may_start catalog.start.ring (segment_of catalog seg)) (start_answer catalog files)
+    start_answer_if (may_start catalog.start.ring (segment_of catalog seg))
+    (start_answer catalog files)
     else Err (fault.U4 seg)
 
 -- the answer for the start of a catalog, or its fault

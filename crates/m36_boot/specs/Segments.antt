@@ -136,7 +136,8 @@ unfoldable pub booted_sdw : CatalogFields → List (List ℕ) → ℕ → Option
 booted_sdw catalog files seg =
     if nat_lt seg first_stack then None
     else if nat_lt seg first_linkage then Some (ring_descriptor seg (seg - first_stack) stack_pages)
-    else if nat_lt seg after_ring_segments then Some (ring_descriptor seg (seg - first_linkage) linkage_pages)
+    else if nat_lt seg after_ring_segments then Some
+    (ring_descriptor seg (seg - first_linkage) linkage_pages)
     else if nat_lt seg first_segment then None
     else catalog_descriptor_at seg (slice_get catalog.segments (catalog_index seg))
     (file_at files (catalog_index seg))

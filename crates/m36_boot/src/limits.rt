@@ -1,8 +1,10 @@
 //! The call limiters of the segments, and the faults of gates.
 
-ghost use Rattle.std.specs.Prelude.{◌≡◌, ◌+◌, ◌<◌, ◌++◌, ◌∷◌, [], true, length, OnOk, IfOk, IfErr, None};
+ghost use Rattle.std.specs.Prelude.{◌≡◌, ◌+◌, ◌<◌, ◌++◌, ◌∷◌, [], true, length, OnOk, IfOk, IfErr};
+ghost use Rattle.std.specs.Prelude.{None};
 ghost use Rattle.m36_boot.specs.Segments.{AreShort};
-ghost use Rattle.m36_boot.specs.Refusals.{is_entry_count, IsLimit, GateLimitResult, LimitResult, AreLimits, ReportsGateFault, first_gate_fault};
+ghost use Rattle.m36_boot.specs.Refusals.{is_entry_count, IsLimit, GateLimitResult, LimitResult};
+ghost use Rattle.m36_boot.specs.Refusals.{AreLimits, ReportsGateFault, first_gate_fault};
 
 use crate::fault::BootFault;
 use crate::objects::{file, object_of};

@@ -1,11 +1,15 @@
 //! The descriptors and the words of segments.
 
-ghost use Rattle.std.specs.Prelude.{◌≡◌, ◌+◌, ◌*◌, ◌/◌, ◌<◌, ◌≤◌, ◌^◌, ◌⊎◌, length, IfOk, IfSome, true};
+ghost use Rattle.std.specs.Prelude.{◌≡◌, ◌+◌, ◌*◌, ◌/◌, ◌<◌, ◌≤◌, ◌^◌, ◌⊎◌, length, IfOk, IfSome};
+ghost use Rattle.std.specs.Prelude.{true};
 ghost use Rattle.m36_desc.specs.Access.{has_ordered_brackets};
 ghost use Rattle.m36_model.specs.BootedCore.{table_words, table_at, booted_segments};
 ghost use Rattle.obj36_parts.specs.ObjectSegment.{segment_limit};
 ghost use Rattle.m36_link.specs.Known.{first_segment};
-ghost use Rattle.m36_boot.specs.Segments.{AreShort, first_stack, after_ring_segments, paged_descriptor, ring_descriptor, catalog_descriptor, booted_sdw, stack_words, lot_of, linkage_words, booted_words};
+ghost use Rattle.m36_boot.specs.Segments.{AreShort, first_stack, after_ring_segments};
+ghost use Rattle.m36_boot.specs.Segments.{paged_descriptor, ring_descriptor, catalog_descriptor};
+ghost use Rattle.m36_boot.specs.Segments.{booted_sdw, stack_words, lot_of, linkage_words};
+ghost use Rattle.m36_boot.specs.Segments.{booted_words};
 ghost use Rattle.m36_boot.specs.Refusals.{IsLimit, AreLimits};
 
 use crate::objects::file;

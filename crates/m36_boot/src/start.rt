@@ -1,7 +1,8 @@
 //! Where a booted machine starts.
 
 ghost use Rattle.std.specs.Prelude.{◌≡◌, ◌+◌, ◌<◌, ◌^◌, option_copied};
-ghost use Rattle.m36_boot.specs.Start.{start_link, start_answer, start_segment, may_start, section_base, start_regs};
+ghost use Rattle.m36_boot.specs.Start.{start_link, start_answer, start_segment, may_start};
+ghost use Rattle.m36_boot.specs.Start.{section_base, start_regs};
 ghost use Rattle.m36_boot.specs.Refusals.{is_object, start_answer_if, start_of, StartResult};
 ghost use Rattle.m36_link.specs.Known.{nothing_known};
 ghost use Rattle.m36_model.specs.Pointers.{pointer};

@@ -1,6 +1,7 @@
 //! A block of raw memory, as a row of slots. A slot is empty or holds a value. Only the functions
 //! of this file use the pointer to the block.
-ghost use Rattle.std.specs.Prelude.{◌≡◌, ℕ, ◌+◌, ◌<◌, ◌≤◌, List, Option, Some, None, length, take, drop, replicate, get_or, slice_set, IfOk, ⊤};
+ghost use Rattle.std.specs.Prelude.{◌≡◌, ℕ, ◌+◌, ◌<◌, ◌≤◌, List, Option, Some, None, length, take};
+ghost use Rattle.std.specs.Prelude.{drop, replicate, get_or, slice_set, IfOk, ⊤};
 ghost use Rattle.std.specs.Borrow.{sem};
 ghost use Rattle.std.specs.Vec.Ownership.{FitsInBlock};
 ghost use base.Fml.{ftrue};

@@ -1,6 +1,7 @@
 //! Core memory.
 
-ghost use Rattle.std.specs.Prelude.{ℕ, List, ◌≡◌, ◌+◌, ◌*◌, ◌%◌, ◌<◌, ◌≤◌, ◌^◌, IfOk, Some, length, map, replicate, slice_index, slice_set};
+ghost use Rattle.std.specs.Prelude.{ℕ, List, ◌≡◌, ◌+◌, ◌*◌, ◌%◌, ◌<◌, ◌≤◌, ◌^◌, IfOk, Some, length};
+ghost use Rattle.std.specs.Prelude.{map, replicate, slice_index, slice_set};
 ghost use Rattle.std.specs.Borrow.{sem};
 ghost use Rattle.m36_word.specs.Field.{frames_reached};
 ghost use Rattle.m36_core.specs.Frames.{frame_words};

@@ -14,14 +14,17 @@ use Rattle.m36_debug.specs.declared.machine_relations.Came.{Came}
 use Rattle.m36_debug.specs.declared.machine_relations.Came.TheVariants as comes
 use Rattle.m36_debug.specs.declared.machine_relations.LineResult.{LineResult}
 use Rattle.m36_debug.specs.declared.machine_relations.LineResult.TheVariants as ends
-use Rattle.m36_debug.specs.Session.{MachineRelations, Activity, Waiting, Running, Backing, Over, Starved}
-use Rattle.m36_debug.specs.Session.{SessionPoint, SessionEvent, standing, Follow, texts_of, lines_in}
+use Rattle.m36_debug.specs.Session.{MachineRelations, Activity, Waiting, Running, Backing, Over}
+use Rattle.m36_debug.specs.Session.{Starved}
+use Rattle.m36_debug.specs.Session.{SessionPoint, SessionEvent, standing, Follow, texts_of}
+use Rattle.m36_debug.specs.Session.{lines_in}
 use Rattle.m36_debug.specs.SessionTexts.{unknown_line, end_line}
 use Rattle.m36_debug.specs.SessionState.{SessionStateFields}
 
 -- A part of a session: these lines were taken in it, and what its events say was put, or a prefix
 -- of it if the answer is Failed.
-pub record SessionPart {M : Type 0} (o : MachineRelations M) (s : SessionPoint) (m : M) (lines : List (List ℕ))
+pub record SessionPart {M : Type 0} (o : MachineRelations M) (s : SessionPoint) (m : M)
+    (lines : List (List ℕ))
     (s' : SessionPoint) (m' : M) (answer : Put) (old new : Pending) : Type 0 where
   pub events : List (SessionEvent M)
   pub follow : Follow o s m events s' m'
@@ -30,7 +33,8 @@ pub record SessionPart {M : Type 0} (o : MachineRelations M) (s : SessionPoint) 
 
 -- A part of a session in which the output failed. Nothing is known of the state of the session
 -- after it but that there is one.
-pub record FailedPart {M : Type 0} (o : MachineRelations M) (s : SessionPoint) (m : M) (lines : List (List ℕ))
+pub record FailedPart {M : Type 0} (o : MachineRelations M) (s : SessionPoint) (m : M)
+    (lines : List (List ℕ))
     (m' : M) (old new : Pending) : Type 0 where
   pub stands : SessionPoint
   pub part : SessionPart o s m lines stands m' Failed old new
@@ -71,7 +75,8 @@ TurnChangesCounts comes.Starves left before after = after ≤ before + 1
 TurnChangesCounts comes.Cut left before after = after ≤ before + 1
 
 -- A turn of this kind leads from one state of the machine to the other.
-pub record MakesTurn {M : Type 0} (o : MachineRelations M) (Kind : Turn → Type 0) (m m' : M) : Type 0 where
+pub record MakesTurn {M : Type 0} (o : MachineRelations M) (Kind : Turn → Type 0)
+    (m m' : M) : Type 0 where
   pub turn : Turn
   pub next : o.next m turn m'
   pub kind : Kind turn
@@ -86,7 +91,8 @@ ServiceIsFlagged o comes.Cut m m' = Unit {0}
 -- If a command has no steps left and still takes another turn, the one before it was one that no
 -- step may follow.
 abbrev pub PrecludesStepIfNoneLeft : {M : Type 0} → MachineRelations M → Came → M → M → Type 0
-PrecludesStepIfNoneLeft o (comes.Runs run service) m m' = run.left ≡ 0 → MakesTurn o PrecludesStep m m'
+PrecludesStepIfNoneLeft o (comes.Runs run service) m m' =
+    run.left ≡ 0 → MakesTurn o PrecludesStep m m'
 PrecludesStepIfNoneLeft o comes.Waits m m' = Unit {0}
 PrecludesStepIfNoneLeft o comes.Starves m m' = Unit {0}
 PrecludesStepIfNoneLeft o comes.Cut m m' = Unit {0}
@@ -98,7 +104,8 @@ CountsSteps o before after m m' = (after ≡ before) ⊎ MakesTurn o IsStep m m'
 -- The contract of a turn of a command, by its result: a part of a session in which no line is
 -- taken.
 abbrev pub TurnContract :
-    {M : Type 0} → MachineRelations M → Came → SessionPoint → M → SessionStateFields → M → Pending → Pending
+    {M : Type 0} → MachineRelations M → Came → SessionPoint → M → SessionStateFields → M → Pending
+    → Pending
     → Type 0
 TurnContract o comes.Cut s m sitting m' old new = FailedPart o s m [] m' old new
 TurnContract o came s m sitting m' old new =
@@ -115,7 +122,8 @@ activity_by_line_result ends.Cut = Waiting
 
 -- the contract of a command or of lines, by how they ended
 abbrev pub LineContract :
-    {M : Type 0} → MachineRelations M → LineResult → SessionPoint → M → List (List ℕ) → SessionStateFields → M → Pending
+    {M : Type 0} → MachineRelations M → LineResult → SessionPoint → M → List (List ℕ)
+    → SessionStateFields → M → Pending
     → Pending → Type 0
 LineContract o ends.Cut s m lines sitting m' old new = FailedPart o s m lines m' old new
 LineContract o end s m lines sitting m' old new =
@@ -134,7 +142,8 @@ PutsAnswer ends.Starved old new lines = ⊥
 PutsAnswer ends.Cut old new lines = PutsPieces Failed lines old new
 
 -- A line was answered at once: `lines` were put, and session and machine are unchanged.
-pub record IsTold {M : Type 0} (end : LineResult) (lines : List (List ℕ)) (s : SessionStateFields) (m : M)
+pub record IsTold {M : Type 0} (end : LineResult) (lines : List (List ℕ)) (s : SessionStateFields)
+    (m : M)
     (sitting : SessionStateFields) (m' : M) (old new : Pending) : Type 0 where
   pub puts : PutsAnswer end old new lines
   pub sitting_stays : sitting ≡ s
@@ -142,7 +151,8 @@ pub record IsTold {M : Type 0} (end : LineResult) (lines : List (List ℕ)) (s :
 
 -- If the run has ended, a command writes the end line again; otherwise it takes its turns.
 abbrev pub CommandContract :
-    {M : Type 0} → MachineRelations M → LineResult → Option End → RunningCommand → SessionStateFields → M → SessionStateFields → M
+    {M : Type 0} → MachineRelations M → LineResult → Option End → RunningCommand
+    → SessionStateFields → M → SessionStateFields → M
     → Pending → Pending → Type 0
 CommandContract o answer (Some end) run s m sitting m' old new =
     IsTold answer (end_line end s.taken ∷ []) s m sitting m' old new
@@ -151,7 +161,8 @@ CommandContract o answer None run s m sitting m' old new =
 
 -- The machine goes back if n steps were taken; otherwise the line is unknown.
 abbrev pub BackContract :
-    {M : Type 0} → MachineRelations M → LineResult → Bool → List ℕ → ℕ → SessionStateFields → M → SessionStateFields → M
+    {M : Type 0} → MachineRelations M → LineResult → Bool → List ℕ → ℕ → SessionStateFields → M
+    → SessionStateFields → M
     → Pending → Pending → Type 0
 BackContract o answer true line n s m sitting m' old new =
     LineContract o answer (standing s (Backing n line)) m [] sitting m' old new

@@ -10,7 +10,8 @@ use Rattle.m36_debug.specs.Session.{MachineRelations, Waiting, Over, SessionPoin
 use Rattle.m36_debug.specs.SessionState.{SessionStateFields}
 
 -- All whole lines of a text were answered, and the bytes after them are kept.
-pub record AnsweredAll {M : Type 0} (o : MachineRelations M) (s : SessionPoint) (m : M) (text kept : List ℕ)
+pub record AnsweredAll {M : Type 0} (o : MachineRelations M) (s : SessionPoint) (m : M)
+    (text kept : List ℕ)
     (sitting : SessionStateFields) (m' : M) (old new : Pending) : Type 0 where
   pub lines : List (List ℕ)
   pub is : IsLines text lines kept
@@ -18,7 +19,8 @@ pub record AnsweredAll {M : Type 0} (o : MachineRelations M) (s : SessionPoint) 
   pub part : SessionPart o s m lines (standing sitting Waiting) m' Done old new
 
 -- The first lines of a text were answered; the last of these is `quit`.
-pub record AnsweredQuit {M : Type 0} (o : MachineRelations M) (s : SessionPoint) (m : M) (text : List ℕ)
+pub record AnsweredQuit {M : Type 0} (o : MachineRelations M) (s : SessionPoint) (m : M)
+    (text : List ℕ)
     (sitting : SessionStateFields) (m' : M) (old new : Pending) : Type 0 where
   pub lines : List (List ℕ)
   pub rest : List ℕ
@@ -26,7 +28,8 @@ pub record AnsweredQuit {M : Type 0} (o : MachineRelations M) (s : SessionPoint)
   pub part : SessionPart o s m lines (standing sitting Over) m' Done old new
 
 -- The first lines of a text were answered, and then memory ran out.
-pub record AnsweredSome {M : Type 0} (o : MachineRelations M) (s : SessionPoint) (m : M) (text : List ℕ)
+pub record AnsweredSome {M : Type 0} (o : MachineRelations M) (s : SessionPoint) (m : M)
+    (text : List ℕ)
     (m' : M) (old new : Pending) : Type 0 where
   pub lines : List (List ℕ)
   pub rest : List ℕ
@@ -35,7 +38,8 @@ pub record AnsweredSome {M : Type 0} (o : MachineRelations M) (s : SessionPoint)
   pub part : SessionPart o s m lines stands m' Done old new
 
 -- The first lines of a text were answered, and then the output could not be written.
-pub record AnsweredCut {M : Type 0} (o : MachineRelations M) (s : SessionPoint) (m : M) (text : List ℕ)
+pub record AnsweredCut {M : Type 0} (o : MachineRelations M) (s : SessionPoint) (m : M)
+    (text : List ℕ)
     (m' : M) (old new : Pending) : Type 0 where
   pub lines : List (List ℕ)
   pub rest : List ℕ
@@ -45,7 +49,8 @@ pub record AnsweredCut {M : Type 0} (o : MachineRelations M) (s : SessionPoint) 
 -- The contract of answering the whole lines of a text, by how they ended: which lines were
 -- answered, and which bytes are kept as the beginning of a line.
 abbrev pub PieceContract :
-    {M : Type 0} → MachineRelations M → LineResult → SessionPoint → M → List ℕ → List ℕ → SessionStateFields → M → Pending
+    {M : Type 0} → MachineRelations M → LineResult → SessionPoint → M → List ℕ → List ℕ
+    → SessionStateFields → M → Pending
     → Pending → Type 0
 PieceContract o ends.Line s m text kept sitting m' old new =
     AnsweredAll o s m text kept sitting m' old new

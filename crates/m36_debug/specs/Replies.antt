@@ -2,7 +2,8 @@
 use Rattle.std.specs.Prelude.{ℕ, ◌≡◌, List}
 use Rattle.m36_text.specs.Lines.{open_last_line}
 use Rattle.m36_debug.specs.LinesTaken.{IsLines, IsUnbroken}
-use Rattle.m36_debug.specs.Session.{MachineRelations, SessionPoint, standing, SessionEvent, Waiting, Over}
+use Rattle.m36_debug.specs.Session.{MachineRelations, SessionPoint, standing, SessionEvent, Waiting}
+use Rattle.m36_debug.specs.Session.{Over}
 use Rattle.m36_debug.specs.Session.{Follow, texts_of, lines_in}
 use Rattle.m36_debug.specs.SessionState.{SessionStateFields}
 
@@ -28,7 +29,8 @@ pub data Reply (M : Type 0) : Type 0 where
 -- ---- a piece of input
 
 -- All whole lines of a text are answered, and the bytes after them are kept.
-pub record RepliesAll {M : Type 0} (o : MachineRelations M) (s : SessionPoint) (m : M) (text : List ℕ)
+pub record RepliesAll {M : Type 0} (o : MachineRelations M) (s : SessionPoint) (m : M)
+    (text : List ℕ)
     (written : List (List ℕ)) (kept : List ℕ) (sitting : SessionStateFields) (m' : M) : Type 0 where
   pub lines : List (List ℕ)
   pub is : IsLines text lines kept
@@ -36,7 +38,8 @@ pub record RepliesAll {M : Type 0} (o : MachineRelations M) (s : SessionPoint) (
   pub happens : EventsLead o s m lines written (standing sitting Waiting) m'
 
 -- The first lines of a text are answered; the last of these is `quit`.
-pub record RepliesQuit {M : Type 0} (o : MachineRelations M) (s : SessionPoint) (m : M) (text : List ℕ)
+pub record RepliesQuit {M : Type 0} (o : MachineRelations M) (s : SessionPoint) (m : M)
+    (text : List ℕ)
     (written : List (List ℕ)) : Type 0 where
   pub lines : List (List ℕ)
   pub rest : List ℕ
@@ -46,7 +49,8 @@ pub record RepliesQuit {M : Type 0} (o : MachineRelations M) (s : SessionPoint) 
   pub happens : EventsLead o s m lines written (standing sitting Over) machine
 
 -- The first lines of a text are answered, perhaps the last of them in part.
-pub record RepliesSome {M : Type 0} (o : MachineRelations M) (s : SessionPoint) (m : M) (text : List ℕ)
+pub record RepliesSome {M : Type 0} (o : MachineRelations M) (s : SessionPoint) (m : M)
+    (text : List ℕ)
     (written : List (List ℕ)) : Type 0 where
   pub lines : List (List ℕ)
   pub rest : List ℕ
@@ -56,7 +60,8 @@ pub record RepliesSome {M : Type 0} (o : MachineRelations M) (s : SessionPoint) 
   pub happens : EventsLead o s m lines written stands machine
 
 -- this is a reply to the whole lines of a text that the machine may give
-abbrev pub IsReply : {M : Type 0} → MachineRelations M → SessionPoint → M → List ℕ → Reply M → Type 0
+abbrev pub IsReply :
+    {M : Type 0} → MachineRelations M → SessionPoint → M → List ℕ → Reply M → Type 0
 IsReply o s m text (All written kept sitting m') =
     RepliesAll o s m text written kept sitting m'
 IsReply o s m text (Quits written) = RepliesQuit o s m text written

@@ -17,7 +17,8 @@ use Rattle.m36_debug.specs.Commands.{run_of, go_limit, is_at_break, after_turn}
 use Rattle.m36_debug.specs.SessionLines.{session_line}
 use Rattle.m36_debug.specs.SessionTexts.{unknown_line, where_line, break_line, seg_line, regs_lines}
 use Rattle.m36_debug.specs.SessionTexts.{end_lines, end_or_where, turn_lines}
-use Rattle.m36_debug.specs.SessionState.{SessionStateFields, session_state_after, session_state_before, session_state_with_break}
+use Rattle.m36_debug.specs.SessionState.{SessionStateFields, session_state_after}
+use Rattle.m36_debug.specs.SessionState.{session_state_before, session_state_with_break}
 use Rattle.m36_debug.specs.SessionState.{has_taken, has_room}
 
 -- what a session uses of a machine: its registers and words, which turns it may answer, and how it
@@ -157,13 +158,15 @@ next_of g s run turn = after_turn run (is_at_break g.ppr s.breaks) turn
 
 -- the lines that are written for a turn of a running command, given the state before it and the
 -- registers after it
-abbrev pub running_turn_lines : RegsFields → SessionStateFields → RunningCommand → Turn → List (List ℕ)
+abbrev pub running_turn_lines :
+    RegsFields → SessionStateFields → RunningCommand → Turn → List (List ℕ)
 running_turn_lines g s run turn =
     command_lines run.command g s.taken (session_state_after s turn) turn (next_of g s run turn)
 
 -- the state of the session after a turn of a running command, given the registers after it
 abbrev pub point_after_turn : RegsFields → SessionStateFields → RunningCommand → Turn → SessionPoint
-point_after_turn g s run turn = standing (session_state_after s turn) (activity_by_after_turn (next_of g s run turn))
+point_after_turn g s run turn =
+    standing (session_state_after s turn) (activity_by_after_turn (next_of g s run turn))
 
 -- ---- the machine was asked to go back
 
@@ -187,7 +190,8 @@ back_answer g line back.NoMemory = []
 -- the state after an event, given the registers that the machine then has
 abbrev pub state_after_by : RegsFields → SessionStateFields → Activity → EventKind → SessionPoint
 state_after_by g s Waiting (Took line) =
-    standing (state_after_line s (session_line line)) (activity_after_line s line (session_line line))
+    standing (state_after_line s (session_line line))
+    (activity_after_line s line (session_line line))
 state_after_by g s (Running run) (Turned turn) = point_after_turn g s run turn
 state_after_by g s (Backing n line) (Went answer) = point_after_back s n answer
 state_after_by g s doing happened = standing s doing
@@ -213,14 +217,16 @@ event_lines g content s happened = event_lines_by g content s.sitting s.doing ha
 
 -- Events follow one another, from a state of the session and a machine to others.
 unfoldable pub Follow :
-    {M : Type 0} → MachineRelations M → SessionPoint → M → List (SessionEvent M) → SessionPoint → M → Type 0
+    {M : Type 0} → MachineRelations M → SessionPoint → M → List (SessionEvent M) → SessionPoint → M
+    → Type 0
 Follow o s m [] s' m' = (s' ≡ s) × (m' ≡ m)
 Follow o s m (e ∷ events) s' m' =
     MayHappen o s.doing m e.happened e.after
     × Follow o (state_after (o.regs e.after) s e.happened) e.after events s' m'
 
 -- the lines that are written for events
-unfoldable pub texts_of : {M : Type 0} → MachineRelations M → SessionPoint → List (SessionEvent M) → List (List ℕ)
+unfoldable pub texts_of :
+    {M : Type 0} → MachineRelations M → SessionPoint → List (SessionEvent M) → List (List ℕ)
 texts_of o s [] = []
 texts_of o s (e ∷ events) =
     event_lines (o.regs e.after) (o.content e.after) s e.happened

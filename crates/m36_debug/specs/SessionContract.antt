@@ -17,7 +17,8 @@ use Rattle.m36_debug.specs.declared.machine_relations.LineResult.{LineResult}
 use Rattle.m36_debug.specs.declared.machine_relations.LineResult.TheVariants as ends
 use Rattle.m36_debug.specs.LinesTaken.{whole_lines, IsFirstPart}
 use Rattle.m36_outside.specs.Putting.{PutsPieces}
-use Rattle.m36_debug.specs.Session.{MachineRelations, Activity, Waiting, Over, SessionPoint, SessionEvent, standing}
+use Rattle.m36_debug.specs.Session.{MachineRelations, Activity, Waiting, Over, SessionPoint}
+use Rattle.m36_debug.specs.Session.{SessionEvent, standing}
 use Rattle.m36_debug.specs.Session.{Follow, texts_of, lines_in}
 use Rattle.m36_debug.specs.SessionLines.{session_line, IsNotQuit}
 use Rattle.m36_debug.specs.SessionState.{initial_session_state}
@@ -55,7 +56,8 @@ StopsAtEnd ([] ∷ pieces) old new = (pieces ≡ []) × (new ≡ old)
 StopsAtEnd ((byte ∷ piece) ∷ pieces) old new = StopsAtEnd pieces old new
 
 -- all lines were taken; the last may lack its line feed, since the input has ended
-pub record TookAll (pieces lines : List (List ℕ)) (doing : Activity) (new : LinesSeen) : Type 0 where
+pub record TookAll (pieces lines : List (List ℕ)) (doing : Activity)
+    (new : LinesSeen) : Type 0 where
   pub waits : doing ≡ Waiting
   pub all : lines ≡ open_lines_of (joined pieces)
   pub ended : HasEnded pieces new
@@ -79,7 +81,8 @@ pub record EndInQuit (lines : List (List ℕ)) : Type 0 where
   pub quits : session_line last ≡ Quit
 
 -- the first lines were taken, the last of which is `quit`
-pub record TookQuit (pieces lines : List (List ℕ)) (doing : Activity) (new : LinesSeen) : Type 0 where
+pub record TookQuit (pieces lines : List (List ℕ)) (doing : Activity)
+    (new : LinesSeen) : Type 0 where
   pub over : doing ≡ Over
   pub some : TookSome pieces lines new
   pub quit : EndInQuit lines
@@ -155,7 +158,8 @@ pub record IsSession {M : Type 0} (o : MachineRelations M) (result : Result (Uni
   pub said : lines ≡ texts_of o (standing initial_session_state Waiting) events
 
 -- A session was held, and what its events say was written, or a prefix of it.
-pub record SessionContract {M : Type 0} (o : MachineRelations M) (result : Result (Unit {0}) SessionFault)
+pub record SessionContract {M : Type 0} (o : MachineRelations M)
+    (result : Result (Unit {0}) SessionFault)
     (m m' : M) (before after : LinesSeen) (old new : SinkState) : Type 0 where
   pub lines : List (List ℕ)
   pub session : IsSession o result m m' before after lines
@@ -163,7 +167,8 @@ pub record SessionContract {M : Type 0} (o : MachineRelations M) (result : Resul
 
 -- as `SessionContract`, with the input and the output of a world
 abbrev pub SessionContractInWorld :
-    {M : Type 0} → MachineRelations M → Result (Unit {0}) SessionFault → M → M → Seen → Seen → Type 0
+    {M : Type 0} → MachineRelations M → Result (Unit {0}) SessionFault → M → M → Seen → Seen
+    → Type 0
 SessionContractInWorld o result m m' old new =
     SessionContract o result m m' (input old.left old.inputs old.input_faults)
     (input new.left new.inputs new.input_faults) (output_of old) (output_of new)

@@ -5,7 +5,8 @@ use Rattle.m36_debug.specs.declared.commands.RunningCommand.{RunningCommand}
 use Rattle.m36_debug.specs.declared.session_line.SessionLine.{SessionLine}
 use Rattle.m36_debug.specs.declared.session_line.SessionLine.TheVariants as session
 use Rattle.m36_debug.specs.Commands.{go_limit}
-use Rattle.m36_debug.specs.Session.{MachineRelations, Waiting, Running, SessionPoint, standing, SessionEvent, EventKind}
+use Rattle.m36_debug.specs.Session.{MachineRelations, Waiting, Running, SessionPoint, standing}
+use Rattle.m36_debug.specs.Session.{SessionEvent, EventKind}
 use Rattle.m36_debug.specs.Session.{Took, Turned, Went, Follow, lines_in}
 use Rattle.m36_debug.specs.SessionLines.{session_line}
 use Rattle.m36_debug.specs.SessionState.{SessionStateFields}
@@ -39,12 +40,14 @@ most_steps_of session.Unknown = 0
 -- left to it.
 pub record StepsWithin {M : Type 0} (o : MachineRelations M) : Type 0 where
   pub line :
-      (text : List ℕ) (s : SessionStateFields) (m after : M) (events : List (SessionEvent M)) (s' : SessionPoint)
+      (text : List ℕ) (s : SessionStateFields) (m after : M) (events : List (SessionEvent M))
+      (s' : SessionPoint)
       (m' : M)
       → Follow o (standing s Waiting) m (record { happened = Took text; after = after } ∷ events)
       s' m'
       → lines_in events ≡ [] → steps_taken events ≤ most_steps_of (session_line text)
   pub within :
-      (run : RunningCommand) (s : SessionStateFields) (m : M) (events : List (SessionEvent M)) (s' : SessionPoint) (m' : M)
+      (run : RunningCommand) (s : SessionStateFields) (m : M) (events : List (SessionEvent M))
+      (s' : SessionPoint) (m' : M)
       → 0 < run.left → Follow o (standing s (Running run)) m events s' m' → lines_in events ≡ []
       → steps_taken events ≤ run.left

@@ -4,7 +4,8 @@ ghost use Rattle.std.specs.Prelude.{◌≡◌, ◌≤◌, ◌<◌, ◌+◌, ◌-
 ghost use Rattle.m36_debug.specs.Parts.{LineContract, CommandContract, BackContract, result_of_put};
 ghost use Rattle.m36_step.specs.Counting.{step_count_limit};
 ghost use Rattle.m36_debug.specs.Putting.{pending, PutsPieces};
-ghost use Rattle.m36_debug.specs.Session.{Waiting, Backing, standing, machine_relations, break_answer};
+ghost use Rattle.m36_debug.specs.Session.{Waiting, Backing, standing, machine_relations};
+ghost use Rattle.m36_debug.specs.Session.{break_answer};
 ghost use Rattle.m36_debug.specs.SessionLines.{most_steps};
 ghost use Rattle.m36_debug.specs.SessionState.{session_state_with_break, has_taken};
 
@@ -38,7 +39,8 @@ fn run_command_unless_ended<M: Stepper, W: World>(
 ) -> LineResult
     requires some { 0 < run.left }
     requires room { sitting.old.taken + run.left < step_count_limit }
-    ensures says { CommandContract (machine_relations M.regs M.content M.next M.went) result sitting.old.ended run
+    ensures says { CommandContract (machine_relations M.regs M.content M.next M.went) result
+        sitting.old.ended run
         sitting.old m.old sitting.new m.new
         (pending block.old (W.seen world.old))
         (pending block.new (W.seen world.new)) }

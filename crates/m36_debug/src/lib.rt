@@ -21,17 +21,17 @@
 //! - `performs`: a session is a program (`specs/SessionProgram.antt`). It takes a piece of input,
 //!   puts the answers to the lines that are whole by then, and continues. Taking and putting are
 //!   events of the world, so this clause has their order.
-//! - `says`: the session as a whole (`specs/SessionContract.antt`). There is a list of session events
-//!   (`specs/Session.antt`) that leads from the machine before the call to the machine after it.
-//!   Its lines are lines of the bytes that were taken, and what was put is the texts of its events,
-//!   or a prefix of them if the output failed.
+//! - `says`: the session as a whole (`specs/SessionContract.antt`). There is a list of session
+//!   events (`specs/Session.antt`) that leads from the machine before the call to the machine after
+//!   it. Its lines are lines of the bytes that were taken, and what was put is the texts of its
+//!   events, or a prefix of them if the output failed.
 //! - `limit`: how many steps each line takes in such events.
 //!
-//! [`law_session`] states two laws of all calls that perform the program (`specs/SessionText.antt`).
-//! Each is a session as in `says`, up to some machine after it. And if each state of the machine has
-//! one turn and one answer to going back, the text of a session follows from the bytes of the input,
-//! whatever the pieces in which they come: a call puts a prefix of what any call with the same bytes
-//! puts that ends as the program says.
+//! [`law_session`] states two laws of all calls that perform the program
+//! (`specs/SessionText.antt`). Each is a session as in `says`, up to some machine after it. And if
+//! each state of the machine has one turn and one answer to going back, the text of a session
+//! follows from the bytes of the input, whatever the pieces in which they come: a call puts a
+//! prefix of what any call with the same bytes puts that ends as the program says.
 //!
 //! A session event is a line that is taken, a turn of the machine, or going back. Each may follow
 //! the one before: a line is taken if the session waits for one, a turn is made if a command runs,

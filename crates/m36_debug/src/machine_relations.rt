@@ -1,12 +1,14 @@
 //! Takes the turns of a command.
 
 ghost use Rattle.std.specs.Prelude.{◌≡◌, ◌≤◌, ◌<◌, ◌+◌, ◌-◌, ◌^◌, [], ◌∷◌};
-ghost use Rattle.m36_debug.specs.Parts.{TurnContract, ServiceIsFlagged, TurnChangesCounts, PrecludesStepIfNoneLeft};
+ghost use Rattle.m36_debug.specs.Parts.{TurnContract, ServiceIsFlagged, TurnChangesCounts};
+ghost use Rattle.m36_debug.specs.Parts.{PrecludesStepIfNoneLeft};
 ghost use Rattle.m36_debug.specs.Parts.{CountsSteps, LineContract, put_turn_result, turn_result};
 ghost use Rattle.m36_step.specs.Answers.{is_service};
 ghost use Rattle.m36_step.specs.Counting.{step_count_limit};
 ghost use Rattle.m36_debug.specs.Putting.{pending, PutsPieces};
-ghost use Rattle.m36_debug.specs.Session.{Running, standing, machine_relations, go_lines, command_lines};
+ghost use Rattle.m36_debug.specs.Session.{Running, standing, machine_relations, go_lines};
+ghost use Rattle.m36_debug.specs.Session.{command_lines};
 
 use crate::commands::{AfterTurn, RunningCommand, TurnCommand};
 use crate::sitting::SessionState;
@@ -138,9 +140,11 @@ pub(crate) fn take_turn<M: Stepper, W: World>(
         (standing sitting.old (Running run)) m.old sitting.new m.new
         (pending block.old (W.seen world.old))
         (pending block.new (W.seen world.new)) }
-    ensures served { ServiceIsFlagged (machine_relations M.regs M.content M.next M.went) result m.old m.new }
+    ensures served { ServiceIsFlagged (machine_relations M.regs M.content M.next M.went) result
+        m.old m.new }
     ensures counts { TurnChangesCounts result run.left sitting.old.taken sitting.new.taken }
-    ensures interrupted { PrecludesStepIfNoneLeft (machine_relations M.regs M.content M.next M.went) result
+    ensures interrupted { PrecludesStepIfNoneLeft
+        (machine_relations M.regs M.content M.next M.went) result
         m.old m.new }
     ensures stepped { CountsSteps (machine_relations M.regs M.content M.next M.went)
         sitting.old.taken sitting.new.taken m.old m.new }

@@ -1,9 +1,11 @@
 //! Writes the lines of the registers.
 
-ghost use Rattle.std.specs.Prelude.{ℕ, ◌≡◌, ◌≤◌, ◌<◌, ◌+◌, ◌*◌, ◌^◌, ◌++◌, [], ◌∷◌, length, slice_index};
+ghost use Rattle.std.specs.Prelude.{ℕ, ◌≡◌, ◌≤◌, ◌<◌, ◌+◌, ◌*◌, ◌^◌, ◌++◌, [], ◌∷◌, length};
+ghost use Rattle.std.specs.Prelude.{slice_index};
 ghost use Rattle.std.specs.List.{flat_map};
 ghost use Rattle.m36_debug.specs.Putting.{pending, PutsPieces};
-ghost use Rattle.m36_debug.specs.SessionTexts.{a_line, index_text, x_line, pointer_line, pointer_lines, regs_lines};
+ghost use Rattle.m36_debug.specs.SessionTexts.{a_line, index_text, x_line, pointer_line};
+ghost use Rattle.m36_debug.specs.SessionTexts.{pointer_lines, regs_lines};
 
 use crate::putting::put_text;
 use arrayvec::ArrayString;

@@ -149,7 +149,8 @@ pub fn debug<M: Stepper, W: World>(
 ) -> Result<(), SessionFault>
     ensures performs { Performs (session (machine_relations M.regs M.content M.next M.went) m.old)
         (ended_by result) (W.seen world.old) (W.seen world.new) }
-    ensures says { SessionContractInWorld (machine_relations M.regs M.content M.next M.went) result m.old m.new
+    ensures says { SessionContractInWorld (machine_relations M.regs M.content M.next M.went) result
+        m.old m.new
         (W.seen world.old) (W.seen world.new) }
     ensures limit { StepsWithin (machine_relations M.regs M.content M.next M.went) }
 {

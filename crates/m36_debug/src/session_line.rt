@@ -2,7 +2,8 @@
 
 ghost use Rattle.std.specs.Prelude.{◌≡◌, ◌<◌, ◌≤◌, ◌^◌, IfSome};
 ghost use Rattle.m36_text.specs.Lines.{words_of};
-ghost use Rattle.m36_debug.specs.SessionLines.{one_word, two_words, three_words, line_of_words, most_steps, steps_in, session_line, IsBounded};
+ghost use Rattle.m36_debug.specs.SessionLines.{one_word, two_words, three_words, line_of_words};
+ghost use Rattle.m36_debug.specs.SessionLines.{most_steps, steps_in, session_line, IsBounded};
 
 use m36_text::{first_word, is_text, octal_in, only_word, plain_decimal_in};
 

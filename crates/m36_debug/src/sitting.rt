@@ -3,7 +3,9 @@
 ghost use Rattle.std.specs.Prelude.{◌≡◌, ◌≤◌, ◌<◌, ◌-◌, ◌^◌};
 ghost use Rattle.m36_step.specs.Counting.{step_count_limit};
 ghost use Rattle.m36_debug.specs.Session.{next_of};
-ghost use Rattle.m36_debug.specs.SessionState.{initial_session_state, session_state_after, session_state_before, session_state_with_break, has_taken, has_room};
+ghost use Rattle.m36_debug.specs.SessionState.{initial_session_state, session_state_after};
+ghost use Rattle.m36_debug.specs.SessionState.{session_state_before, session_state_with_break};
+ghost use Rattle.m36_debug.specs.SessionState.{has_taken, has_room};
 
 use crate::commands::{AfterTurn, Break, RunningCommand, after_turn, is_at_break};
 use arrayvec::ArrayVec;

@@ -5,7 +5,8 @@ ghost use Rattle.m36_step.specs.Counting.{step_count_limit};
 ghost use Rattle.m36_text.specs.Lines.{as_line};
 ghost use Rattle.m36_trace.specs.TraceLine.{line_of};
 ghost use Rattle.m36_debug.specs.Putting.{pending, PutsPieces};
-ghost use Rattle.m36_debug.specs.SessionTexts.{where_line, break_line, seg_line, end_line, shown_limit, shown, unknown_line, turn_lines};
+ghost use Rattle.m36_debug.specs.SessionTexts.{where_line, break_line, seg_line, end_line};
+ghost use Rattle.m36_debug.specs.SessionTexts.{shown_limit, shown, unknown_line, turn_lines};
 
 use crate::putting::{put_characters, put_text};
 use arrayvec::{ArrayString, ArrayVec};

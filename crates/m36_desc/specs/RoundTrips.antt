@@ -4,7 +4,8 @@ use Rattle.m36_desc.specs.Fields.{SdwFields, PtwFields, DbrFields, PtrFields, It
 use Rattle.m36_desc.specs.Widths.{IsSdw, IsPtw, IsDbr, IsPtr, IsIts, IsItp}
 use Rattle.m36_desc.specs.Descriptors.{sdw_of, sdw_even, sdw_odd, ptw_of, ptw_word, dbr_of}
 use Rattle.m36_desc.specs.Descriptors.{dbr_even, dbr_odd, ptr_of, ptr_even, ptr_odd, its_of}
-use Rattle.m36_desc.specs.Descriptors.{its_even, its_odd, its_tag, itp_of, itp_even, itp_odd, itp_tag}
+use Rattle.m36_desc.specs.Descriptors.{its_even, its_odd, its_tag, itp_of, itp_even, itp_odd}
+use Rattle.m36_desc.specs.Descriptors.{itp_tag}
 use Rattle.m36_desc.specs.Descriptors.{tag_of, pointer_of_packed, packed_word}
 
 -- An SDW whose fields are within their widths is written to words and read back unchanged.

@@ -3,7 +3,8 @@ use Rattle.std.specs.Prelude.{ℕ, ◌^◌, ◌<◌}
 use Rattle.m36_desc.specs.Fields.{SdwFields, PtwFields, DbrFields, PtrFields, ItsFields, ItpFields}
 use Rattle.m36_desc.specs.Descriptors.{sdw_of, sdw_even, sdw_odd, ptw_of, ptw_word, dbr_of}
 use Rattle.m36_desc.specs.Descriptors.{dbr_even, dbr_odd, ptr_of, ptr_even, ptr_odd, its_of}
-use Rattle.m36_desc.specs.Descriptors.{its_even, its_odd, itp_of, itp_even, itp_odd, pointer_of_packed}
+use Rattle.m36_desc.specs.Descriptors.{its_even, its_odd, itp_of, itp_even, itp_odd}
+use Rattle.m36_desc.specs.Descriptors.{pointer_of_packed}
 
 -- the fields of an SDW are within their widths
 pub record IsSdw (s : SdwFields) : Type 0 where

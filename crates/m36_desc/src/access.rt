@@ -1,7 +1,8 @@
 //! The rights that a segment descriptor gives to a reference.
 
 ghost use Rattle.std.specs.Prelude.{◌≡◌, ◌<◌, ◌^◌, IfOk, []};
-ghost use Rattle.m36_desc.specs.Access.{first_violation, unless_violation, ordered_rows, read_rows, write_rows};
+ghost use Rattle.m36_desc.specs.Access.{first_violation, unless_violation, ordered_rows, read_rows};
+ghost use Rattle.m36_desc.specs.Access.{write_rows};
 ghost use Rattle.m36_desc.specs.Access.{fetch_rows, transfer_rows, call_rows, ring_after_call};
 
 use crate::sdw::Sdw;
@@ -75,7 +76,8 @@ pub fn may_transfer(s: &Sdw, trr: u8, prr: u8) -> Result<(), Acv>
 #[inline]
 pub fn call_ring(s: &Sdw, trr: u8, prr: u8, same: bool, word: u32) -> Result<u8, Acv>
     ensures answer { result
-        ≡ unless_violation (ring_after_call s.now trr) (first_violation (call_rows s.now trr prr same word)) }
+        ≡ unless_violation (ring_after_call s.now trr)
+        (first_violation (call_rows s.now trr prr same word)) }
     ensures ring { IfOk result (λ ring. ring < 2 ^ 3) }
 {
     check_bracket_order(s)?;

@@ -1,6 +1,7 @@
 -- The catalog that a boot text describes, or the fault of the text.
 use Rattle.std.specs.Prelude.{ℕ, ◌≡◌, Bool, ◌&&◌, nat_eq, List, [], ◌∷◌, ◌++◌}
-use Rattle.std.specs.Prelude.{position, slice_get, slice_set, Option, Some, unwrap_or, option_map, Result}
+use Rattle.std.specs.Prelude.{position, slice_get, slice_set, Option, Some, unwrap_or, option_map}
+use Rattle.std.specs.Prelude.{Result}
 use Rattle.std.specs.Prelude.{Ok, Err, IfSome}
 use Rattle.std.specs.List.{list_any}
 use Rattle.m36_text.specs.Texts.{is_text}
@@ -137,7 +138,8 @@ fault_at n D5 = fault.D5 n
 fault_at n D6 = fault.D6 n
 
 -- the catalog, or the fault of the first line with a code if there is one (`told`)
-abbrev pub catalog_or_fault : Option (ℕ × BootCode) → CatalogFields → Result CatalogFields CatalogFault
+abbrev pub catalog_or_fault :
+    Option (ℕ × BootCode) → CatalogFields → Result CatalogFields CatalogFault
 catalog_or_fault told catalog =
     value_unless (option_map (λ (first : ℕ × BootCode). fault_at first.0 first.1) told) catalog
 
@@ -152,7 +154,8 @@ RefusesWith fault.NoMemory definition = Unit {0}
 RefusesWith told definition = definition ≡ Err told
 
 -- The result of a call is that of the definition, or `NoMemory`.
-abbrev pub CatalogResult : Result CatalogFields CatalogFault → Result CatalogFields CatalogFault → Type 0
+abbrev pub CatalogResult :
+    Result CatalogFields CatalogFault → Result CatalogFields CatalogFault → Type 0
 CatalogResult (Ok catalog) definition = definition ≡ Ok catalog
 CatalogResult (Err told) definition = RefusesWith told definition
 

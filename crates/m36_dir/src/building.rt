@@ -1,10 +1,14 @@
 //! Makes a catalog of the lines of a boot text, if no line has a code.
 
-ghost use Rattle.std.specs.Prelude.{◌≡◌, ◌+◌, ◌≤◌, ◌<◌, [], ◌∷◌, ◌++◌, IfOk, IfSome, OnOk, length, drop, slice_get, option_map};
+ghost use Rattle.std.specs.Prelude.{◌≡◌, ◌+◌, ◌≤◌, ◌<◌, [], ◌∷◌, ◌++◌, IfOk, IfSome, OnOk, length};
+ghost use Rattle.std.specs.Prelude.{drop, slice_get, option_map};
 ghost use Rattle.std.specs.List.{list_any, position};
 ghost use Rattle.m36_text.specs.Texts.{is_text};
 ghost use Rattle.m36_text.specs.Lines.{last_of};
-ghost use Rattle.m36_dir.specs.Catalog.{with_directory_of, directories_from, directory_number_in, names_after, segment_with, segment_of, segments_in, library_of, libraries_in, frames_of, working_directory_of, no_start, start_of};
+ghost use Rattle.m36_dir.specs.Catalog.{with_directory_of, directories_from, directory_number_in};
+ghost use Rattle.m36_dir.specs.Catalog.{names_after, segment_with, segment_of, segments_in};
+ghost use Rattle.m36_dir.specs.Catalog.{library_of, libraries_in, frames_of, working_directory_of};
+ghost use Rattle.m36_dir.specs.Catalog.{no_start, start_of};
 ghost use Rattle.m36_dir.specs.BootOrder.{most_segments};
 
 use crate::boot_line::{BootLine, SegmentLine};

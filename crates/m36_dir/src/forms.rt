@@ -4,7 +4,9 @@
 ghost use Rattle.std.specs.Prelude.{◌≡◌, ◌+◌, ◌<◌, length, drop, Some, IfSome};
 ghost use Rattle.m36_text.specs.Lines.{words_of};
 ghost use Rattle.m36_text.specs.Numbers.{octal_in};
-ghost use Rattle.m36_dir.specs.BootLine.{frames_line, work_line, library_line, name_line, start_line, brackets_of, segment_line, line_named, parsed_line};
+ghost use Rattle.m36_dir.specs.BootLine.{frames_line, work_line, library_line, name_line};
+ghost use Rattle.m36_dir.specs.BootLine.{start_line, brackets_of, segment_line, line_named};
+ghost use Rattle.m36_dir.specs.BootLine.{parsed_line};
 
 use crate::boot_line::{BootLine, Brackets, SegmentLine};
 use crate::segment::Start;

@@ -1,6 +1,7 @@
 //! Parses the lines of a boot text in order, up to the first that has a code.
 
-ghost use Rattle.std.specs.Prelude.{◌≡◌, ◌<◌, ◌^◌, [], ◌∷◌, ◌++◌, length, Some, None, IfOk, IfErr, OnOk};
+ghost use Rattle.std.specs.Prelude.{◌≡◌, ◌<◌, ◌^◌, [], ◌∷◌, ◌++◌, length, Some, None, IfOk, IfErr};
+ghost use Rattle.std.specs.Prelude.{OnOk};
 ghost use Rattle.m36_dir.specs.BootLine.{parsed_line};
 ghost use Rattle.m36_dir.specs.BootOrder.{code_of_rest, ChecksLine, well_formed_lines, first_code};
 ghost use Rattle.m36_dir.specs.Catalog.{catalog_in, catalog_of, RefusesWith};
@@ -17,7 +18,8 @@ use std::alloc::Global;
 
 // The parsed line, or its code.
 fn check_line(text: &[u8], above: &[BootLine], line: &[u8]) -> Result<BootLine, BootCode>
-    ensures { ChecksLine (well_formed_lines text.now) above.now (parsed_line (Some line.now)) result }
+    ensures { ChecksLine (well_formed_lines text.now) above.now
+        (parsed_line (Some line.now)) result }
 {
     let Some(line) = read_line(line) else {
         return Err(BootCode::D1);

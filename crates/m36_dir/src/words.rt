@@ -2,7 +2,9 @@
 
 ghost use Rattle.std.specs.Prelude.{◌≡◌, ◌≤◌, true, length};
 ghost use Rattle.std.specs.List.{list_all};
-ghost use Rattle.m36_dir.specs.BootLine.{is_directory_character, is_directory, directory_of, name_of, kind_of, strip_letter, mode_of_letters, mode_of, directory_limit};
+ghost use Rattle.m36_dir.specs.BootLine.{is_directory_character, is_directory, directory_of};
+ghost use Rattle.m36_dir.specs.BootLine.{name_of, kind_of, strip_letter, mode_of_letters, mode_of};
+ghost use Rattle.m36_dir.specs.BootLine.{directory_limit};
 
 use crate::directory::Directory;
 use crate::segment::{Mode, SegKind};

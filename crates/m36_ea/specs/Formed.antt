@@ -17,7 +17,8 @@ use Rattle.m36_walk.specs.Served.{midstep_with}
 -- the program that forms the address of an instruction, run over core, in a step that has
 -- completed these references and claimed no write
 abbrev pub run_formation :
-    RegsFields → InstFields → List ℕ → List Reference → ProgramResult (Result ChainEnd Halt) (List ℕ)
+    RegsFields → InstFields → List ℕ → List Reference
+    → ProgramResult (Result ChainEnd Halt) (List ℕ)
 run_formation g i core refs = run core_store g (formation g i) (midstep_with core [] refs)
 
 -- the state of a step that has claimed only the tally word of its address, if there is one
@@ -29,7 +30,8 @@ midstep_after_address core f refs = midstep_with core (claimed_by f.tally f.plac
 -- references.
 abbrev pub formation_end :
     List ℕ → List Reference → Result Formed Halt → ProgramResult (Result ChainEnd Halt) (List ℕ)
-formation_end core refs (Ok f) = record { value = Ok (chain_end_fields f); mid = midstep_after_address core f refs }
+formation_end core refs (Ok f) =
+    record { value = Ok (chain_end_fields f); mid = midstep_after_address core f refs }
 formation_end core refs (Err h) = record { value = Err h; mid = midstep_with core [] refs }
 
 -- an address without a tally word

@@ -7,7 +7,8 @@ use Rattle.m36_model.specs.Act.{Indirect, Odd, done}
 use Rattle.m36_model.specs.Store.{ServeResult, ProgramResult, serve, run}
 use Rattle.m36_model.specs.Core.{core_store}
 use Rattle.m36_model.specs.Modification.{Point, Move, Ends, Fails, Reads, Counts, at_point}
-use Rattle.m36_model.specs.Chain.{ChainEnd, Formation, IndirectKind, Plain, Its, Itp, indirect_request, chain_by}
+use Rattle.m36_model.specs.Chain.{ChainEnd, Formation, IndirectKind, Plain, Its, Itp}
+use Rattle.m36_model.specs.Chain.{indirect_request, chain_by}
 use Rattle.m36_model.specs.declared.effects.Formed.{Formed}
 use Rattle.m36_model.specs.declared.outcome.Fault.{Fault}
 use Rattle.m36_model.specs.declared.outcome.Halt.{Halt}
@@ -59,7 +60,8 @@ abbrev pub word_answer :
     SdwFields → List ℕ → List Reference → List Reference → Result ℕ Fault → ServeResult (List ℕ)
 word_answer d core answered refused (Ok w) =
     record { reply = Ok (answer_of_words d [] (w ∷ [])); mid = midstep_with core [] answered }
-word_answer d core answered refused (Err f) = record { reply = Err f; mid = midstep_with core [] refused }
+word_answer d core answered refused (Err f) =
+    record { reply = Err f; mid = midstep_with core [] refused }
 
 -- The result is the word of a point at a word number, whatever was referenced before it.
 abbrev pub ServesIndirect : RegsFields → Point → ℕ → Memory → List ℕ → Result ℕ Fault → Type 0

@@ -1,6 +1,7 @@
 //! Runs an address chain to the address that it ends at.
 
-ghost use Rattle.std.specs.Prelude.{◌≡◌, ◌+◌, ◌<◌, ◌≤◌, ◌^◌, Ok, IfOk, IfSome, IfNone, List, length, option_map, ℕ};
+ghost use Rattle.std.specs.Prelude.{◌≡◌, ◌+◌, ◌<◌, ◌≤◌, ◌^◌, Ok, IfOk, IfSome, IfNone, List};
+ghost use Rattle.std.specs.Prelude.{length, option_map, ℕ};
 ghost use Rattle.m36_model.specs.Chain.{lockup, pending_of, claimed_by};
 ghost use Rattle.m36_model.specs.Step.{indirect_words};
 ghost use Rattle.m36_model.specs.Store.{changes};
@@ -84,7 +85,8 @@ pub fn form_address(
 #[inline(always)]
 pub fn plain_address(regs: &Regs, inst: &Inst) -> Option<Final>
     ensures forms { IfSome result (λ last. (core : List ℕ) (refs : List Reference)
-        → run_formation regs.now inst.now core refs ≡ formation_end core refs (Ok (without_tally last))) }
+        → run_formation regs.now inst.now core refs
+        ≡ formation_end core refs (Ok (without_tally last))) }
     ensures none { IfNone result (16 ≤ inst.now.tag) }
 {
     let tpr = initial_point(regs, inst);

@@ -5,7 +5,8 @@ ghost use Rattle.std.specs.Prelude.{length};
 ghost use Rattle.m36_model.specs.Chain.{indirect_kind};
 ghost use Rattle.m36_walk.specs.Served.{sdw_in, ok_map};
 ghost use Rattle.m36_ea.specs.Formed.{without_tally, HasTally};
-ghost use Rattle.m36_ea.specs.Points.{found_of_format, FollowsEven, ServesIndirect, ServesOdd, Follows};
+ghost use Rattle.m36_ea.specs.Points.{found_of_format, FollowsEven, ServesIndirect, ServesOdd};
+ghost use Rattle.m36_ea.specs.Points.{Follows};
 ghost use Rattle.m36_ea.specs.Points.{CountsTally};
 
 use crate::registers::procedure_segment;

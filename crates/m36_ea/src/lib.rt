@@ -7,9 +7,9 @@
 //! falls on the way: each pair raises it to the ring that the pair names and to the first ring
 //! bracket of the segment that has the pair.
 //!
-//! By the contract of [`form_address`] its result, core and the completed references are those of the
-//! address chain over core. It cannot run out of memory. If it counts a tally word, the Write of
-//! this word is checked and marked, but its new value is not written: the instruction writes it
+//! By the contract of [`form_address`] its result, core and the completed references are those of
+//! the address chain over core. It cannot run out of memory. If it counts a tally word, the Write
+//! of this word is checked and marked, but its new value is not written: the instruction writes it
 //! together with everything else that it writes. Until then the references of the operand get it
 //! from [`pending_tally`].
 //!

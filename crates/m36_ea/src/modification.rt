@@ -1,8 +1,10 @@
 //! Address modification: what the tag of a point does.
 
-ghost use Rattle.std.specs.Prelude.{◌≡◌, ◌<◌, ◌≤◌, ◌%◌, ◌^◌, ◌==◌, None, false, IsTrue, IfSome, IfNone};
+ghost use Rattle.std.specs.Prelude.{◌≡◌, ◌<◌, ◌≤◌, ◌%◌, ◌^◌, ◌==◌, None, false, IsTrue, IfSome};
+ghost use Rattle.std.specs.Prelude.{IfNone};
 ghost use Rattle.m36_model.specs.Faults.{illegal_procedure};
-ghost use Rattle.m36_model.specs.Modification.{Ends, Fails, Reads, Counts, plain_fault, halt_here, is_direct};
+ghost use Rattle.m36_model.specs.Modification.{Ends, Fails, Reads, Counts, plain_fault, halt_here};
+ghost use Rattle.m36_model.specs.Modification.{is_direct};
 ghost use Rattle.m36_model.specs.Modification.{move_register, move_register_then_indirect};
 ghost use Rattle.m36_model.specs.Modification.{move_indirect_then_tally};
 ghost use Rattle.m36_model.specs.Modification.{move_indirect_then_register, move_of_point};

@@ -2,7 +2,8 @@
 //!
 //! None: the address has another form, or a page is not in front. Core never changes.
 
-ghost use Rattle.std.specs.Prelude.{◌≡◌, ◌+◌, ◌<◌, ◌^◌, [], ◌∷◌, ◌++◌, Ok, None, Some, List, IfSome, length};
+ghost use Rattle.std.specs.Prelude.{◌≡◌, ◌+◌, ◌<◌, ◌^◌, [], ◌∷◌, ◌++◌, Ok, None, Some, List};
+ghost use Rattle.std.specs.Prelude.{IfSome, length};
 ghost use Rattle.m36_model.specs.declared.place.Kind.TheVariants as reference;
 ghost use Rattle.m36_model.specs.declared.place.Reference.{Reference};
 ghost use Rattle.m36_walk.specs.Served.{sdw_in};

@@ -27,7 +27,8 @@ GivesEffect e n before got after put overflow =
 
 -- The effect of an instruction, which is not refused and gives no overflow fault: it leaves the
 -- registers `after`, and puts the words `words`.
-pub record IsQuietEffect (after : RegsFields) (words : List ℕ) (e : Result EffectFields ℕ) : Type 0 where
+pub record IsQuietEffect (after : RegsFields) (words : List ℕ)
+    (e : Result EffectFields ℕ) : Type 0 where
   pub overflow : Bool
   pub effect : Ok (record { regs = after; put = words; overflow = overflow }) ≡ e
   pub quiet : (overflow && not after.ind.mask) ≡ false

@@ -65,7 +65,8 @@ pub(crate) fn load_pair(p: Pair, regs: &mut Regs)
 #[inline(always)]
 #[tactic(auto, unfolding(m36_model::specs::Results::set_zero_negative_carry_overflow))]
 fn set_sum_indicators(s: &Sum72, regs: &mut Regs)
-    ensures value { regs.new ≡ with_indicators (set_zero_negative_carry_overflow s.now regs.old.ind) regs.old }
+    ensures value { regs.new ≡ with_indicators
+        (set_zero_negative_carry_overflow s.now regs.old.ind) regs.old }
     ensures mask { regs.new.ind.mask ≡ regs.old.ind.mask }
 {
     let before = regs.ind.overflow;

@@ -23,7 +23,8 @@ pub(crate) fn is_withheld(overflow: bool, quiet: bool, regs: &Regs) -> bool
 #[inline(always)]
 #[tactic(auto, unfolding(m36_model::specs::Results::set_zero_negative_carry_overflow))]
 fn set_sum_indicators(s: Sum36, regs: &mut Regs)
-    ensures value { regs.new ≡ with_indicators (set_zero_negative_carry_overflow s regs.old.ind) regs.old }
+    ensures value { regs.new ≡ with_indicators
+        (set_zero_negative_carry_overflow s regs.old.ind) regs.old }
     ensures mask { regs.new.ind.mask ≡ regs.old.ind.mask }
 {
     regs.ind.zero = s.zero;

@@ -18,11 +18,13 @@ boot_catalog =
 -- the access lists for a catalog: F1, F2, C1 to C3
 unfoldable pub access_lists : {may : May} → CatalogFields → Program may (List AclSegmentFields)
 access_lists catalog =
-    then_with (file_bytes acl_name) (λ text. rule_program (lists_or_refusal catalog (lists_of text)))
+    then_with (file_bytes acl_name) (λ text. rule_program
+    (lists_or_refusal catalog (lists_of text)))
 
 -- A catalog with the rights that the access lists give to a user. With no user it keeps those of
 -- the boot text, and the access lists are not read.
-unfoldable pub catalog_with_rights : {may : May} → Option (List ℕ) → CatalogFields → Program may Access
+unfoldable pub catalog_with_rights :
+    {may : May} → Option (List ℕ) → CatalogFields → Program may Access
 catalog_with_rights None catalog = done (with_boot_text_rights catalog)
 catalog_with_rights (Some user) catalog =
     then_with (access_lists catalog) (λ lists. rule_program (Ok (for_user user catalog lists)))

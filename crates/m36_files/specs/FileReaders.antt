@@ -10,7 +10,8 @@ use Rattle.m36_files.specs.Deciding.{rule_program}
 
 -- reads the words of a file
 unfoldable pub file_words : {may : May} → List ℕ → Program may (List ℕ)
-file_words name = then_with (file_bytes name) (λ bytes. rule_program (words_or_refusal name (unpacked bytes)))
+file_words name =
+    then_with (file_bytes name) (λ bytes. rule_program (words_or_refusal name (unpacked bytes)))
 
 -- reads the object of a file
 unfoldable pub file_object : {may : May} → List ℕ → Program may PartsFields

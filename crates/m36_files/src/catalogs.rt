@@ -6,10 +6,13 @@ ghost use Rattle.m36_dir.specs.Catalog.{catalog_of};
 ghost use Rattle.m36_acl.specs.AccessLists.{lists_of};
 ghost use Rattle.m36_acl.specs.Granted.{first_unknown};
 ghost use Rattle.m36_status.specs.Refusing.{IsRuleResult, IsRuleRefusal};
-ghost use Rattle.m36_files.specs.CatalogRules.{catalog_refusal, catalog_or_refusal, acl_refusal, lists_refusal, lists_if_known, lists_or_refusal, for_user};
+ghost use Rattle.m36_files.specs.CatalogRules.{catalog_refusal, catalog_or_refusal, acl_refusal};
+ghost use Rattle.m36_files.specs.CatalogRules.{lists_refusal, lists_if_known, lists_or_refusal};
+ghost use Rattle.m36_files.specs.CatalogRules.{for_user};
 ghost use Rattle.m36_program.specs.Performs.{Performs};
 ghost use Rattle.m36_program.specs.Program.{May};
-ghost use Rattle.m36_files.specs.Catalogs.{boot_catalog, access_lists, catalog_with_rights, catalog_access};
+ghost use Rattle.m36_files.specs.Catalogs.{boot_catalog, access_lists, catalog_with_rights};
+ghost use Rattle.m36_files.specs.Catalogs.{catalog_access};
 
 use crate::access::Access;
 use crate::boot_refusal::refuse_boot;
@@ -137,7 +140,8 @@ fn read_for_user<W: World>(
     catalog: Catalog,
     world: &mut W,
 ) -> Result<Access, Status>
-    ensures { (may : May) → Performs {may = may} (catalog_with_rights (Some user.now) catalog) result
+    ensures { (may : May) → Performs {may = may}
+        (catalog_with_rights (Some user.now) catalog) result
         (W.seen world.old) (W.seen world.new) }
 {
     match read_lists(alloc, &catalog, world) {

@@ -23,8 +23,8 @@
 //! a loop that performs it.
 //!
 //! A computation from the bytes of a file, without a read, is a rule: it yields a value or a
-//! refusal, and memory may run out in it (`rule_program`). [`refusal_as_status`] turns its result into the result
-//! of a call.
+//! refusal, and memory may run out in it (`rule_program`). [`refusal_as_status`] turns its result
+//! into the result of a call.
 //!
 //! Each reader only reads files, so what it ends with follows from the files (`IsReader` and
 //! `reader_result` of `m36_program`, `proofs/AreReaders.antt`), and it is alike to itself

@@ -2,7 +2,8 @@
 -- the machine. The last program calls the gate.
 use Rattle.std.specs.Prelude.{ℕ, ◌+◌, ◌-◌, nat_eq, if◌then◌else◌, List, ◌++◌, codes}
 use Rattle.m36_gen.specs.declared.draws.Draws.{Draws}
-use Rattle.m36_gen.specs.Lines.{line, line_with_number, program_count, segment_name, data_name, gate_name}
+use Rattle.m36_gen.specs.Lines.{line, line_with_number, program_count, segment_name, data_name}
+use Rattle.m36_gen.specs.Lines.{gate_name}
 
 -- The entry, which loads the pointer to the linkage section of the segment.
 unfoldable pub entry_lines : List ℕ

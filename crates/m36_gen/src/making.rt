@@ -3,7 +3,8 @@
 ghost use Rattle.std.specs.Prelude.{◌≡◌, ◌<◌, ◌≤◌, ◌++◌, [], ◌∷◌, length, IfOk, OnOk};
 ghost use Rattle.m36_text.specs.Packing.{packed};
 ghost use Rattle.m36_text.specs.Texts.{name_limit};
-ghost use Rattle.m36_gen.specs.Folder.{file, source_files, data_words, zeros, sources_of, fixed_files, files_of};
+ghost use Rattle.m36_gen.specs.Folder.{file, source_files, data_words, zeros, sources_of};
+ghost use Rattle.m36_gen.specs.Folder.{fixed_files, files_of};
 ghost use Rattle.m36_gen.specs.Lines.{program_count, source_name};
 ghost use Rattle.m36_gen.specs.Sources.{source_text};
 

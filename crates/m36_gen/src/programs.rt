@@ -2,7 +2,8 @@
 
 ghost use Rattle.std.specs.Prelude.{◌≡◌, ◌<◌, ◌++◌, IfOk, OnOk};
 ghost use Rattle.m36_gen.specs.Lines.{program_count};
-ghost use Rattle.m36_gen.specs.Sources.{entry_lines, adding_lines, storing_lines, loop_lines, following_line};
+ghost use Rattle.m36_gen.specs.Sources.{entry_lines, adding_lines, storing_lines, loop_lines};
+ghost use Rattle.m36_gen.specs.Sources.{following_line};
 ghost use Rattle.m36_gen.specs.Sources.{source_text, stop_lines, stop_text};
 
 use crate::draws::Draws;

@@ -133,7 +133,8 @@ addresses (Some p) = range_with_len p.first (length p.words)
 unfoldable pub at_codes : ℕ → List ℕ → List (Option (List ℕ)) → List (Option ImageCode)
 at_codes size earlier [] = []
 at_codes size earlier (line ∷ lines) =
-    at_line_code size earlier (at_line line) ∷ at_codes size (earlier ++ addresses (at_line line)) lines
+    at_line_code size earlier (at_line line) ∷ at_codes size
+    (earlier ++ addresses (at_line line)) lines
 
 -- the number of lines before the `at` lines
 abbrev pub header_count : ℕ

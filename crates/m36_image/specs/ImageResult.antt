@@ -7,7 +7,8 @@ use Rattle.m36_image.specs.declared.refusal.ImageFault.TheVariants.{Refused, NoM
 
 -- the result of the code is the state or the refusal of the definition; NoMemory is allowed in
 -- place of either
-abbrev pub ImageResult : Result (State (List ℕ)) ImageFault → Result (State (List ℕ)) Refusal → Type 0
+abbrev pub ImageResult :
+    Result (State (List ℕ)) ImageFault → Result (State (List ℕ)) Refusal → Type 0
 ImageResult (Ok state) definition = definition ≡ Ok state
 ImageResult (Err (Refused refusal)) definition = definition ≡ Err refusal
 ImageResult (Err NoMemory) definition = ⊤

@@ -4,7 +4,8 @@ ghost use Rattle.std.specs.Prelude.{◌≡◌, ◌≤◌, IfOk};
 ghost use Rattle.m36_text.specs.Lines.{words_of};
 ghost use Rattle.m36_text.specs.Numbers.{octal_word_in};
 ghost use Rattle.m36_word.specs.Field.{frames_reached};
-ghost use Rattle.m36_image.specs.BareImage.{frames_of_core_line, frames_read, dbr_in, dbr_words, start_in, start_words};
+ghost use Rattle.m36_image.specs.BareImage.{frames_of_core_line, frames_read, dbr_in, dbr_words};
+ghost use Rattle.m36_image.specs.BareImage.{start_in, start_words};
 
 use crate::refusal::ImageCode;
 use m36_model::Ppr;

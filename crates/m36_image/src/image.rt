@@ -4,7 +4,7 @@ ghost use Rattle.std.specs.Prelude.{ℕ, ◌≡◌, ◌≤◌, ◌^◌, length};
 ghost use Rattle.m36_image.specs.ImageState.{regs_of, state_of_text};
 ghost use Rattle.m36_image.specs.ImageResult.{ImageResult};
 
-use crate::frames_of_core_line::put_lines;
+use crate::core_words::put_lines;
 use crate::header::read_header;
 use crate::refusal::ImageFault;
 use m36_core::Core;

@@ -13,15 +13,15 @@
 //! Processor Manual AL39.
 #![tactic(auto)]
 
+pub mod core_words;
 pub mod forms;
-pub mod frames_of_core_line;
 mod header;
 pub mod image;
 pub mod placed;
 pub mod refusal;
 
+pub use core_words::put_line_into_core;
 pub use forms::core_line;
-pub use frames_of_core_line::put_line_into_core;
 pub use image::{Image, read_image, registers};
 pub use placed::{Placed, at_line};
 pub use refusal::{ImageCode, ImageFault, Refusal};

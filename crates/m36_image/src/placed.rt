@@ -51,7 +51,8 @@ fn eight_words(line: &[u8]) -> Option<ArrayVec<Word, 8>>
 
 // Parses an address and the words from there on.
 fn placed_of(address: &[u8], texts: &[u8]) -> Option<Placed>
-    ensures { result ≡ at_read (core_address_in address.now) (one_to_eight_words (words_of texts.now)) }
+    ensures { result ≡ at_read (core_address_in address.now)
+        (one_to_eight_words (words_of texts.now)) }
 {
     let first = octal_in(address, 8)?;
     let words = eight_words(texts)?;

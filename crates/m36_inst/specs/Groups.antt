@@ -50,4 +50,5 @@ is_control_instruction _ = false
 
 -- all others that form an address: those that load, store, add, compare, combine and shift data
 abbrev pub is_data_instruction : Effect → Bool
-is_data_instruction e = not (is_pointer_instruction e) && not (is_control_instruction e) && forms_address (operand_of e)
+is_data_instruction e =
+    not (is_pointer_instruction e) && not (is_control_instruction e) && forms_address (operand_of e)

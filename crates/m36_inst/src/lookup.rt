@@ -1,6 +1,7 @@
 //! Lookups in the table, by operation code and by name.
 
-ghost use Rattle.std.specs.Prelude.{ℕ, ◌≡◌, ◌≢◌, ◌<◌, ◌↔◌, Some, length, option_map, IfSome, IfNone, IsTrue};
+ghost use Rattle.std.specs.Prelude.{ℕ, ◌≡◌, ◌≢◌, ◌<◌, ◌↔◌, Some, length, option_map, IfSome};
+ghost use Rattle.std.specs.Prelude.{IfNone, IsTrue};
 ghost use Rattle.std.specs.List.{position};
 ghost use Rattle.m36_inst.specs.Lookup.{row_at, name_at, code_named, IsRow};
 ghost use Rattle.m36_inst.specs.Names.{letter, key, key_at, code_at, bit27_at, IsRising};

@@ -50,7 +50,8 @@ pub record RightsLaw : Type 0 where
       (d : SdwFields) (trr prr : ℕ) (same : Bool) (word : ℕ)
       → refusing_violation Indirect d trr prr same word ≡ None → MayRead d trr same
   pub odd :
-      (d : SdwFields) (trr prr : ℕ) (same : Bool) (word : ℕ) → refusing_violation Odd d trr prr same word ≡ None
+      (d : SdwFields) (trr prr : ℕ) (same : Bool) (word : ℕ)
+      → refusing_violation Odd d trr prr same word ≡ None
       → MayRead d trr same
   pub read :
       (d : SdwFields) (trr prr : ℕ) (same : Bool) (word : ℕ)

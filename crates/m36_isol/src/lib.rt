@@ -26,7 +26,8 @@ ghost use Rattle.m36_model.specs.Audit.{AreApart, IsAudited};
 ghost use Rattle.m36_model.specs.StoreLaw.{Lawful};
 ghost use Rattle.m36_model.specs.CoreLaw.{HasTables, IsSegmentSpot, IsMarkedFrom};
 ghost use Rattle.m36_model.specs.Isolation.{Isolated};
-ghost use Rattle.m36_model.specs.Flat.{Flat, flat_store, flat_tables, HasDescriptors, IsFlatSpot, IsSameFlat, IsFlatAudited};
+ghost use Rattle.m36_model.specs.Flat.{Flat, flat_store, flat_tables, HasDescriptors, IsFlatSpot};
+ghost use Rattle.m36_model.specs.Flat.{IsSameFlat, IsFlatAudited};
 ghost use Rattle.m36_model.specs.BootedCore.{booted_dbr, IsLaid};
 ghost use Rattle.m36_model.specs.PagedStep.{PagedStepLaw, MovedLaw, SameAuditLaw, FlatAuditLaw};
 ghost use Rattle.m36_model.specs.JointAudit.{IsJointlyAudited};
@@ -38,7 +39,8 @@ ghost use Rattle.m36_isol.specs.MarkBits.{MarksKeepBits, MarksAreFields, UnusedI
 ghost use Rattle.m36_isol.specs.BootedNumbers.{BootedNumbersLaw};
 ghost use Rattle.m36_isol.specs.PageServices.{PagesLaw};
 ghost use Rattle.m36_isol.specs.References.{FewReferencesLaw};
-ghost use Rattle.m36_model.specs.Laws.{EffectLaw, EffectRefusals, DependsLaw, SightLaw, ReachLaw, CoreReachLaw};
+ghost use Rattle.m36_model.specs.Laws.{EffectLaw, EffectRefusals, DependsLaw, SightLaw, ReachLaw};
+ghost use Rattle.m36_model.specs.Laws.{CoreReachLaw};
 ghost use Rattle.m36_model.specs.Laws.{FallLaw, MarksLaw, AgreeLaw, AuditKeptLaw};
 
 /// An audit finds nothing exactly if all six conditions hold, and there is only one list of

@@ -5,7 +5,8 @@ use Rattle.std.specs.Prelude.{Option, Some, None, is_some}
 use Rattle.m36_text.specs.Once.{appended_unless}
 use Rattle.obj36_parts.specs.Fields.{LinkFields}
 use Rattle.obj36_parts.specs.ObjectSegment.{has_name, segment_limit}
-use Rattle.m36_link.specs.Fields.{RingNameFields, PlacedSectionFields, NewSectionFields, KnownFields, SnapFields}
+use Rattle.m36_link.specs.Fields.{RingNameFields, PlacedSectionFields, NewSectionFields}
+use Rattle.m36_link.specs.Fields.{KnownFields, SnapFields}
 use Rattle.m36_link.specs.Known.{initiated_segment, laid_in, next_base_in_ring}
 
 -- the place of a section that has to be laid
@@ -13,7 +14,8 @@ abbrev pub placed_section_of : NewSectionFields → PlacedSectionFields
 placed_section_of l = record { ring = l.ring; seg = l.seg; base = l.base; size = length l.words }
 
 -- the sections that are laid, with this one added if there is one
-unfoldable pub with_section : List PlacedSectionFields → Option NewSectionFields → List PlacedSectionFields
+unfoldable pub with_section :
+    List PlacedSectionFields → Option NewSectionFields → List PlacedSectionFields
 with_section laid None = laid
 with_section laid (Some l) = laid ++ placed_section_of l ∷ []
 

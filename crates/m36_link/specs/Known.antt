@@ -17,7 +17,8 @@ use Rattle.m36_dir.specs.Catalog.{CatalogFields}
 use Rattle.obj36_parts.specs.PartsFields.{PartsFields}
 use Rattle.obj36_parts.specs.ObjectSegment.{rounded_up_to_even, linkage_section, outer_statics}
 use Rattle.obj36.specs.ObjectOf.{object_of}
-use Rattle.m36_link.specs.Fields.{RingNameFields, PlacedSectionFields, NewSectionFields, KnownFields}
+use Rattle.m36_link.specs.Fields.{RingNameFields, PlacedSectionFields, NewSectionFields}
+use Rattle.m36_link.specs.Fields.{KnownFields}
 
 -- no names and no sections
 abbrev pub nothing_known : KnownFields
@@ -73,7 +74,8 @@ is_same_name a b = are_same a.name b.name && nat_eq a.ring b.ring
 
 -- the number of the segment that is initiated under a name in a ring
 unfoldable pub initiated_segment : List (RingNameFields × ℕ) → ℕ → List ℕ → Option ℕ
-initiated_segment names ring name = lookup (is_same_name (record { ring = ring; name = name })) names
+initiated_segment names ring name =
+    lookup (is_same_name (record { ring = ring; name = name })) names
 
 -- ---- sections
 

@@ -12,7 +12,8 @@ use Rattle.obj36_parts.specs.ObjectSegment.{link_head, linkage_section, first_li
 use Rattle.obj36_parts.specs.ObjectSegment.{segment_limit}
 use Rattle.obj36_parts.specs.PartsFields.{PartsFields}
 use Rattle.m36_link.specs.Fields.{PlacedSectionFields, KnownFields, SnapFields}
-use Rattle.m36_link.specs.Known.{first_segment, catalog_number, index_in_catalog, object_in, laid_words}
+use Rattle.m36_link.specs.Known.{first_segment, catalog_number, index_in_catalog, object_in}
+use Rattle.m36_link.specs.Known.{laid_words}
 use Rattle.m36_link.specs.Links.{link_in}
 use Rattle.m36_link.specs.Snap.{snap_of, outer_snap}
 use Rattle.m36_link.specs.Accepted.{known_after, MayBeLaid}
@@ -47,7 +48,8 @@ pub record IsOfCatalog (catalog : CatalogFields) (seg : ℕ) : Type 0 where
 
 -- A laid section is the whole section of an object of the catalog, begins at an even word, and is
 -- within the linkage segment.
-pub record IsWholeSection (catalog : CatalogFields) (files : List (List ℕ)) (l : PlacedSectionFields) : Type 0 where
+pub record IsWholeSection (catalog : CatalogFields) (files : List (List ℕ))
+    (l : PlacedSectionFields) : Type 0 where
   pub segment : IsOfCatalog catalog l.seg
   pub object : PartsFields
   pub read : object_in files l.seg ≡ Some object

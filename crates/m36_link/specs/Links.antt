@@ -25,7 +25,8 @@ holds_link files ring word l = nat_eq l.ring ring && is_some (link_in files word
 
 -- The section that has the link at a place: it is laid in the ring of the place, and the place is
 -- in the linkage segment of that ring.
-unfoldable pub section_at : List PlacedSectionFields → List (List ℕ) → AtFields → Option PlacedSectionFields
+unfoldable pub section_at :
+    List PlacedSectionFields → List (List ℕ) → AtFields → Option PlacedSectionFields
 section_at laid files at =
     if nat_eq at.seg (linkage_segment at.ring) then find (holds_link files at.ring at.word) laid
     else None

@@ -8,7 +8,8 @@ use Rattle.m36_dir.specs.Catalog.{CatalogFields}
 use Rattle.obj36_parts.specs.Fields.{LinkFields}
 use Rattle.obj36_parts.specs.PartsFields.{PartsFields}
 use Rattle.obj36_parts.specs.ObjectSegment.{has_name}
-use Rattle.m36_link.specs.Fields.{PlacedSectionFields, TargetFields, NewSectionFields, KnownFields, SnapFields}
+use Rattle.m36_link.specs.Fields.{PlacedSectionFields, TargetFields, NewSectionFields, KnownFields}
+use Rattle.m36_link.specs.Fields.{SnapFields}
 use Rattle.m36_link.specs.Known.{segment_of, file_of, object_in, laid_words}
 use Rattle.m36_link.specs.Search.{search_result}
 use Rattle.m36_link.specs.Links.{link_in, section_at}
@@ -25,7 +26,8 @@ pub record RefusedFields : Type 0 where
 
 -- the target of a link to segment `seg`, which was found: L2 if the catalog has no such segment or
 -- it has no file
-abbrev pub target_if_found : List PlacedSectionFields → ℕ → ℕ → Option SegmentFields → Option (List ℕ)
+abbrev pub target_if_found :
+    List PlacedSectionFields → ℕ → ℕ → Option SegmentFields → Option (List ℕ)
     → LinkFields → Result TargetFields LinkCode
 target_if_found laid ring seg (Some s) (Some words) link = segment_target laid ring seg s words link
 target_if_found laid ring seg _ _ link = Err L2
@@ -50,7 +52,8 @@ directory_of None = 0
 directory_of (Some s) = s.dir
 
 -- the target of a link of an object whose section is laid
-unfoldable pub target_of_link : KnownFields → CatalogFields → List (List ℕ) → ℕ → PlacedSectionFields
+unfoldable pub target_of_link :
+    KnownFields → CatalogFields → List (List ℕ) → ℕ → PlacedSectionFields
     → PartsFields → LinkFields → Result TargetFields LinkCode
 target_of_link known catalog files ring l o link =
     if has_name link.kind then
@@ -106,7 +109,8 @@ snap_for known catalog files ring l (Some o) (Some link) =
 snap_for known catalog files ring l _ _ = no_link
 
 -- the answer, given the section at the place
-abbrev pub snap_in : KnownFields → CatalogFields → List (List ℕ) → AtFields → Option PlacedSectionFields
+abbrev pub snap_in :
+    KnownFields → CatalogFields → List (List ℕ) → AtFields → Option PlacedSectionFields
     → Result SnapFields RefusedFields
 snap_in known catalog files at None = no_link
 snap_in known catalog files at (Some l) =

@@ -22,7 +22,8 @@ use Rattle.obj36.specs.declared.fault.ObjectFault.{ObjectFault}
 use Rattle.obj36.specs.declared.fault.ObjectFault.TheVariants.{O1, O2, O3, O4, O5, O6, O7, O8}
 use Rattle.obj36.specs.declared.fault.ObjectFault.TheVariants.{NoMemory}
 use Rattle.m36_link.specs.Fields.{PlacedSectionFields, TargetFields}
-use Rattle.m36_link.specs.Known.{linkage_segment, section_ring, laid_in, next_base_in_ring, laid_words}
+use Rattle.m36_link.specs.Known.{linkage_segment, section_ring, laid_in, next_base_in_ring}
+use Rattle.m36_link.specs.Known.{laid_words}
 use Rattle.m36_link.specs.declared.points.ObjectPlace.{ObjectPlace}
 use Rattle.m36_link.specs.declared.sections.Placement.{Placement}
 
@@ -82,19 +83,23 @@ new_placement ring seg base size =
     else Err (L6 base size)
 
 -- the section that is laid already, or a new one
-abbrev pub placement_by : Option PlacedSectionFields → List PlacedSectionFields → ℕ → ℕ → PartsFields
+abbrev pub placement_by :
+    Option PlacedSectionFields → List PlacedSectionFields → ℕ → ℕ → PartsFields
     → Result Placement LinkCode
 placement_by (Some l) laid ring seg o = Ok (record { section = l; is_new = false })
-placement_by None laid ring seg o = new_placement ring seg (next_base_in_ring laid ring) (length (laid_words o))
+placement_by None laid ring seg o =
+    new_placement ring seg (next_base_in_ring laid ring) (length (laid_words o))
 
 -- the section of a segment in a ring, and whether it still has to be laid; or L6
-unfoldable pub placement_of : List PlacedSectionFields → ℕ → ℕ → PartsFields → Result Placement LinkCode
+unfoldable pub placement_of :
+    List PlacedSectionFields → ℕ → ℕ → PartsFields → Result Placement LinkCode
 placement_of laid ring seg o = placement_by (laid_in laid ring seg) laid ring seg o
 
 -- ---- types 1 and 5: the link's own object, whose section has the link
 
 -- the target of a link to its own object, given the place that it names
-abbrev pub own_target_by : ℕ → PlacedSectionFields → PartsFields → LinkFields → Result ObjectPlace LinkCode
+abbrev pub own_target_by :
+    ℕ → PlacedSectionFields → PartsFields → LinkFields → Result ObjectPlace LinkCode
     → Result TargetFields LinkCode
 own_target_by ring l o link found =
     and_then found
@@ -148,7 +153,8 @@ section_if_new true l = Some l
 section_if_new false l = None
 
 -- the target of a link to an object, given the place that it names and the object's section
-abbrev pub target_in_section : ℕ → ℕ → PartsFields → LinkFields → ObjectPlace → Result Placement LinkCode
+abbrev pub target_in_section :
+    ℕ → ℕ → PartsFields → LinkFields → ObjectPlace → Result Placement LinkCode
     → Result TargetFields LinkCode
 target_in_section ring seg o link point found =
     and_then found
@@ -163,7 +169,8 @@ target_in_section ring seg o link point found =
 abbrev pub target_at_place : List PlacedSectionFields → ℕ → ℕ → ℕ → PartsFields → LinkFields
     → Result ObjectPlace LinkCode → Result TargetFields LinkCode
 target_at_place laid ring section_ring seg o link found =
-    and_then found (λ point. target_in_section ring seg o link point (placement_of laid section_ring seg o))
+    and_then found (λ point. target_in_section ring seg o link point
+    (placement_of laid section_ring seg o))
 
 -- the target of a link to the object in segment `seg`, whose section is in the ring `section_ring`,
 -- which may differ from that of the link
@@ -177,10 +184,12 @@ object_target laid ring section_ring seg o link =
 abbrev pub target_by_object : List PlacedSectionFields → ℕ → ℕ → SegmentFields → LinkFields
     → Result PartsFields ObjectFault → Result TargetFields LinkCode
 target_by_object laid ring seg s link (Err fault) = Err (L5 (fault_number fault))
-target_by_object laid ring seg s link (Ok o) = object_target laid ring (section_ring ring s) seg o link
+target_by_object laid ring seg s link (Ok o) =
+    object_target laid ring (section_ring ring s) seg o link
 
 -- the target of a link of type 3 or 4 to the segment that was found
-unfoldable pub segment_target : List PlacedSectionFields → ℕ → ℕ → SegmentFields → List ℕ → LinkFields
+unfoldable pub segment_target :
+    List PlacedSectionFields → ℕ → ℕ → SegmentFields → List ℕ → LinkFields
     → Result TargetFields LinkCode
 segment_target laid ring seg s words link =
     if may_not_use ring s then Err L4

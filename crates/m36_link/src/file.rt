@@ -1,6 +1,7 @@
 //! The files of the segments of a catalog, each read as an object once.
 
-ghost use Rattle.std.specs.Prelude.{ℕ, List, ◌≡◌, ◌-◌, ◌<◌, ◌≤◌, ◌^◌, Option, Some, None, Ok, Err, MatchResult, length, option_copied, IfOk, IfSome};
+ghost use Rattle.std.specs.Prelude.{ℕ, List, ◌≡◌, ◌-◌, ◌<◌, ◌≤◌, ◌^◌, Option, Some, None, Ok, Err};
+ghost use Rattle.std.specs.Prelude.{MatchResult, length, option_copied, IfOk, IfSome};
 ghost use Rattle.obj36.specs.ObjectOf.{object_of};
 ghost use Rattle.m36_link.specs.Known.{index_in_catalog, file_of, object_in, laid_words};
 ghost use Rattle.obj36_parts.specs.ObjectSegment.{segment_limit};

@@ -1,12 +1,14 @@
 //! The results of link services.
 
-ghost use Rattle.std.specs.Prelude.{[], ◌∷◌, ◌++◌, ◌≡◌, ◌<◌, ◌≤◌, ◌^◌, ◌+◌, Option, Some, None, IfOk, IfSome, OnOk, OnErr, length};
+ghost use Rattle.std.specs.Prelude.{[], ◌∷◌, ◌++◌, ◌≡◌, ◌<◌, ◌≤◌, ◌^◌, ◌+◌, Option, Some, None};
+ghost use Rattle.std.specs.Prelude.{IfOk, IfSome, OnOk, OnErr, length};
 ghost use Rattle.std.specs.Vec.{vec_len, vec_capacity};
 ghost use Rattle.m36_text.specs.Texts.{name_limit};
 ghost use Rattle.m36_link.specs.Known.{nothing_known, initiated_segment};
 ghost use Rattle.m36_link.specs.Names.{AreNames};
 ghost use Rattle.m36_link.specs.Search.{search_result};
-ghost use Rattle.m36_link.specs.Accepted.{known_after, with_initiated_name, with_section, MayBeLaid};
+ghost use Rattle.m36_link.specs.Accepted.{known_after, with_initiated_name, with_section};
+ghost use Rattle.m36_link.specs.Accepted.{MayBeLaid};
 ghost use Rattle.obj36_parts.specs.ObjectSegment.{segment_limit};
 
 use crate::laid::{NewSection, PlacedSection};

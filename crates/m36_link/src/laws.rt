@@ -1,6 +1,8 @@
 //! Laws of links, of the search and of laying.
 
-ghost use Rattle.m36_link.specs.Laws.{UnsnappedLinksFault, LinksFound, NumbersAgree, MayBeAccepted, MayBeAcceptedFrom, KeepsConsistent, KeepsConsistentFrom, PairsAreRead};
+ghost use Rattle.m36_link.specs.Laws.{UnsnappedLinksFault, LinksFound, NumbersAgree, MayBeAccepted};
+ghost use Rattle.m36_link.specs.Laws.{MayBeAcceptedFrom, KeepsConsistent, KeepsConsistentFrom};
+ghost use Rattle.m36_link.specs.Laws.{PairsAreRead};
 
 /// Laws of links.
 ///

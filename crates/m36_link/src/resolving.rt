@@ -3,7 +3,9 @@
 ghost use Rattle.std.specs.Prelude.{◌≡◌, ◌<◌, ◌≤◌, find, length, option_copied, IfOk};
 ghost use Rattle.m36_link.specs.Known.{segment_of, object_in, laid_words};
 ghost use Rattle.m36_link.specs.Links.{link_from, link_in, holds_link, section_at};
-ghost use Rattle.m36_link.specs.Snap.{outer_target, directory_of, target_of_link, words_to_lay, section_with_words, snap_of_target, outer_snap, snap_of, SnapResult};
+ghost use Rattle.m36_link.specs.Snap.{outer_target, directory_of, target_of_link, words_to_lay};
+ghost use Rattle.m36_link.specs.Snap.{section_with_words, snap_of_target, outer_snap, snap_of};
+ghost use Rattle.m36_link.specs.Snap.{SnapResult};
 ghost use Rattle.obj36_parts.specs.ObjectSegment.{segment_limit};
 
 use crate::file::{File, file_of, index_in_catalog, object_in};
@@ -142,7 +144,8 @@ fn target_of_link(
 ) -> Result<Target, LinkCode>
     requires ring { ring < 8 }
     requires size { length (laid_words object.now) ≤ segment_limit }
-    ensures { result ≡ target_of_link known.now catalog.now files.now ring section object.now link.now }
+    ensures { result ≡ target_of_link known.now catalog.now files.now ring section object.now
+        link.now }
 {
     if kind_has_name(link.kind as u64) {
         let from = directory_of(catalog, section.seg);

@@ -2,7 +2,8 @@
 
 ghost use Rattle.std.specs.Prelude.{◌≡◌, ◌+◌, ◌<◌, ◌≤◌, ◌^◌, ◌&&◌, find, length, Some, IfSome};
 ghost use Rattle.obj36_parts.specs.ObjectSegment.{linkage_section, segment_limit, head_words};
-ghost use Rattle.m36_link.specs.Known.{laid_in, even_end, next_base_after, next_base_in_ring, laid_words};
+ghost use Rattle.m36_link.specs.Known.{laid_in, even_end, next_base_after, next_base_in_ring};
+ghost use Rattle.m36_link.specs.Known.{laid_words};
 ghost use Rattle.m36_link.specs.Target.{placement_of};
 ghost use Rattle.m36_link.specs.Apart.{AreEachFound};
 

@@ -2,7 +2,8 @@
 
 ghost use Rattle.std.specs.Prelude.{◌≡◌, ◌<◌, ◌≤◌, ◌^◌, length};
 ghost use Rattle.m36_link.specs.Known.{section_ring, laid_words};
-ghost use Rattle.m36_link.specs.Target.{own_target, may_not_use, fault_number, plain_target, section_if_new, object_target, segment_target};
+ghost use Rattle.m36_link.specs.Target.{own_target, may_not_use, fault_number, plain_target};
+ghost use Rattle.m36_link.specs.Target.{section_if_new, object_target, segment_target};
 ghost use Rattle.obj36_parts.specs.ObjectSegment.{segment_limit};
 
 use crate::file::File;

@@ -21,8 +21,10 @@ use Rattle.m36_list.specs.Disassembly.{disassembly}
 -- ---- a line anywhere in a source
 
 -- the words that a line places, given what parsing it yielded; None if it was refused
-abbrev pub words_if_parsed : List ℕ → Tables → LocationCounter → Result Line36 ParseRefusal → Option (List ℕ)
-words_if_parsed source tables spot (Ok line) = Some (words_of_effect source tables spot line.args line.deed)
+abbrev pub words_if_parsed :
+    List ℕ → Tables → LocationCounter → Result Line36 ParseRefusal → Option (List ℕ)
+words_if_parsed source tables spot (Ok line) =
+    Some (words_of_effect source tables spot line.args line.deed)
 words_if_parsed source tables spot (Err refusal) = None
 
 -- The words that a line with this text and this number places, in a source where `before` precedes
@@ -64,4 +66,5 @@ object_of_word w =
 -- that word as its text and nothing else.
 abbrev pub AssemblesToItself : Type 0
 AssemblesToItself =
-    (w : ℕ) → w < 2 ^ 36 → object_of (source_of_text (as_line (disassembly w))) ≡ Ok (object_of_word w)
+    (w : ℕ) → w < 2 ^ 36 → object_of (source_of_text (as_line (disassembly w)))
+    ≡ Ok (object_of_word w)

@@ -32,7 +32,8 @@ size_in section text spot row =
 
 -- the lines of the words of a section, from an offset on, each with the number of the line of the
 -- source that places it
-unfoldable pub section_words : List ℕ → Section → List ℕ → ℕ → List ℕ → LocationCounter → List Line36 → List ℕ
+unfoldable pub section_words :
+    List ℕ → Section → List ℕ → ℕ → List ℕ → LocationCounter → List Line36 → List ℕ
 section_words name section text at words spot [] = []
 section_words name section text at words spot (row ∷ lines) =
     let here = take (size_in section text spot row) words in
@@ -43,7 +44,8 @@ section_words name section text at words spot (row ∷ lines) =
 -- the lines of the words of a section, the first of which is at the offset of its first line
 abbrev pub section_listing : List ℕ → Section → Source → List ℕ → List ℕ
 section_listing name section source words =
-    section_words name section source.text (offset_in_section section start) words start source.lines
+    section_words name section source.text (offset_in_section section start) words start
+    source.lines
 
 -- The listing of a source and of the object of these parts, under this name: the lines of the text,
 -- of the static words of the linkage section, and of those of a static section; then the print.

@@ -52,7 +52,8 @@ symbol_offset p =
 -- the line of the static section, which only version 2 has
 abbrev pub static_line : PartsFields → List ℕ
 static_line p =
-    if is_newer p then section_line (section_text Static) (statics_offset p) (length p.statics) else []
+    if is_newer p then section_line (section_text Static) (statics_offset p)
+    (length p.statics) else []
 
 -- a line with a name, and a number of 18 bits in octal
 abbrev pub value_line : List ℕ → ℕ → List ℕ

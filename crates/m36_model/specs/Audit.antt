@@ -5,7 +5,8 @@ use Rattle.std.specs.Prelude.{Err}
 use Rattle.m36_desc.specs.Fields.{SdwFields, DbrFields}
 use Rattle.m36_desc.specs.Access.{has_ordered_brackets}
 use Rattle.m36_model.specs.Store.{Core_word, place}
-use Rattle.m36_model.specs.Place.{wrapped_address, has_descriptor_in_bounds, sdw_place, directory_at, page_at, last_page}
+use Rattle.m36_model.specs.Place.{wrapped_address, has_descriptor_in_bounds, sdw_place}
+use Rattle.m36_model.specs.Place.{directory_at, page_at, last_page}
 use Rattle.m36_model.specs.Place.{core_sdw, ring_stack}
 use Rattle.m36_model.specs.Core.{core_store}
 use Rattle.m36_model.specs.declared.outcome.Refusal.{Refusal}
@@ -166,5 +167,6 @@ pub record AreFindings (core : List ℕ) (dbr : DbrFields) (findings : List (ℕ
   pub finds_sixth : Finds (HasNoStack dbr (core_sdw core dbr)) sixth
   pub listed :
       findings
-      ≡ numbered_finding 1 first ++ numbered_finding 2 second ++ numbered_finding 3 third ++ numbered_finding 4 fourth ++ numbered_finding 5 fifth
+      ≡ numbered_finding 1 first ++ numbered_finding 2 second ++ numbered_finding 3 third
+      ++ numbered_finding 4 fourth ++ numbered_finding 5 fifth
       ++ numbered_finding 6 sixth

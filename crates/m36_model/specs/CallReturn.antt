@@ -22,7 +22,8 @@ stack_pointer g ring = pointer (stack_segment g ring) ring 0
 
 -- the registers after a transfer to the final address, in the ring `ring`
 abbrev pub registers_in_ring : FinalFields → ℕ → RegsFields → RegsFields
-registers_in_ring f ring g = record g { ppr = record { psr = f.at.seg; prr = ring; ic = f.at.word } }
+registers_in_ring f ring g =
+    record g { ppr = record { psr = f.at.seg; prr = ring; ic = f.at.word } }
 
 -- CALL6: transfers to the final address in the new ring, which is given as the operand: the lesser
 -- of TRR and R2 of the target. PR7 is set to the base of a stack of the new ring.
@@ -50,7 +51,8 @@ registers_after_return its ring g =
     }
 
 -- RTCD, given the ITS pair that it reads
-abbrev pub return_through : ItsFields → FinalFields → OperandFields → RegsFields → Result EffectFields ℕ
+abbrev pub return_through :
+    ItsFields → FinalFields → OperandFields → RegsFields → Result EffectFields ℕ
 return_through its f o g = yields_registers (registers_after_return its (return_ring its f o) g)
 
 -- RTCD: returns to the pointer of its pair, in the ring after the pair. All pointer registers get

@@ -6,11 +6,13 @@ use Rattle.m36_model.specs.Registers.{RegsFields}
 use Rattle.m36_model.specs.Arithmetic.{comparison}
 use Rattle.m36_model.specs.Booleans.{and_of, xor_of, and_not_of}
 use Rattle.m36_model.specs.Results.{EffectFields, Working, half, width, value, with_indicators}
-use Rattle.m36_model.specs.Results.{with_test_indicators, set_by_comparison, completes, completes_with}
+use Rattle.m36_model.specs.Results.{with_test_indicators, set_by_comparison, completes}
+use Rattle.m36_model.specs.Results.{completes_with}
 
 -- CMPA, CMPQ, CMPAQ, CMPX: register and value are compared
 unfoldable pub compare : Working → ℕ → RegsFields → Result EffectFields ℕ
-compare r v g = completes (with_indicators (set_by_comparison (comparison (half r) (value r g) v) g.ind) g)
+compare r v g =
+    completes (with_indicators (set_by_comparison (comparison (half r) (value r g) v) g.ind) g)
 
 -- zero and negative are set by a number; h is half of its range
 abbrev pub test : ℕ → ℕ → RegsFields → Result EffectFields ℕ

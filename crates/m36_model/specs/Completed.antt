@@ -17,7 +17,8 @@ completed_by q (Ok a) = if touches q.kind then q ∷ [] else []
 completed_by q (Err f) = []
 
 -- the requests that a run completes, in order
-unfoldable pub completed_requests : {A S : Type 0} → Store S → RegsFields → Act A → Midstep S → List Request
+unfoldable pub completed_requests :
+    {A S : Type 0} → Store S → RegsFields → Act A → Midstep S → List Request
 completed_requests o g (done a) m = []
 completed_requests o g (ask q next) m =
     let t = serve o g m q in completed_by q t.reply ++ completed_requests o g (next t.reply) t.mid
@@ -39,9 +40,11 @@ references_of refs (q ∷ more) = references_of (with_reference q.kind q refs) m
 pub record HasMarksOfCompleted {S : Type 0} (o : Store S) (s : State S) : Type 0 where
   pub marks :
       (run_of_step o s).mid.store
-      ≡ with_marks_of o s.regs.dbr s.store (completed_requests o s.regs (program s.regs) (start_of_step s))
+      ≡ with_marks_of o s.regs.dbr s.store
+      (completed_requests o s.regs (program s.regs) (start_of_step s))
   pub references :
-      (run_of_step o s).mid.refs ≡ references_of [] (completed_requests o s.regs (program s.regs) (start_of_step s))
+      (run_of_step o s).mid.refs ≡ references_of []
+      (completed_requests o s.regs (program s.regs) (start_of_step s))
 
 -- In every step, exactly the marks of the completed references are set before words are written.
 abbrev pub MarksOfCompletedReferences : Type 0

@@ -4,7 +4,8 @@ use Rattle.std.specs.Prelude.{◌∷◌, length, slice_get, slice_index, slice_s
 use Rattle.std.specs.Prelude.{Result, Ok, Err}
 use Rattle.m36_desc.specs.Fields.{SdwFields, DbrFields}
 use Rattle.m36_model.specs.Act.{Part}
-use Rattle.m36_model.specs.Place.{wrapped_address, directory_at, page_at, last_page, has_descriptor_in_bounds, sdw_place}
+use Rattle.m36_model.specs.Place.{wrapped_address, directory_at, page_at, last_page}
+use Rattle.m36_model.specs.Place.{has_descriptor_in_bounds, sdw_place}
 use Rattle.m36_model.specs.Place.{core_sdw, core_spot, core_marked}
 use Rattle.m36_model.specs.Store.{Spot, Core_word, Segment_word, Change, SegTable, Tables, Store}
 use Rattle.m36_model.specs.Store.{with_part_written}

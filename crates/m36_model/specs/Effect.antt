@@ -2,9 +2,9 @@
 -- number in its name, the registers, the final address and the operand; or the number of the fault
 -- if it is refused. There is one line for each instruction, in the order of the instruction table;
 -- the equations are in the modules that it uses. MME, DRL and DIS form no address, so a step does
--- not use their lines: `immediate_halt` in `Step` has their faults and the stop. Registers and indicators
--- that the equations of an instruction do not name are unchanged. Which indicators it sets is this
--- project's choice.
+-- not use their lines: `immediate_halt` in `Step` has their faults and the stop. Registers and
+-- indicators that the equations of an instruction do not name are unchanged. Which indicators it
+-- sets is this project's choice.
 --
 -- Each line, except those of MME, DRL and DIS, ends with what the instruction does, in the manual's
 -- notation. C(..) is the content of a register or of the operand Y; numbers after it are bits. The

@@ -37,7 +37,8 @@ flat_word s (Segment_word seg w) = s.content seg w
 -- content with one word, or a half of it, written
 abbrev pub content_with : (ℕ → ℕ → ℕ) → ℕ → ℕ → Part → ℕ → ℕ → ℕ → ℕ
 content_with content seg w part v seg' w' =
-    if (seg == seg') && (w == w') then with_part_written part (content seg' w') v else content seg' w'
+    if (seg == seg') && (w == w') then with_part_written part
+    (content seg' w') v else content seg' w'
 
 -- the flat memory with one word, or a half of it, written; a core word is none of its words
 abbrev pub flat_put_one : Flat → Spot → Part → ℕ → Flat
@@ -64,7 +65,12 @@ flat_table_by false words seg = record { directory = []; sdw = []; pages = [] }
 -- the tables of a flat memory: the words of its descriptors
 unfoldable pub flat_tables : Flat → DbrFields → Tables
 flat_tables s dbr =
-    record { dbr = dbr; size = 0; of = λ seg. flat_table_by (has_descriptor_in_bounds dbr seg) s.descriptors seg }
+    record {
+      dbr = dbr;
+      size = 0;
+      of = λ seg. flat_table_by
+          (has_descriptor_in_bounds dbr seg) s.descriptors seg;
+    }
 
 -- a reference sets no marks
 abbrev pub flat_marked : Flat → DbrFields → RequestKind → ℕ → ℕ → Flat

@@ -4,7 +4,8 @@ use Rattle.std.specs.Prelude.{◌≡◌, ◌≢◌, ℕ, ◌+◌, ◌<◌, ◌�
 use Rattle.std.specs.Prelude.{slice_get, Option, Some, None, Ok}
 use Rattle.m36_desc.specs.Fields.{DbrFields}
 use Rattle.m36_model.specs.Place.{wrapped_address, sdw_place}
-use Rattle.m36_model.specs.Audit.{Table, Sdws, Directory, Pages, IsWordOfTable, IsSegmentWord, IsAudited}
+use Rattle.m36_model.specs.Audit.{Table, Sdws, Directory, Pages, IsWordOfTable, IsSegmentWord}
+use Rattle.m36_model.specs.Audit.{IsAudited}
 use Rattle.m36_model.specs.Audit.{Finds, numbered_finding, AreFindings}
 
 -- the most processes of a joint audit
@@ -18,7 +19,8 @@ pub record AreSame (core : List ℕ) (dbr other : DbrFields) (seg other_seg : �
   pub found : sdw_place core dbr seg ≡ Ok at
   pub other_found : sdw_place core other other_seg ≡ Ok other_at
   pub even : slice_get core at ≡ slice_get core other_at
-  pub odd : slice_get core (wrapped_address (at + 1)) ≡ slice_get core (wrapped_address (other_at + 1))
+  pub odd : slice_get core (wrapped_address (at + 1))
+      ≡ slice_get core (wrapped_address (other_at + 1))
 
 -- Two processes may share a word of these two tables: they are the page tables of the same segment.
 -- (Its descriptors are equal, so a word at one address is for the same page.)

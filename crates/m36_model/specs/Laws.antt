@@ -81,7 +81,8 @@ IsPermittedReference o r s e = MayRefer o r s e.at.seg e.kind
 -- a Write, can change.
 abbrev pub SightLaw : {S : Type 0} → Store S → Tables → Type 0
 SightLaw {S} o T =
-    (r : ℕ) (s : State S) → IsAbove o T r s → Each (IsPermittedReference o r s) (record_of o s).refs.items
+    (r : ℕ) (s : State S) → IsAbove o T r s
+    → Each (IsPermittedReference o r s) (record_of o s).refs.items
 
 -- What ring r cannot see does not affect the record of a step.
 abbrev pub DependsLaw : {S : Type 0} → Store S → Tables → Type 0
@@ -154,4 +155,5 @@ PreservesAudit old new e =
 
 -- Each step, in any ring, preserves the audit conditions unless it executes LDBR.
 abbrev pub AuditKeptLaw : Type 0
-AuditKeptLaw = (s : State (List ℕ)) → PreservesAudit s (state_after core_store s) (record_of core_store s)
+AuditKeptLaw =
+    (s : State (List ℕ)) → PreservesAudit s (state_after core_store s) (record_of core_store s)

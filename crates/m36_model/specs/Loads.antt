@@ -4,7 +4,8 @@ use Rattle.std.specs.Prelude.{ℕ, ◌*◌, ◌^◌, [], ◌∷◌, Result}
 use Rattle.m36_word.specs.Bits.{is_on}
 use Rattle.m36_model.specs.Registers.{RegsFields}
 use Rattle.m36_model.specs.Results.{EffectFields, Working, with_indicators, with_tested_value}
-use Rattle.m36_model.specs.Results.{completes, completes_with, sets_register, sets_register_to_negative}
+use Rattle.m36_model.specs.Results.{completes, completes_with, sets_register}
+use Rattle.m36_model.specs.Results.{sets_register_to_negative}
 use Rattle.m36_model.specs.declared.registers.Ind.{Ind}
 
 -- LDA, LDQ, LDAQ, LDX, LXL, EAA, EAQ, EAX: value to register; zero and negative are set

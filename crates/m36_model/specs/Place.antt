@@ -93,7 +93,8 @@ sdw_place_by true unpaged dbr seg p = place_from unpaged dbr.addr (2 * seg) p
 -- the core address of the even word of a segment's descriptor; it may be past the end of core
 abbrev pub sdw_place : List ℕ → DbrFields → ℕ → Result ℕ Refusal
 sdw_place core dbr seg =
-    sdw_place_by (has_descriptor_in_bounds dbr seg) dbr.unpaged dbr seg (ptw_at core (directory_at dbr seg))
+    sdw_place_by (has_descriptor_in_bounds dbr seg) dbr.unpaged dbr seg
+    (ptw_at core (directory_at dbr seg))
 
 -- the descriptor in two words, if its F is on (true); otherwise its directed fault
 abbrev pub live_by : Bool → ℕ → ℕ → Result SdwFields Refusal

@@ -247,4 +247,5 @@ sets_register r v g = completes (with_tested_value r v g)
 abbrev pub sets_register_to_negative : Working → ℕ → RegsFields → Result EffectFields ℕ
 sets_register_to_negative r v g =
     let s = negation (half r) v in
-    completes_or_overflows (with_value_and_indicators r s.value (set_zero_negative_overflow s g.ind) g) [] s.overflow
+    completes_or_overflows (with_value_and_indicators r s.value (set_zero_negative_overflow s g.ind)
+    g) [] s.overflow

@@ -35,7 +35,13 @@ processes_after o s i g =
 -- the event of a step of process i, whose registers are g
 abbrev pub event : {S : Type 0} → Store S → Processes S → ℕ → RegsFields → Event S
 event o s i g =
-    record { process = i; before = s; told = record_of o (process_of s g); after = processes_after o s i g }
+    record {
+      process = i;
+      before = s;
+      told = record_of o
+          (process_of s g);
+      after = processes_after o s i g;
+    }
 
 -- The events of a schedule that begins with process i: a step of this process, and then the events
 -- of `rest`. A number that no process has (None) is no event.

@@ -4,7 +4,8 @@ use Rattle.std.specs.Prelude.{ℕ, Bool, Result}
 use Rattle.m36_model.specs.Registers.{RegsFields}
 use Rattle.m36_model.specs.Shifts.{count_of, left_shift, left_shift_carry, copying_right_shift}
 use Rattle.m36_model.specs.Shifts.{plain_right_shift, rotation}
-use Rattle.m36_model.specs.Results.{EffectFields, Working, half, width, value, with_value_and_indicators, set_zero_negative, completes}
+use Rattle.m36_model.specs.Results.{EffectFields, Working, half, width, value}
+use Rattle.m36_model.specs.Results.{with_value_and_indicators, set_zero_negative, completes}
 use Rattle.m36_model.specs.Results.{sets_register}
 use Rattle.m36_model.specs.declared.registers.Ind.{Ind}
 

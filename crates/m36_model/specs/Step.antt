@@ -38,7 +38,8 @@ use Rattle.m36_model.specs.Results.{ring_only, place_only}
 use Rattle.m36_model.specs.WordsPut.{words_written, part_written}
 use Rattle.m36_model.specs.Transfers.{is_taken}
 use Rattle.m36_model.specs.Effect.{exec, is_absa}
-use Rattle.m36_model.specs.Store.{Store, Midstep, ProgramResult, State, initial_midstep, run, changes}
+use Rattle.m36_model.specs.Store.{Store, Midstep, ProgramResult, State, initial_midstep, run}
+use Rattle.m36_model.specs.Store.{changes}
 use Rattle.m36_model.specs.declared.outcome.Fault.{Fault}
 use Rattle.m36_model.specs.declared.outcome.Stop.TheVariants as stop
 use Rattle.m36_model.specs.declared.outcome.Halt.{Halt}
@@ -97,7 +98,8 @@ with_chain_tally g c = with_tally (tally_after_chain g.ind.tally c.runout) g
 -- The operation that performs the effect with an operand that is known. The effect sees tally
 -- runout as the chain has set it.
 abbrev pub perform : Effect → ℕ → RegsFields → ChainEnd → Part → ℕ → OperandFields → Operation
-perform e n g c part first o = done (operation_result g c part first (exec e n (with_chain_tally g c) c.last o))
+perform e n g c part first o =
+    done (operation_result g c part first (exec e n (with_chain_tally g c) c.last o))
 
 -- the operand of an effect that gets no word, ring or address
 abbrev pub no_operand : OperandFields
@@ -330,7 +332,8 @@ decode w = option_map effect_and_number (row_at (inst_of w).code (inst_of w).bit
 -- executes the instruction that was decoded from the word w; the machine stops if there is none
 abbrev pub execute_decoded : RegsFields → ℕ → Bool → Option (Effect × ℕ) → Act Ending
 execute_decoded g w privileged None = end_halted g (Some w) None (halt.Stop stop.Operation)
-execute_decoded g w privileged (Some row) = execute_unless_barred row.0 row.1 g w (is_barred row.0 privileged)
+execute_decoded g w privileged (Some row) =
+    execute_unless_barred row.0 row.1 g w (is_barred row.0 privileged)
 
 -- The right to privileged instructions: the segment that has the instruction is privileged, and the
 -- ring is 0.
@@ -341,7 +344,8 @@ has_right d ring = d.privileged && (ring == 0)
 abbrev pub execute_fetched : RegsFields → Result Answer Fault → Act Ending
 execute_fetched g (Err f) = end_halted g None None (halt.Fault f)
 execute_fetched g (Ok a) =
-    execute_decoded g (slice_index a.words 0) (has_right a.sdw g.ppr.prr) (decode (slice_index a.words 0))
+    execute_decoded g (slice_index a.words 0) (has_right a.sdw g.ppr.prr)
+    (decode (slice_index a.words 0))
 
 -- the request for the instruction word, in the ring of execution
 abbrev pub fetch_request : RegsFields → Request

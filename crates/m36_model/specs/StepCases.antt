@@ -28,7 +28,8 @@ use Rattle.m36_model.specs.Results.{OperandFields, EffectFields, words_only}
 use Rattle.m36_model.specs.Transfers.{is_taken}
 use Rattle.m36_model.specs.Effect.{exec, is_absa}
 use Rattle.m36_model.specs.WordsPut.{words_written, part_written}
-use Rattle.m36_model.specs.Step.{with_chain_tally, no_operand, request_at, got_word, got_words, got_place}
+use Rattle.m36_model.specs.Step.{with_chain_tally, no_operand, request_at, got_word, got_words}
+use Rattle.m36_model.specs.Step.{got_place}
 use Rattle.m36_model.specs.Step.{got_nothing, got_ring, direct_word, operate, outcome_of}
 use Rattle.m36_model.specs.Step.{outcome_after, formation, decode, has_right, fetch_request}
 use Rattle.m36_model.specs.Step.{immediate_halt, is_barred, start_of_step, record_of, state_after}
@@ -41,7 +42,8 @@ use Rattle.m36_model.specs.declared.outcome.Outcome.TheVariants.{Faulted}
 use Rattle.m36_model.specs.declared.record.StepRecord.{StepRecord}
 
 -- A step that changed only marks: its record and its state.
-pub record ChangedOnlyMarks {S : Type 0} (s : State S) (e : StepRecord) (t : State S) (m : Midstep S)
+pub record ChangedOnlyMarks {S : Type 0} (s : State S) (e : StepRecord) (t : State S)
+    (m : Midstep S)
     (word : Option ℕ) (at : Option FinalFields) (outcome : Outcome) : Type 0 where
   pub told :
       e
@@ -61,7 +63,8 @@ pub record IsFetched {S : Type 0} (o : Store S) (s : State S) (word : ℕ) (righ
     (m : Midstep S) : Type 0 where
   pub answer : Answer
   pub served :
-      serve o s.regs (start_of_step s) (fetch_request s.regs) ≡ record { reply = Ok answer; mid = m }
+      serve o s.regs (start_of_step s) (fetch_request s.regs)
+      ≡ record { reply = Ok answer; mid = m }
   pub word_is : slice_index answer.words 0 ≡ word
   pub right_is : has_right answer.sdw s.regs.ppr.prr ≡ right
 
@@ -144,7 +147,8 @@ IsClaimedFor o g c k m u =
 
 -- the operand is referenced by its kind
 abbrev pub IsOperandOf :
-    {S : Type 0} → Store S → RegsFields → Effect → ChainEnd → Operand → Midstep S → Reached S → Type 0
+    {S : Type 0} → Store S → RegsFields → Effect → ChainEnd → Operand → Midstep S → Reached S
+    → Type 0
 IsOperandOf o g e c kind.R m u = IsReferenced o g (request_at Read c 1) got_word m u
 IsOperandOf o g e c kind.R2 m u = IsReferenced o g (request_at Read c 2) got_words m u
 IsOperandOf o g e c kind.R16 m u = IsReferenced o g (request_at Read c 16) got_words m u
@@ -163,7 +167,8 @@ IsOperandOf o g e c kind.Call6 m u =
 
 -- the operand is referenced, or is a direct one that the instruction accepts
 abbrev pub IsOperand :
-    {S : Type 0} → Store S → RegsFields → Effect → ChainEnd → Option ℕ → Midstep S → Reached S → Type 0
+    {S : Type 0} → Store S → RegsFields → Effect → ChainEnd → Option ℕ → Midstep S → Reached S
+    → Type 0
 IsOperand o g e c None m u = IsOperandOf o g e c (operand_of e) m u
 IsOperand o g e c (Some w) m u =
     (takes_direct e ≡ true) × IsUnreferenced m (words_only (direct_word (operand_of e) w)) u
@@ -188,7 +193,8 @@ pub record HasEffect {S : Type 0} (o : Store S) (s : State S) (e : StepRecord)
   pub reached : Reached S
   pub operand : IsOperand o s.regs instruction end end.last.direct chained reached
   pub result : EffectFields
-  pub effected : exec instruction number (with_chain_tally s.regs end) end.last reached.operand ≡ Ok result
+  pub effected : exec instruction number (with_chain_tally s.regs end) end.last reached.operand
+      ≡ Ok result
   pub tallies : length chained.claims ≡ length end.pending
   pub words : length reached.spots ≡ length result.put
   pub told : e ≡ record {
@@ -216,7 +222,8 @@ pub data StepCase {S : Type 0} (o : Store S) (s : State S) (e : StepRecord)
       → ChangedOnlyMarks s e t m None None (Faulted f) → StepCase o s e t
   no_instruction :
       (word : ℕ) (right : Bool) (m : Midstep S) → IsFetched o s word right m → decode word ≡ None
-      → ChangedOnlyMarks s e t m (Some word) None (outcome_of (halt.Stop stop.Operation)) → StepCase o s e t
+      → ChangedOnlyMarks s e t m (Some word) None (outcome_of (halt.Stop stop.Operation))
+      → StepCase o s e t
   privilege_refused :
       (word : ℕ) (m : Midstep S) (i : Effect) (n : ℕ) → IsFetched o s word false m
       → decode word ≡ Some (i, n) → is_privileged i ≡ true
@@ -224,10 +231,12 @@ pub data StepCase {S : Type 0} (o : Store S) (s : State S) (e : StepRecord)
       → StepCase o s e t
   no_address :
       (word : ℕ) (m : Midstep S) (i : Effect) (n : ℕ) → IsAdmitted o s word i n m
-      → operand_of i ≡ kind.N → ChangedOnlyMarks s e t m (Some word) None (outcome_of (immediate_halt i s.regs))
+      → operand_of i ≡ kind.N → ChangedOnlyMarks s e t m (Some word) None
+      (outcome_of (immediate_halt i s.regs))
       → StepCase o s e t
   address_refused :
-      (word : ℕ) (before m : Midstep S) (i : Effect) (n : ℕ) (h : Halt) → IsAdmitted o s word i n before
+      (word : ℕ) (before m : Midstep S) (i : Effect) (n : ℕ) (h : Halt)
+      → IsAdmitted o s word i n before
       → forms_address (operand_of i) ≡ true
       → run o s.regs (formation s.regs (inst_of word)) before ≡ record { value = Err h; mid = m }
       → ChangedOnlyMarks s e t m (Some word) None (outcome_of h) → StepCase o s e t

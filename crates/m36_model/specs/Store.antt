@@ -4,7 +4,8 @@ use Rattle.std.specs.Prelude.{ℕ, zero, suc, ◌+◌, ◌-◌, ◌*◌, ◌/◌
 use Rattle.std.specs.Prelude.{◌&&◌, ◌==◌, nat_le, if◌then◌else◌, List, [], ◌∷◌, ◌++◌, map, length}
 use Rattle.std.specs.Prelude.{slice_get, Option, Some, None, Result, Ok, Err}
 use Rattle.m36_desc.specs.Fields.{SdwFields, DbrFields}
-use Rattle.m36_desc.specs.Access.{first_violation, has_ordered_brackets, ordered_rows, read_rows, write_rows}
+use Rattle.m36_desc.specs.Access.{first_violation, has_ordered_brackets, ordered_rows, read_rows}
+use Rattle.m36_desc.specs.Access.{write_rows}
 use Rattle.m36_desc.specs.Access.{fetch_rows, transfer_rows, call_rows}
 use Rattle.m36_desc.specs.Violations.{illegal_ring_order, out_of_segment_bounds}
 use Rattle.m36_model.specs.Faults.{access_violation}
@@ -160,7 +161,8 @@ when_ordered false given = Err (violation illegal_ring_order)
 -- a spot, by the descriptor of its segment: brackets in order, bound, and place
 abbrev pub place_by :
     Result SdwFields Refusal → (SdwFields → Result Spot Refusal) → ℕ → Result Spot Refusal
-place_by (Ok d) spot word = when_ordered (has_ordered_brackets d) (place_within (is_within_bound d word) (spot d))
+place_by (Ok d) spot word =
+    when_ordered (has_ordered_brackets d) (place_within (is_within_bound d word) (spot d))
 place_by (Err e) spot word = Err e
 
 -- The spot of a word of a segment, without access checks. Refused, in this order, if the segment
@@ -198,7 +200,8 @@ unfoldable pub spots_of :
     → Result (List Spot) (ℕ × Refusal)
 spots_of o s dbr d seg word zero = Ok []
 spots_of o s dbr d seg word (suc n) =
-    spots_from (is_within_bound d word) word (o.spot s dbr d seg word) (spots_of o s dbr d seg (word + 1) n)
+    spots_from (is_within_bound d word) word (o.spot s dbr d seg word)
+    (spots_of o s dbr d seg (word + 1) n)
 
 -- The spots of a check of a target: none. The word is refused if it is past the bound (false).
 abbrev pub bound_only : Bool → ℕ → Result (List Spot) (ℕ × Refusal)
@@ -332,10 +335,12 @@ serve_rights o g m q d None = serve_places o g m q d (spots_of_request o m.store
 
 -- the reply to a reference: the refusal of its descriptor, or as `serve_rights`
 abbrev pub serve_sdw :
-    {S : Type 0} → Store S → RegsFields → Midstep S → Request → Result SdwFields Refusal → ServeResult S
+    {S : Type 0} → Store S → RegsFields → Midstep S → Request → Result SdwFields Refusal
+    → ServeResult S
 serve_sdw o g m q (Err why) = refused_reply m q q.at.word why
 serve_sdw o g m q (Ok d) =
-    serve_rights o g m q d (refusing_violation q.kind d q.at.ring g.ppr.prr (q.at.seg == g.ppr.psr) q.at.word)
+    serve_rights o g m q d (refusing_violation q.kind d q.at.ring g.ppr.prr (q.at.seg == g.ppr.psr)
+    q.at.word)
 
 -- Serves a reference. Checked in this order: descriptor, brackets, rights, bound and place. Then
 -- its marks are set, and its words are read.
@@ -347,7 +352,8 @@ abbrev pub without_marks : {S : Type 0} → Store S → Store S
 without_marks o = record o { marked = λ s dbr kind seg word. s }
 
 -- the reply to a read of one word outside of any step: with access checks, but without marks
-unfoldable pub examined_reply : {S : Type 0} → Store S → RegsFields → S → AtFields → Result Answer Fault
+unfoldable pub examined_reply :
+    {S : Type 0} → Store S → RegsFields → S → AtFields → Result Answer Fault
 examined_reply o g s at =
     (serve (without_marks o) g (initial_midstep s)
     (record { kind = Read; at = at; count = 1; pending = [] })).reply

@@ -4,7 +4,8 @@ use Rattle.std.specs.Prelude.{◌≡◌, ℕ, Bool, true, false, ◌&&◌, ◌==
 use Rattle.std.specs.Prelude.{Some, Result, Ok}
 use Rattle.m36_desc.specs.Fields.{SdwFields, DbrFields}
 use Rattle.m36_model.specs.Act.{RequestKind}
-use Rattle.m36_model.specs.Store.{Spot, Core_word, Segment_word, Change, Store, with_part_written, is_placed}
+use Rattle.m36_model.specs.Store.{Spot, Core_word, Segment_word, Change, Store, with_part_written}
+use Rattle.m36_model.specs.Store.{is_placed}
 use Rattle.m36_model.specs.Sight.{content_in}
 use Rattle.m36_model.specs.declared.outcome.Refusal.{Refusal}
 
@@ -59,23 +60,29 @@ pub record Lawful {S : Type 0} (o : Store S) (dbr : DbrFields) (Has : S → Type
       → content_in o s dbr seg w ≡ Some (o.word s p)
   -- Different words of segments have different spots.
   pub apart :
-      (seg w seg' w' : ℕ) (p p' : Spot) → IsPlacedWord sdws spots seg w p → IsPlacedWord sdws spots seg' w' p'
+      (seg w seg' w' : ℕ) (p p' : Spot) → IsPlacedWord sdws spots seg w p
+      → IsPlacedWord sdws spots seg' w' p'
       → same_spot p p' ≡ true → (seg ≡ seg') × (w ≡ w')
   -- Third: marks change the tables only by marks, and change no word of a segment.
   pub marks_tables :
-      (s : S) → Has s → (kind : RequestKind) (seg w : ℕ) (p : Spot) → IsPlacedWord sdws spots seg w p
+      (s : S) → Has s → (kind : RequestKind) (seg w : ℕ) (p : Spot)
+      → IsPlacedWord sdws spots seg w p
       → Has (o.marked s dbr kind seg w)
   pub marks_word :
-      (s : S) → Has s → (kind : RequestKind) (seg w : ℕ) (p p' : Spot) → IsPlacedWord sdws spots seg w p
+      (s : S) → Has s → (kind : RequestKind) (seg w : ℕ) (p p' : Spot)
+      → IsPlacedWord sdws spots seg w p
       → Lies p' → o.word (o.marked s dbr kind seg w) p' ≡ o.word s p'
   pub marks_near :
-      (s : S) → Has s → (kind : RequestKind) (seg w : ℕ) (p : Spot) → IsPlacedWord sdws spots seg w p
+      (s : S) → Has s → (kind : RequestKind) (seg w : ℕ) (p : Spot)
+      → IsPlacedWord sdws spots seg w p
       → Near s (o.marked s dbr kind seg w)
   pub near_self : (s : S) → Near s s
   pub near_then : (s t u : S) → Near s t → Near t u → Near s u
   -- Writes to words of segments change no table, and no other word.
   pub put_tables :
-      (s : S) → Has s → (puts : List Change) → Each (IsSegmentChange sdws spots) puts → Has (o.put s puts)
+      (s : S) → Has s → (puts : List Change) → Each (IsSegmentChange sdws spots) puts
+      → Has (o.put s puts)
   pub put_word :
-      (s : S) → Has s → (puts : List Change) → Each (IsSegmentChange sdws spots) puts → (p : Spot) → Lies p
+      (s : S) → Has s → (puts : List Change) → Each (IsSegmentChange sdws spots) puts → (p : Spot)
+      → Lies p
       → o.word (o.put s puts) p ≡ overlay puts p (o.word s p)

@@ -3,23 +3,28 @@
 use Rattle.std.specs.Prelude.{ℕ, ◌+◌, ◌-◌, ◌^◌, false, not, nat_lt, if◌then◌else◌, [], Result}
 use Rattle.m36_model.specs.Registers.{RegsFields}
 use Rattle.m36_model.specs.Arithmetic.{SumFields, sum, difference}
-use Rattle.m36_model.specs.Results.{EffectFields, Working, A, half, value, words, with_value_and_indicators}
-use Rattle.m36_model.specs.Results.{with_indicators, set_zero_negative_carry, set_zero_negative_carry_overflow, completes}
+use Rattle.m36_model.specs.Results.{EffectFields, Working, A, half, value, words}
+use Rattle.m36_model.specs.Results.{with_value_and_indicators}
+use Rattle.m36_model.specs.Results.{with_indicators, set_zero_negative_carry}
+use Rattle.m36_model.specs.Results.{set_zero_negative_carry_overflow, completes}
 use Rattle.m36_model.specs.Results.{completes_or_overflows, sets_register_to_negative}
 
 -- a result to the register; zero, negative, carry and overflow are set
 unfoldable pub into_register : Working → SumFields → RegsFields → Result EffectFields ℕ
 into_register r s g =
-    completes_or_overflows (with_value_and_indicators r s.value (set_zero_negative_carry_overflow s g.ind) g) [] s.overflow
+    completes_or_overflows (with_value_and_indicators r s.value
+    (set_zero_negative_carry_overflow s g.ind) g) [] s.overflow
 
 -- a result to the register; zero, negative and carry are set, and overflow does not change
 unfoldable pub into_register_logical : Working → SumFields → RegsFields → Result EffectFields ℕ
-into_register_logical r s g = completes (with_value_and_indicators r s.value (set_zero_negative_carry s g.ind) g)
+into_register_logical r s g =
+    completes (with_value_and_indicators r s.value (set_zero_negative_carry s g.ind) g)
 
 -- a result to the operand; zero, negative, carry and overflow are set
 unfoldable pub into_operand : Working → SumFields → RegsFields → Result EffectFields ℕ
 into_operand r s g =
-    completes_or_overflows (with_indicators (set_zero_negative_carry_overflow s g.ind) g) (words r s.value)
+    completes_or_overflows (with_indicators (set_zero_negative_carry_overflow s g.ind) g)
+    (words r s.value)
     s.overflow
 
 -- ADA, ADQ, ADAQ, ADX, ADL: register plus value

@@ -6,7 +6,8 @@ use Rattle.m36_inst.specs.declared.effect.Effect.TheVariants as effect
 use Rattle.m36_model.specs.Fields.{FinalFields}
 use Rattle.m36_model.specs.Registers.{RegsFields}
 use Rattle.m36_model.specs.Pointers.{with_pr, pointer}
-use Rattle.m36_model.specs.Results.{EffectFields, X, with_value, next_word, yields_registers, completes}
+use Rattle.m36_model.specs.Results.{EffectFields, X, with_value, next_word, yields_registers}
+use Rattle.m36_model.specs.Results.{completes}
 
 -- Whether a transfer is taken, by the indicators. A transfer that is not taken examines no target
 -- (this project's choice).

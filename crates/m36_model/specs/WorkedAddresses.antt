@@ -10,10 +10,12 @@ use Rattle.m36_model.specs.Core.{core_store}
 use Rattle.m36_model.specs.Step.{record_of, state_after}
 use Rattle.m36_model.specs.Pointers.{pointer}
 use Rattle.m36_model.specs.Tally.{tally}
-use Rattle.m36_model.specs.Worked.{words_from, descriptor_entry, descriptor_with_rings, readable, writable, privileged}
+use Rattle.m36_model.specs.Worked.{words_from, descriptor_entry, descriptor_with_rings, readable}
+use Rattle.m36_model.specs.Worked.{writable, privileged}
 use Rattle.m36_model.specs.Worked.{gate_with_entries, with_last_block, procedure}
 use Rattle.m36_model.specs.Worked.{core_of, at_instruction, at_word, final_address_at, reference_to}
-use Rattle.m36_model.specs.Worked.{fault_outcome, violation_outcome, outcome_of_step, address_of_step}
+use Rattle.m36_model.specs.Worked.{fault_outcome, violation_outcome, outcome_of_step}
+use Rattle.m36_model.specs.Worked.{address_of_step}
 use Rattle.m36_model.specs.Worked.{references_of_step, registers_after, word_after}
 use Rattle.m36_model.specs.declared.place.Kind.TheVariants.{Fetch, Indirect, Read, Write}
 use Rattle.m36_model.specs.declared.outcome.Stop.TheVariants as stop
@@ -65,7 +67,8 @@ LastWordOfTheBoundIsRead = outcome_of_step (bound_state 0o000017235000) ≡ Next
 -- `lda 16` of word 20 is an access violation: out of segment bounds.
 abbrev pub WordPastTheBoundIsRefused : Type 0
 WordPastTheBoundIsRefused =
-    outcome_of_step (bound_state 0o000020235000) ≡ violation_outcome out_of_segment_bounds (at_word 1 0o20 0)
+    outcome_of_step (bound_state 0o000020235000)
+    ≡ violation_outcome out_of_segment_bounds (at_word 1 0o20 0)
 
 -- `lda pr0|0,*` in ring 1 reads the ITS pair 000123100043 000000000000 in segment 2, whose R1 is 4,
 -- so the ring is raised to 4. Segment 123 has brackets 0, 3, 3, and may not be read from ring 4.
@@ -241,7 +244,8 @@ DirectOperandIsTheAddress =
 abbrev pub DirectOperandsAreRefused : Type 0
 DirectOperandsAreRefused =
     (outcome_of_step (bound_state 0o000003600003) ≡ fault_outcome illegal_procedure (at_word 1 0 0))
-    × (outcome_of_step (bound_state 0o000003764007) ≡ fault_outcome illegal_procedure (at_word 1 0 0))
+    × (outcome_of_step (bound_state 0o000003764007)
+    ≡ fault_outcome illegal_procedure (at_word 1 0 0))
     × (outcome_of_step (bound_state 0o000003011007) ≡ Next)
 
 -- The instruction `lda 3` with tags 40, 41, 46, 47 and 50: three fault tags, reported at the
@@ -249,7 +253,8 @@ DirectOperandsAreRefused =
 abbrev pub TagsOfTheInstruction : Type 0
 TagsOfTheInstruction =
     (outcome_of_step (bound_state 0o000003235040) ≡ fault_outcome fault_tag_1 (at_word 1 0 0))
-    × (outcome_of_step (bound_state 0o000003235041) ≡ fault_outcome illegal_procedure (at_word 1 0 0))
+    × (outcome_of_step (bound_state 0o000003235041)
+    ≡ fault_outcome illegal_procedure (at_word 1 0 0))
     × (outcome_of_step (bound_state 0o000003235046) ≡ fault_outcome fault_tag_2 (at_word 1 0 0))
     × (outcome_of_step (bound_state 0o000003235047) ≡ fault_outcome fault_tag_3 (at_word 1 0 0))
     × (outcome_of_step (bound_state 0o000003235050) ≡ Stopped stop.Tag)

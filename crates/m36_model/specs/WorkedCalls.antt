@@ -9,9 +9,11 @@ use Rattle.m36_model.specs.Core.{core_store}
 use Rattle.m36_model.specs.Step.{state_after}
 use Rattle.m36_model.specs.Modification.{ptr}
 use Rattle.m36_model.specs.Pointers.{pointer}
-use Rattle.m36_model.specs.Worked.{words_from, descriptor_entry, descriptor_with_rings, readable, executable, writable}
+use Rattle.m36_model.specs.Worked.{words_from, descriptor_entry, descriptor_with_rings, readable}
+use Rattle.m36_model.specs.Worked.{executable, writable}
 use Rattle.m36_model.specs.Worked.{privileged, gate_with_entries, procedure}
-use Rattle.m36_model.specs.Worked.{core_of, at_instruction, at_word, fault_outcome, violation_outcome}
+use Rattle.m36_model.specs.Worked.{core_of, at_instruction, at_word, fault_outcome}
+use Rattle.m36_model.specs.Worked.{violation_outcome}
 use Rattle.m36_model.specs.Worked.{outcome_of_step, registers_after, word_after}
 use Rattle.m36_model.specs.declared.outcome.Outcome.TheVariants.{Next}
 
@@ -50,7 +52,8 @@ CallPastTheLimiter =
 -- A call from ring 6 is refused: the ring is above the call bracket.
 abbrev pub CallFromAboveTheBracket : Type 0
 CallFromAboveTheBracket =
-    outcome_of_step (at_gate 6 0o200001713100) ≡ violation_outcome out_of_call_bracket (at_word 3 1 6)
+    outcome_of_step (at_gate 6 0o200001713100)
+    ≡ violation_outcome out_of_call_bracket (at_word 3 1 6)
 
 -- Core with two segments. Segment 1 has `call6 pr2|1`. Segment 4 has E and G on and brackets 2, 3,
 -- 3.
@@ -81,7 +84,8 @@ OutwardCall = outcome_of_step (at_call 1 1) ≡ violation_outcome outward_call (
 
 -- A call from ring 1 through a pointer of ring 3 is refused: R2 is above ring 1.
 abbrev pub CallWithRaisedRing : Type 0
-CallWithRaisedRing = outcome_of_step (at_call 1 3) ≡ violation_outcome bad_outward_call (at_word 4 1 3)
+CallWithRaisedRing =
+    outcome_of_step (at_call 1 3) ≡ violation_outcome bad_outward_call (at_word 4 1 3)
 
 -- A call from ring 3 stays in ring 3, and PR7 is the base of the segment of PR6.
 abbrev pub CallWithinTheRing : Type 0

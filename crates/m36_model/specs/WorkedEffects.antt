@@ -31,7 +31,8 @@ ComparisonIsSigned =
 abbrev pub sum_core : List ℕ
 sum_core =
     core_of 0o100
-    (descriptor_entry 1 0o40 (procedure (descriptor_with_rings 0 0 0)) ++ words_from 0o40 (0o000001075000 ∷ 1 ∷ []))
+    (descriptor_entry 1 0o40 (procedure (descriptor_with_rings 0 0 0)) ++ words_from 0o40
+    (0o000001075000 ∷ 1 ∷ []))
 
 -- this core, at the sum, with 377777777777 in A
 abbrev pub at_sum : State (List ℕ)
@@ -137,7 +138,8 @@ RotationComesRound = rotate_left A 1 (with_a 0o400000000001) ≡ Ok (record {
 abbrev pub subroutine_core : List ℕ
 subroutine_core =
     core_of 0o100
-    (descriptor_entry 1 0o40 (procedure (descriptor_with_rings 0 0 0)) ++ words_from 0o43 (0o000005701000 ∷ []))
+    (descriptor_entry 1 0o40 (procedure (descriptor_with_rings 0 0 0)) ++ words_from 0o43
+    (0o000005701000 ∷ []))
 
 -- this core, at the instruction in ring 0
 abbrev pub at_subroutine : State (List ℕ)

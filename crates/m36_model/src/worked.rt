@@ -1,7 +1,8 @@
 //! Steps that were worked out by hand. Each is a theorem that the definitions compute.
 
 ghost use Rattle.m36_model.specs.WorkedAddresses.{LoadReadsItsWord, StopFollows};
-ghost use Rattle.m36_model.specs.WorkedAddresses.{LastWordOfTheBoundIsRead, WordPastTheBoundIsRefused};
+ghost use Rattle.m36_model.specs.WorkedAddresses.{LastWordOfTheBoundIsRead};
+ghost use Rattle.m36_model.specs.WorkedAddresses.{WordPastTheBoundIsRefused};
 ghost use Rattle.m36_model.specs.WorkedAddresses.{PairTakesTheBracketOfItsSegment};
 ghost use Rattle.m36_model.specs.WorkedAddresses.{SeventeenthIndirectWordLocksUp};
 ghost use Rattle.m36_model.specs.WorkedAddresses.{SixteenIndirectWordsAreServed};

@@ -1,5 +1,6 @@
 -- A block: pieces whose bytes are contiguous in one list.
-use Rattle.std.specs.Prelude.{ℕ, ◌≡◌, ◌≤◌, Bool, List, [], ◌∷◌, ◌+◌, ◌&&◌, length, take, drop, nat_le}
+use Rattle.std.specs.Prelude.{ℕ, ◌≡◌, ◌≤◌, Bool, List, [], ◌∷◌, ◌+◌, ◌&&◌, length, take, drop}
+use Rattle.std.specs.Prelude.{nat_le}
 use Rattle.std.specs.Prelude.{nat_lt, if◌then◌else◌}
 use Rattle.m36_outside.specs.Passing.{joined}
 

@@ -22,9 +22,12 @@ pub record GrowsWithinLimit (before after : List ℕ) : Type 0 where
 
 -- what an answer implies for the bytes that are left and for the text, before and after the read
 abbrev pub ChunkResult : Chunk → Option (List ℕ) → Option (List ℕ) → List ℕ → List ℕ → Type 0
-ChunkResult More old new before after = ConsumesIntoText old new before after × GrowsWithinLimit before after
-ChunkResult End old new before after = ConsumesIntoText old new before after × IsAtEnd new × (after ≡ before)
-ChunkResult TooLarge old new before after = ConsumesIntoText old new before after × (file_limit < length after)
+ChunkResult More old new before after =
+    ConsumesIntoText old new before after × GrowsWithinLimit before after
+ChunkResult End old new before after =
+    ConsumesIntoText old new before after × IsAtEnd new × (after ≡ before)
+ChunkResult TooLarge old new before after =
+    ConsumesIntoText old new before after × (file_limit < length after)
 ChunkResult Failed old new before after = ⊤
 ChunkResult NoMemory old new before after = ⊤
 

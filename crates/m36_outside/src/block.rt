@@ -1,13 +1,14 @@
 //! A block: pieces of output that are put at once.
 
-ghost use Rattle.std.specs.Prelude.{ℕ, [], ◌∷◌, ◌++◌, ◌+◌, ◌≡◌, ◌<◌, ◌≤◌, ◌==◌, length, get_or, take, slice_range};
+ghost use Rattle.std.specs.Prelude.{ℕ, [], ◌∷◌, ◌++◌, ◌+◌, ◌≡◌, ◌<◌, ◌≤◌, ◌==◌, length, get_or};
+ghost use Rattle.std.specs.Prelude.{take, slice_range};
 ghost use Rattle.std.specs.Bool.{OnTrue, OnFalse};
 ghost use Rattle.m36_outside.specs.Block.{has_room, is_room, offsets_of};
 ghost use Rattle.m36_outside.specs.Gathered.{Adds};
 ghost use Rattle.m36_outside.specs.Passing.{joined, TakesLines};
 ghost use Rattle.m36_outside.specs.Put.{PutResult, PutHasCause, OnFailed};
 
-use crate::log::{Entries, Log};
+use crate::call_log::{Entries, Log};
 use crate::sink::{Put, Sink};
 use crate::spelled::{SHORT, Spelled};
 use crate::text::Text;

@@ -3,14 +3,16 @@
 ghost use Rattle.std.specs.Prelude.{[], ◌∷◌, ◌++◌, ◌≡◌, ◌≤◌, ◌<◌, ◌^◌, None, MatchOption};
 ghost use Rattle.m36_outside.specs.Given.{ReadGives};
 ghost use Rattle.m36_outside.specs.ReadAnswer.{IsWithinLimit, ReadHasCause};
-ghost use Rattle.m36_outside.specs.System.{ReadHasError, WriteHasError, WriteTakes, WriteCalls, NamesFile, NamesNoFile, open_refusal_of, write_answer_of};
+ghost use Rattle.m36_outside.specs.System.{ReadHasError, WriteHasError, WriteTakes, WriteCalls};
+ghost use Rattle.m36_outside.specs.System.{NamesFile, NamesNoFile, open_refusal_of};
+ghost use Rattle.m36_outside.specs.System.{write_answer_of};
 ghost use Rattle.m36_outside.specs.WriteAnswer.{WriteResult, WriteHasCause};
 
+use crate::call_log::Log;
 use crate::faults::{count_after_put, count_after_read};
 use crate::file_logs::FileLogs;
 use crate::folder::{Folder, ReadAnswer, WriteAnswer};
 use crate::folder_calls::FolderCalls;
-use crate::log::Log;
 use crate::reading::read_and_log;
 use crate::replacing::write_file;
 use crate::sink::Put;

@@ -1,6 +1,6 @@
 //! The log of the files of a directory.
 
-use crate::log::Log;
+use crate::call_log::Log;
 use crate::name_calls::NameCall;
 use crate::text::Text;
 use std::io::ErrorKind;

@@ -2,8 +2,8 @@
 
 ghost use Rattle.std.specs.Prelude.{[], ◌∷◌, ◌++◌, ◌≡◌};
 
+use crate::call_log::{Entries, Log};
 use crate::folder::{ReadAnswer, WriteAnswer};
-use crate::log::{Entries, Log};
 use crate::text::Text;
 
 impl Entries<(Text, ReadAnswer)> for (&[u8], &ReadAnswer) {

@@ -51,6 +51,7 @@
 #![tactic(auto)]
 
 pub mod block;
+pub mod call_log;
 mod calls;
 pub mod directory;
 mod faults;
@@ -59,7 +60,6 @@ mod file_logs;
 pub mod folder;
 mod folder_calls;
 pub mod lines;
-pub mod log;
 mod logged;
 pub mod memory_folder;
 pub mod memory_lines;
@@ -79,10 +79,10 @@ pub mod text;
 mod writing;
 
 pub use block::Block;
+pub use call_log::{Entries, Log};
 pub use directory::DirFolder;
 pub use folder::{FILE_LIMIT, Folder, ReadAnswer, WriteAnswer};
 pub use lines::{Lines, Piece};
-pub use log::{Entries, Log};
 pub use memory_folder::MemFolder;
 pub use memory_lines::MemLines;
 pub use memory_sink::MemSink;

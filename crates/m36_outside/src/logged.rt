@@ -3,12 +3,13 @@
 //! Each call is proved for every reader and writer. If the bytes of a reader or writer are known,
 //! the contract says that they moved as logged.
 
-ghost use Rattle.std.specs.Prelude.{[], ◌∷◌, ◌++◌, ◌≡◌, ◌≤◌, ◌↔◌, Some, IfSome, IfNone, IsTrue, MatchOption, length, take};
+ghost use Rattle.std.specs.Prelude.{[], ◌∷◌, ◌++◌, ◌≡◌, ◌≤◌, ◌↔◌, Some, IfSome, IfNone, IsTrue};
+ghost use Rattle.std.specs.Prelude.{MatchOption, length, take};
 ghost use Rattle.std.specs.Bool.{OnTrue, OnFalse};
 ghost use Rattle.std.specs.Io.KnownBytes.{Appends, Consumes, IsAtEnd, Keeps};
 ghost use Rattle.m36_outside.specs.Signals.{Signals, IsFault, GivesUp};
 
-use crate::log::{Entries, Log};
+use crate::call_log::{Entries, Log};
 use crate::text::Text;
 use std::io::{Error, ErrorKind, Read, Write};
 

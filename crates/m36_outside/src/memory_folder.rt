@@ -1,6 +1,7 @@
 //! A folder in memory whose calls fail on request.
 
-ghost use Rattle.std.specs.Prelude.{[], ◌∷◌, ◌++◌, ◌≡◌, ◌≤◌, ◌<◌, ◌^◌, ◌↔◌, Some, IsTrue, IfOk, OnOk, OnErr};
+ghost use Rattle.std.specs.Prelude.{[], ◌∷◌, ◌++◌, ◌≡◌, ◌≤◌, ◌<◌, ◌^◌, ◌↔◌, Some, IsTrue, IfOk};
+ghost use Rattle.std.specs.Prelude.{OnOk, OnErr};
 ghost use Rattle.m36_outside.specs.CallPlan.{next_fails};
 ghost use Rattle.m36_outside.specs.Files.{with_file};
 ghost use Rattle.m36_outside.specs.FileList.{file_named};

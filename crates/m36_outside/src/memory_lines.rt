@@ -5,10 +5,10 @@ ghost use Rattle.m36_outside.specs.CallPlan.{next_fails};
 ghost use Rattle.m36_outside.specs.Passing.{PieceGives};
 ghost use Rattle.m36_outside.specs.Piece.{PieceResult, PieceHasCause};
 
+use crate::call_log::Log;
 use crate::calls::Calls;
 use crate::faults::raise;
 use crate::lines::{Lines, Piece};
-use crate::log::Log;
 use crate::remaining::Remaining;
 use crate::text::Text;
 use m36_word::NoMemory;

@@ -1,13 +1,14 @@
 //! An output in memory whose calls fail on request.
 
-ghost use Rattle.std.specs.Prelude.{◌≡◌, ◌+◌, ◌≤◌, ◌<◌, ◌^◌, ◌++◌, ◌↔◌, ◌⊎◌, Some, IsTrue, IfOk, length, vec_len, vec_capacity};
+ghost use Rattle.std.specs.Prelude.{◌≡◌, ◌+◌, ◌≤◌, ◌<◌, ◌^◌, ◌++◌, ◌↔◌, ◌⊎◌, Some, IsTrue, IfOk};
+ghost use Rattle.std.specs.Prelude.{length, vec_len, vec_capacity};
 ghost use Rattle.m36_outside.specs.Passing.{PutTakes, TakesLines, joined};
 ghost use Rattle.m36_outside.specs.Put.{PutResult, PutHasCause};
 
 use crate::block::Block;
+use crate::call_log::Log;
 use crate::calls::Calls;
 use crate::faults::raise;
-use crate::log::Log;
 use crate::sink::{Put, Sink};
 use crate::text::Text;
 use m36_word::NoMemory;

@@ -3,10 +3,11 @@
 //! The system is called by `make_new`, `rename` and `remove`. Each logs the call and whether the
 //! system did it.
 
-ghost use Rattle.std.specs.Prelude.{[], ◌∷◌, ◌++◌, ◌+◌, ◌≡◌, ◌<◌, true, false, MatchResult, MatchOption};
+ghost use Rattle.std.specs.Prelude.{[], ◌∷◌, ◌++◌, ◌+◌, ◌≡◌, ◌<◌, true, false, MatchResult};
+ghost use Rattle.std.specs.Prelude.{MatchOption};
 ghost use Rattle.m36_outside.specs.NameCalls.{ErrorUnless, MakesSpare, MakesNone, spare_name};
 
-use crate::log::{Entries, Log};
+use crate::call_log::{Entries, Log};
 use crate::text::Text;
 use arrayvec::ArrayString;
 use std::fs;

@@ -8,9 +8,9 @@ ghost use Rattle.m36_outside.specs.Given.{ReadGives};
 ghost use Rattle.m36_outside.specs.Passing.{PieceGives};
 ghost use Rattle.m36_outside.specs.System.{OpenHasError, PieceHasError};
 
+use crate::call_log::Log;
 use crate::folder::{FILE_LIMIT, ReadAnswer};
 use crate::lines::Piece;
-use crate::log::Log;
 use crate::logged::LoggedReader;
 use crate::text::Text;
 use m36_word::NoMemory;

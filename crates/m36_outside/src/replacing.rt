@@ -9,9 +9,9 @@ ghost use Rattle.m36_outside.specs.NameCalls.{ReplaceCalls, SpareUsed, SpareErro
 ghost use Rattle.m36_outside.specs.Put.{PutResult};
 ghost use Rattle.m36_outside.specs.System.{FileHasError, NotesWrite, PutHasError, NamesNoFile};
 
+use crate::call_log::Log;
 use crate::directory::name_of_file;
 use crate::file_logs::FileLogs;
-use crate::log::Log;
 use crate::name_calls::{make_spare, remove, rename};
 use crate::sink::Put;
 use crate::writing::write_and_log;

@@ -6,8 +6,8 @@ ghost use Rattle.m36_outside.specs.Put.{PutResult, PutHasCause};
 ghost use Rattle.m36_outside.specs.System.{PutHasError};
 
 use crate::block::{Block, TakenPart};
+use crate::call_log::Log;
 use crate::faults::count_after_put;
-use crate::log::Log;
 use crate::sink::{Put, Sink};
 use crate::text::Text;
 use crate::writing::write_and_log;
@@ -60,7 +60,8 @@ impl<R: Print + Drop> Sink for StdSink<R> {
     ghost faults = { λ s. s.faults };
 
     fn put(&mut self, piece: &[u8]) -> Put
-        ensures says { PutResult result (Some (joined self.old.taken)) (Some (joined self.new.taken))
+        ensures says { PutResult result (Some (joined self.old.taken))
+            (Some (joined self.new.taken))
             piece.now }
         ensures took { PutTakes result
             (Some (joined self.old.taken))

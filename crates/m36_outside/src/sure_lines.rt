@@ -5,8 +5,8 @@ ghost use Rattle.m36_outside.specs.Passing.{PieceGives};
 ghost use Rattle.m36_outside.specs.Piece.{PieceResult, PieceHasCause};
 ghost use Rattle.m36_outside.specs.Remaining.{piece_length};
 
+use crate::call_log::Log;
 use crate::lines::{Lines, Piece};
-use crate::log::Log;
 use crate::remaining::Remaining;
 use crate::text::Text;
 use m36_word::NoMemory;

@@ -5,7 +5,7 @@ ghost use Rattle.m36_outside.specs.Passing.{joined};
 ghost use Rattle.m36_outside.specs.Put.{PutResult, PutHasCause};
 
 use crate::block::Block;
-use crate::log::Log;
+use crate::call_log::Log;
 use crate::sink::{Put, Sink};
 use crate::text::Text;
 

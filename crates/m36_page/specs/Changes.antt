@@ -27,7 +27,8 @@ pub record IsPtwPlace (p : PagerFields) (a : ℕ) : Type 0 where
 
 -- a core word that a call may change: a page table word, or a word of a pageable frame
 abbrev pub IsChangeable : PagerFields → ℕ → Type 0
-IsChangeable p a = IsPtwPlace p a ⊎ ((1024 * p.first ≤ a) × (a < 1024 * (p.first + length p.holders)))
+IsChangeable p a =
+    IsPtwPlace p a ⊎ ((1024 * p.first ≤ a) × (a < 1024 * (p.first + length p.holders)))
 
 -- Pages may have moved: no content has changed, and no core word except page table words and words
 -- of pageable frames.

@@ -5,7 +5,8 @@ use Rattle.m36_model.specs.declared.place.Reference.{Reference}
 use Rattle.m36_page.specs.Changes.{is_pinned, OnlyMarkCleared}
 
 -- frame k is one of the pageable frames, and holds no page of the references
-pub record IsUnpinned (refs : List Reference) (holders : List (Option (ℕ × ℕ))) (k : ℕ) : Type 0 where
+pub record IsUnpinned (refs : List Reference) (holders : List (Option (ℕ × ℕ)))
+    (k : ℕ) : Type 0 where
   pub inside : k < length holders
   pub free : is_pinned refs (slice_index_or holders k None) ≡ false
 

@@ -3,7 +3,8 @@ use Rattle.std.specs.Prelude.{ℕ, ◌≡◌, ◌≢◌, ◌+◌, ◌*◌, ◌/�
 use Rattle.std.specs.Prelude.{slice_index, slice_index_or, slice_set, position, Some, None}
 use Rattle.m36_page.specs.Copied.{IsOutside}
 use Rattle.m36_page.specs.Fields.{TableFields, PagerFields}
-use Rattle.m36_page.specs.Residence.{is_table_of, has_page, spot_of, kept_word, absent_ptw, resident_ptw}
+use Rattle.m36_page.specs.Residence.{is_table_of, has_page, spot_of, kept_word, absent_ptw}
+use Rattle.m36_page.specs.Residence.{resident_ptw}
 use Rattle.m36_page.specs.Residence.{frame_of, Holds, IsPager, IsConsistent}
 use Rattle.m36_page.specs.Changes.{IsSameShape, KeepsContents, OthersStay}
 

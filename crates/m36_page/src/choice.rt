@@ -1,9 +1,11 @@
 //! Chooses the frame whose page is evicted.
 
-ghost use Rattle.std.specs.Prelude.{◌≡◌, ◌+◌, ◌≤◌, ◌<◌, true, false, length, slice_index, Some, None, IsSome, IfSome, IfNone};
+ghost use Rattle.std.specs.Prelude.{◌≡◌, ◌+◌, ◌≤◌, ◌<◌, true, false, length, slice_index, Some};
+ghost use Rattle.std.specs.Prelude.{None, IsSome, IfSome, IfNone};
 ghost use Rattle.m36_desc.specs.Descriptors.{ptw_of};
 ghost use Rattle.m36_page.specs.Changes.{refers_to_page, is_pinned};
-ghost use Rattle.m36_page.specs.Choice.{IsUnpinned, ArePinned, IsHeldSpot, ClearsMarksAt, AreInCore};
+ghost use Rattle.m36_page.specs.Choice.{IsUnpinned, ArePinned, IsHeldSpot, ClearsMarksAt};
+ghost use Rattle.m36_page.specs.Choice.{AreInCore};
 
 use crate::residence::ptw_in_core;
 use m36_core::Core;
@@ -143,7 +145,8 @@ fn unused_between(
     requires count { length spots.now ≡ length holders.now }
     requires inside { AreInCore holders.now spots.now core.old }
     ensures found { IfSome result (IsUnpinned references.now holders.now) }
-    ensures marks { ClearsMarksAt core.old core.new (IsHeldSpot references.now holders.now spots.now) }
+    ensures marks { ClearsMarksAt core.old core.new
+        (IsHeldSpot references.now holders.now spots.now) }
 {
     for k in from..to {
         if !is_skipped(core, references, holders[k], spots[k]) {
@@ -165,7 +168,8 @@ fn unused_from(
     requires count { length spots.now ≡ length holders.now }
     requires inside { AreInCore holders.now spots.now core.old }
     ensures found { IfSome result (IsUnpinned references.now holders.now) }
-    ensures marks { ClearsMarksAt core.old core.new (IsHeldSpot references.now holders.now spots.now) }
+    ensures marks { ClearsMarksAt core.old core.new
+        (IsHeldSpot references.now holders.now spots.now) }
 {
     let ahead = MOST_PASSED.min(holders.len() - hand);
     if let Some(k) = unused_between(core, references, holders, spots, hand, hand + ahead) {
@@ -192,7 +196,8 @@ pub(crate) fn choose(
     ensures found { IfSome result (IsUnpinned references.now holders.now) }
     ensures none { IfNone result (ArePinned references.now holders.now 0 (length holders.now)) }
     ensures same { IfNone result (core.new ≡ core.old) }
-    ensures marks { ClearsMarksAt core.old core.new (IsHeldSpot references.now holders.now spots.now) }
+    ensures marks { ClearsMarksAt core.old core.new
+        (IsHeldSpot references.now holders.now spots.now) }
 {
     let Some(free) = unpinned_from(holders, references, hand) else {
         return None;

@@ -1,6 +1,7 @@
 //! The words of the pages of a segment while these are in no frame.
 
-ghost use Rattle.std.specs.Prelude.{◌≡◌, ◌+◌, ◌-◌, ◌*◌, ◌≤◌, ◌<◌, ◌++◌, length, replicate, slice_index, slice_set, vec_capacity, IfOk};
+ghost use Rattle.std.specs.Prelude.{◌≡◌, ◌+◌, ◌-◌, ◌*◌, ◌≤◌, ◌<◌, ◌++◌, length, replicate};
+ghost use Rattle.std.specs.Prelude.{slice_index, slice_set, vec_capacity, IfOk};
 ghost use Rattle.m36_page.specs.Copied.{IsCopied};
 
 use crate::copying::{copy_in, copy_out};

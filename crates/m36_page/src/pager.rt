@@ -1,8 +1,14 @@
 //! The pager.
 
-ghost use Rattle.std.specs.Prelude.{ℕ, ◌≡◌, ◌≢◌, ◌+◌, ◌-◌, ◌^◌, ◌*◌, ◌/◌, ◌<◌, ◌≤◌, ◌⊎◌, true, false, ◌&&◌, if◌then◌else◌, length, slice_index_or, slice_set, replicate, IfOk, Some, None, IsSome, IfSome, IfNone, OnOk, OnErr};
-ghost use Rattle.m36_page.specs.Residence.{has_page, spot_of, kept_word, frame_of, content_of, Holds, IsPager, AgreesWithCore, AllEndBelow, HasFrames, IsConsistent};
-ghost use Rattle.m36_page.specs.Changes.{IsBrought, IsSet, IsUnpinnedPtwPlace, AllPinned, AllEmpty, AreAbsent};
+ghost use Rattle.std.specs.Prelude.{ℕ, ◌≡◌, ◌≢◌, ◌+◌, ◌-◌, ◌^◌, ◌*◌, ◌/◌, ◌<◌, ◌≤◌, ◌⊎◌, true};
+ghost use Rattle.std.specs.Prelude.{false, ◌&&◌, if◌then◌else◌, length, slice_index_or, slice_set};
+ghost use Rattle.std.specs.Prelude.{replicate, IfOk, Some, None, IsSome, IfSome, IfNone, OnOk};
+ghost use Rattle.std.specs.Prelude.{OnErr};
+ghost use Rattle.m36_page.specs.Residence.{has_page, spot_of, kept_word, frame_of, content_of};
+ghost use Rattle.m36_page.specs.Residence.{Holds, IsPager, AgreesWithCore, AllEndBelow, HasFrames};
+ghost use Rattle.m36_page.specs.Residence.{IsConsistent};
+ghost use Rattle.m36_page.specs.Changes.{IsBrought, IsSet, IsUnpinnedPtwPlace, AllPinned, AllEmpty};
+ghost use Rattle.m36_page.specs.Changes.{AreAbsent};
 ghost use Rattle.m36_page.specs.Choice.{IsUnpinned, ClearsMarksAt};
 ghost use Rattle.m36_page.specs.Given.{are_placed, initial_pager};
 ghost use Rattle.m36_page.specs.Moved.{IsEvicted, IsTakenIn, IsEmptied, IsKeptWordSet};
@@ -188,7 +194,8 @@ impl Pager {
         ensures found { IfSome result (IsUnpinned references.now self.now.holders) }
         ensures none { IfNone result (AllPinned self.now references.now) }
         ensures same { IfNone result (core.new ≡ core.old) }
-        ensures marks { ClearsMarksAt core.old core.new (IsUnpinnedPtwPlace self.now references.now) }
+        ensures marks { ClearsMarksAt core.old core.new
+            (IsUnpinnedPtwPlace self.now references.now) }
     {
         choose(core, references, &self.holders, &self.spots, self.hand)
     }
@@ -303,7 +310,8 @@ impl Pager {
         ensures inside { IfSome result (λ a. a < length core.now) }
         ensures set { IfSome result
             (λ a. (v : ℕ) → IsSet self.now core.now self.now (slice_set core.now a v) seg word v) }
-        ensures reads { IfSome result (λ a. (v : ℕ) → AgreesWithCore self.now (slice_set core.now a v)) }
+        ensures reads { IfSome result (λ a. (v : ℕ) → AgreesWithCore self.now
+            (slice_set core.now a v)) }
         ensures away { IfNone result (frame_of self.now core.now seg (word / 1024) ≡ None) }
         ensures pager { IsPager self.now }
     {

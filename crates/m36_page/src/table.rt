@@ -1,6 +1,7 @@
 //! Page tables.
 
-ghost use Rattle.std.specs.Prelude.{◌≡◌, ◌+◌, ◌*◌, ◌≤◌, ◌<◌, length, position, slice_index, slice_set, drop, ◌&&◌, map, Some, All, IsSome, IfSome, IfOk};
+ghost use Rattle.std.specs.Prelude.{◌≡◌, ◌+◌, ◌*◌, ◌≤◌, ◌<◌, length, position, slice_index};
+ghost use Rattle.std.specs.Prelude.{slice_set, drop, ◌&&◌, map, Some, All, IsSome, IfSome, IfOk};
 ghost use Rattle.m36_page.specs.Changes.{AreAbsent};
 ghost use Rattle.m36_page.specs.Copied.{IsCopied};
 ghost use Rattle.m36_page.specs.Given.{filled_table, fits_below, is_apart, are_placed};

@@ -169,7 +169,8 @@ end_code stage = if may_end stage then None else Some P1
 unfoldable pub codes_from : ParseState → List (Option (List ℕ)) → List (Option ProcsCode)
 codes_from s [] = end_code s.stage ∷ []
 codes_from s (line ∷ lines) =
-    result_err (state_after_line s (line_of line)) ∷ codes_from (state_or_previous s (state_after_line s (line_of line))) lines
+    result_err (state_after_line s (line_of line)) ∷ codes_from
+    (state_or_previous s (state_after_line s (line_of line))) lines
 
 -- the code of the first line, if it has one
 abbrev pub core_code : Result ℕ ImageCode → Option ProcsCode
@@ -178,7 +179,8 @@ core_code (Err code) = Some P1
 
 -- the state after the first line, with a core of `size` words
 abbrev pub initial_parse_state : ℕ → ParseState
-initial_parse_state size = record { stage = Naming; size = size; processes = 0; next = 0; events = 0 }
+initial_parse_state size =
+    record { stage = Naming; size = size; processes = 0; next = 0; events = 0 }
 
 -- the code of each line, if it has one, and of a missing line at the end
 abbrev pub line_codes : List (Option (List ℕ)) → List (Option ProcsCode)

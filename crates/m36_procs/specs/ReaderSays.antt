@@ -3,7 +3,8 @@ use Rattle.std.specs.Prelude.{ℕ, ◌≡◌, ◌<◌, ⊤, true, List, ◌++◌
 use Rattle.m36_image.specs.BareImage.{at_words}
 use Rattle.m36_image.specs.ImageState.{written_all}
 use Rattle.m36_procs.specs.ProcsFields.{ProcsFields}
-use Rattle.m36_procs.specs.ProcsFile.{Line, line_by, ParseState, state_after_line, may_end, process_of, placed_of}
+use Rattle.m36_procs.specs.ProcsFile.{Line, line_by, ParseState, state_after_line, may_end}
+use Rattle.m36_procs.specs.ProcsFile.{process_of, placed_of}
 use Rattle.m36_procs.specs.ProcsFile.{turns_of}
 use Rattle.m36_procs.specs.IsProcs.{IsWithinLimits}
 use Rattle.m36_procs.specs.declared.fault.LineFault.{LineFault}

@@ -5,7 +5,8 @@ use Rattle.std.specs.Borrow.{Bor}
 use Rattle.m36_text.specs.Lines.{lines_of, line_at, first_present}
 use Rattle.m36_image.specs.BareImage.{core_line}
 use Rattle.m36_image.specs.ImageState.{written_all}
-use Rattle.m36_procs.specs.ProcsFile.{codes_from, core_code, initial_parse_state, processes_in, placed_in}
+use Rattle.m36_procs.specs.ProcsFile.{codes_from, core_code, initial_parse_state, processes_in}
+use Rattle.m36_procs.specs.ProcsFile.{placed_in}
 use Rattle.m36_procs.specs.ProcsFile.{turns_in}
 use Rattle.m36_procs.specs.ReaderSays.{IsReaderInvariant, parse_state_of}
 use Rattle.m36_procs.specs.declared.fault.ProcsCode.{ProcsCode}
@@ -23,7 +24,8 @@ IsFirstFault NoMemory n codes = ⊤
 
 -- The first line was parsed: core has its size and is zero, no process or turn was read yet, and
 -- `rest` is the text after the line.
-pub record FirstLineWasRead (r : Reader) (rest : List ℕ) (lines : List (Option (List ℕ))) : Type 0 where
+pub record FirstLineWasRead (r : Reader) (rest : List ℕ)
+    (lines : List (Option (List ℕ))) : Type 0 where
   pub frames : ℕ
   pub line : core_line (line_at lines 1) ≡ Ok frames
   pub stands : parse_state_of r ≡ initial_parse_state (1024 * frames)
@@ -33,9 +35,11 @@ pub record FirstLineWasRead (r : Reader) (rest : List ℕ) (lines : List (Option
   pub others : drop 1 lines ≡ lines_of rest
 
 -- the result of parsing the first line
-abbrev pub FirstLineResult : Result (Reader × Bor (List ℕ)) ProcsFault → List (Option (List ℕ)) → Type 0
+abbrev pub FirstLineResult :
+    Result (Reader × Bor (List ℕ)) ProcsFault → List (Option (List ℕ)) → Type 0
 FirstLineResult (Ok begun) lines = FirstLineWasRead begun.0 begun.1.now lines
-FirstLineResult (Err fault) lines = IsFirstFault fault 1 (core_code (core_line (line_at lines 1)) ∷ [])
+FirstLineResult (Err fault) lines =
+    IsFirstFault fault 1 (core_code (core_line (line_at lines 1)) ∷ [])
 
 -- All lines after the first were accepted.
 pub record TookLines (old new : Reader) (lines : List (Option (List ℕ))) : Type 0 where

@@ -3,7 +3,8 @@
 ghost use Rattle.std.specs.Prelude.{◌≡◌, ◌<◌, ◌≤◌, [], ◌∷◌, ◌++◌, OnOk};
 ghost use Rattle.std.specs.List.{repeat};
 ghost use Rattle.m36_text.specs.Lines.{words_of};
-ghost use Rattle.m36_procs.specs.ProcsFile.{are_process_numbers, most_events, events_with, line_in, may_have_process_line, may_have_at_line, may_end};
+ghost use Rattle.m36_procs.specs.ProcsFile.{are_process_numbers, most_events, events_with, line_in};
+ghost use Rattle.m36_procs.specs.ProcsFile.{may_have_process_line, may_have_at_line, may_end};
 ghost use Rattle.m36_procs.specs.ProcsFile.Line.{ProcessLine, TurnsLine};
 ghost use Rattle.m36_procs.specs.ReaderSays.{IsReaderInvariant, TakeResult, at_or_other_line};
 

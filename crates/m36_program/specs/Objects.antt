@@ -15,7 +15,8 @@ abbrev pub objects_as_world :
     {F L S : Type 0} → (F → List Asked) → (F → List Wrote) → (F → Option Files) → (F → ℕ) → (F → ℕ)
     → (L → List (List ℕ)) → (L → Option (List ℕ)) → (L → ℕ)
     → (S → List (List ℕ)) → (S → Option (List ℕ)) → (S → ℕ) → F → L → S → Seen
-objects_as_world asked wrote files read_faults write_faults given left input_faults taken written faults
+objects_as_world asked wrote files read_faults write_faults given left input_faults taken written
+    faults
     folder input output = record {
       events = [];
       reads = asked folder;

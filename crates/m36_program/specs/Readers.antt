@@ -1,5 +1,5 @@
--- Programs that several commands share: to refuse a file, read the bytes of a file, put a piece, and
--- write a file.
+-- Programs that several commands share: to refuse a file, read the bytes of a file, put a piece,
+-- and write a file.
 use Rattle.std.specs.Prelude.{ℕ, ◌≡◌, true, ⊤, List}
 use Rattle.m36_status.specs.declared.status.Bad.{Bad}
 use Rattle.m36_status.specs.declared.status.Code.{Code}

@@ -69,10 +69,13 @@ relocated_def m d =
     record { section = s.section; value = s.offset; is_entry = d.is_entry }
 
 -- the table with a definition of a component, at its place in the bound object
-abbrev pub with_relocated_definition : Relocation → List (List ℕ × Export) → Named → List (List ℕ × Export)
+abbrev pub with_relocated_definition :
+    Relocation → List (List ℕ × Export) → Named → List (List ℕ × Export)
 with_relocated_definition m table d = with_definition table d (relocated_def m d.def)
 
 -- the table with the definitions of a component, at their places in the bound object
-unfoldable pub with_relocated_definitions : Relocation → List (List ℕ × Export) → List Named → List (List ℕ × Export)
+unfoldable pub with_relocated_definitions :
+    Relocation → List (List ℕ × Export) → List Named → List (List ℕ × Export)
 with_relocated_definitions m table [] = table
-with_relocated_definitions m table (d ∷ ds) = with_relocated_definitions m (with_relocated_definition m table d) ds
+with_relocated_definitions m table (d ∷ ds) =
+    with_relocated_definitions m (with_relocated_definition m table d) ds

@@ -45,7 +45,8 @@ denoted_in_version_2 links v =
 
 -- what an offset of the linkage section past its head denotes
 abbrev pub denoted_past_head : ShapeFields → ℕ → Denoted
-denoted_past_head s v = if s.newer then denoted_in_version_2 s.links v else denoted_in_version_1 s.statics v
+denoted_past_head s v =
+    if s.newer then denoted_in_version_2 s.links v else denoted_in_version_1 s.statics v
 
 -- what an offset of the linkage section denotes
 abbrev pub denoted_in_linkage : ShapeFields → ℕ → Denoted
@@ -101,7 +102,8 @@ text_word_place b v = section_place Text (b.text + v)
 
 -- the place of a static word of the bound object
 abbrev pub static_word_place : ShapeFields → ℕ → BoundPlace
-static_word_place f w = if f.newer then section_place Static w else section_place Linkage (head_words + w)
+static_word_place f w =
+    if f.newer then section_place Static w else section_place Linkage (head_words + w)
 
 -- the place in the bound object of a word of a component
 abbrev pub bound_place_of : ShapeFields → BasesFields → Denoted → BoundPlace

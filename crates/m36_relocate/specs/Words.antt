@@ -35,13 +35,16 @@ relocated_negative b Symbol v = v
 -- the relocated number of bits 3 to 17, plus 2^15
 unfoldable pub biased_offset : Relocation → Section → ℕ → ℕ
 biased_offset m target v =
-    if nat_lt v offset_limit then 2 ^ 15 + relocated_number m target v else relocated_negative m.bases target v
+    if nat_lt v offset_limit then 2 ^ 15 + relocated_number m target v else relocated_negative
+    m.bases target v
 
 -- the word with the part of a relocation relocated
 unfoldable pub relocated_word : Relocation → RelocFields → ℕ → ℕ
 relocated_word m r w =
-    if nat_eq r.part left_part then word_with_halves (relocated_number m r.target (left w)) (right w)
-    else if nat_eq r.part right_part then word_with_halves (left w) (relocated_number m r.target (right w))
+    if nat_eq r.part left_part then word_with_halves (relocated_number m r.target (left w))
+    (right w)
+    else if nat_eq r.part right_part then word_with_halves (left w)
+    (relocated_number m r.target (right w))
     else with_offset w (biased_offset m r.target (bits_3_to_17 w))
 
 -- whether the relocated part fits: bits 3 to 17 must be from -2^14 to 2^14 - 1
@@ -55,7 +58,8 @@ part_fits m r w =
 
 -- whether a relocation is of a static word, or of the text, as `statics` says
 abbrev pub is_relocation_in : Bool → RelocFields → Bool
-is_relocation_in statics r = if statics then not (is_text_section r.section) else is_text_section r.section
+is_relocation_in statics r =
+    if statics then not (is_text_section r.section) else is_text_section r.section
 
 -- the offset from which relocations count the static words, or the words of the text, as `statics`
 -- says
@@ -86,18 +90,21 @@ with_word_relocated m r i words = if nat_lt i (length words)
 -- words relocated by a relocation, if it is one of these words
 unfoldable pub with_relocation_applied : Relocation → Bool → RelocFields → List ℕ → List ℕ
 with_relocation_applied m statics r words =
-    if is_relocation_in statics r then with_word_relocated m r (word_index_of m.shape statics r) words else words
+    if is_relocation_in statics r then with_word_relocated m r
+    (word_index_of m.shape statics r) words else words
 
 -- words relocated by these relocations, one after another; relocations of other words change
 -- nothing
 unfoldable pub relocated_words : Relocation → Bool → List RelocFields → List ℕ → List ℕ
 relocated_words m statics [] words = words
-relocated_words m statics (r ∷ rs) words = relocated_words m statics rs (with_relocation_applied m statics r words)
+relocated_words m statics (r ∷ rs) words =
+    relocated_words m statics rs (with_relocation_applied m statics r words)
 
 -- whether the part of a relocation fits, if it is one of these words
 unfoldable pub one_fits : Relocation → Bool → List ℕ → RelocFields → Bool
 one_fits m statics words r =
-    if is_relocation_in statics r then part_fits m r (slice_index words (word_index_of m.shape statics r))
+    if is_relocation_in statics r then part_fits m r
+    (slice_index words (word_index_of m.shape statics r))
     else true
 
 -- whether the parts of all relocations of these words fit

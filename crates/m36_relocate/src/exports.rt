@@ -1,7 +1,10 @@
 //! Tables of definitions by their names.
 
 ghost use Rattle.std.specs.Prelude.{ℕ, ◌≡◌, ◌^◌, ◌<◌, [], IfOk, OnOk};
-ghost use Rattle.m36_relocate.specs.Exports.{export_named, export_after, with_export, is_symbol, with_definition, with_own_definition, with_own_definitions, relocated_def, with_relocated_definition, with_relocated_definitions};
+ghost use Rattle.m36_relocate.specs.Exports.{export_named, export_after, with_export, is_symbol};
+ghost use Rattle.m36_relocate.specs.Exports.{with_definition, with_own_definition};
+ghost use Rattle.m36_relocate.specs.Exports.{with_own_definitions, relocated_def};
+ghost use Rattle.m36_relocate.specs.Exports.{with_relocated_definition, with_relocated_definitions};
 
 use crate::layout::{Relocation, relocated_place};
 use indexmap::IndexMap;

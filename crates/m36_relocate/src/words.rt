@@ -2,7 +2,11 @@
 
 ghost use Rattle.std.specs.Prelude.{◌≡◌, ◌+◌, ◌-◌, ◌*◌, ◌/◌, ◌%◌, ◌^◌, ◌<◌, slice_index};
 ghost use Rattle.obj36_parts.specs.Halves.{bits_3_to_17};
-ghost use Rattle.m36_relocate.specs.Words.{with_offset, relocated_negative, biased_offset, relocated_word, part_fits, is_relocation_in, start_of, word_index_of, with_word_relocated, with_relocation_applied, relocated_words, one_fits, all_fit};
+ghost use Rattle.m36_relocate.specs.Words.{with_offset, relocated_negative, biased_offset};
+ghost use Rattle.m36_relocate.specs.Words.{relocated_word, part_fits, is_relocation_in, start_of};
+ghost use Rattle.m36_relocate.specs.Words.{word_index_of, with_word_relocated};
+ghost use Rattle.m36_relocate.specs.Words.{with_relocation_applied, relocated_words, one_fits};
+ghost use Rattle.m36_relocate.specs.Words.{all_fit};
 
 use crate::layout::{Bases, Relocation, Shape, relocated_number};
 use m36_word::Word;

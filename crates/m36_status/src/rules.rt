@@ -6,7 +6,8 @@ ghost use Rattle.m36_text.specs.Packing.{unpacked};
 ghost use Rattle.obj36_parts.specs.ObjectSegment.{segment_limit};
 ghost use Rattle.obj36.specs.ObjectOf.{object_of};
 ghost use Rattle.m36_status.specs.Refusing.{IsRuleResult, IsRuleRefusal};
-ghost use Rattle.m36_status.specs.Rules.{file_refusal, check_word_count, file_refusal_at, words_or_refusal, object_refusal, object_or_refusal};
+ghost use Rattle.m36_status.specs.Rules.{file_refusal, check_word_count, file_refusal_at};
+ghost use Rattle.m36_status.specs.Rules.{words_or_refusal, object_refusal, object_or_refusal};
 
 use crate::refusal::Refusal;
 use crate::status::{Bad, Code};

@@ -88,4 +88,5 @@ abbrev pub EndsFormed :
     RegsFields → Act Ending → List ℕ → Formed → List Reference → List ℕ → List Reference
     → RegsFields → Ended → Type 0
 EndsFormed g program core f refs core' refs' g' e =
-    end_of_run (run core_store g program (midstep_after_address core f refs)) ≡ code_end core' refs' g' e
+    end_of_run (run core_store g program (midstep_after_address core f refs))
+    ≡ code_end core' refs' g' e

@@ -109,7 +109,8 @@ machine_possible m = (refl, refl)
 
 kept_by :
     (ended : Option End) (s : State (List ℕ))
-    → IsStepOrEnd (after_given_end ended s ≡ record { state = s; ended = ended }) (turn_given_end ended s)
+    → IsStepOrEnd (after_given_end ended s ≡ record { state = s; ended = ended })
+    (turn_given_end ended s)
 kept_by None s = tt
 kept_by (Some e) s = refl
 

@@ -50,14 +50,17 @@ performed_by f g put o = record { regs = g; puts = puts_of f put o; overflow = o
 
 -- the program of an operation, run over core from the state in which the address is formed
 abbrev pub run_after_address :
-    RegsFields → Operation → Formed → List ℕ → List Reference → ProgramResult (Result Performed Halt) (List ℕ)
-run_after_address g program f core refs = run core_store g program (midstep_after_address core f refs)
+    RegsFields → Operation → Formed → List ℕ → List Reference
+    → ProgramResult (Result Performed Halt) (List ℕ)
+run_after_address g program f core refs =
+    run core_store g program (midstep_after_address core f refs)
 
 -- the run of the operation of an instruction, from the state in which its address is formed
 abbrev pub run_of_operation :
     Effect → ℕ → RegsFields → Formed → List ℕ → List Reference
     → ProgramResult (Result Performed Halt) (List ℕ)
-run_of_operation e n g f core refs = run_after_address g (operate e n g (chain_end_fields f)) f core refs
+run_of_operation e n g f core refs =
+    run_after_address g (operate e n g (chain_end_fields f)) f core refs
 
 -- The end of the run of `run_of_operation`, by the result of the code, with the registers after it
 -- and the words to write. If the operation is refused, it has claimed nothing more.
@@ -66,7 +69,8 @@ abbrev pub operated_end :
     → ProgramResult (Result Performed Halt) (List ℕ)
 operated_end core refs f g put (Ok o) =
     record { value = Ok (performed_by f g put o); mid = midstep_with core (claims_of f put o) refs }
-operated_end core refs f g put (Err h) = record { value = Err h; mid = midstep_after_address core f refs }
+operated_end core refs f g put (Err h) =
+    record { value = Err h; mid = midstep_after_address core f refs }
 
 -- the tally word, if there is one, has a place in core
 abbrev pub TallyIsInCore : Option Tally → ℕ → ℕ → Type 0

@@ -7,7 +7,8 @@ use Rattle.m36_model.specs.Chain.{chain_end_fields}
 use Rattle.m36_model.specs.Core.{core_store}
 use Rattle.m36_model.specs.Fields.{FinalFields}
 use Rattle.m36_model.specs.Registers.{RegsFields}
-use Rattle.m36_model.specs.Step.{Ending, form_and_operate, decode, execute_decoded, operate_and_end, program}
+use Rattle.m36_model.specs.Step.{Ending, form_and_operate, decode, execute_decoded, operate_and_end}
+use Rattle.m36_model.specs.Step.{program}
 use Rattle.m36_model.specs.Store.{Midstep, run}
 use Rattle.m36_model.specs.declared.outcome.Outcome.TheVariants.{Next}
 use Rattle.m36_model.specs.declared.place.Reference.{Reference}
@@ -24,7 +25,8 @@ next_end w last = record { word = Some w; at = Some last; outcome = Next }
 
 -- The program, run from this state of a step, ends with the outcome Next, and leaves this core and
 -- these registers. The recorder has its references and its end (`Tells`).
-pub record EndsWithNext (Tells : List Reference → Ended → Type 0) (g : RegsFields) (act : Act Ending)
+pub record EndsWithNext (Tells : List Reference → Ended → Type 0) (g : RegsFields)
+    (act : Act Ending)
     (mid : Midstep (List ℕ)) (core : List ℕ) (after : RegsFields) (w : ℕ) : Type 0 where
   pub refs : List Reference
   pub last : FinalFields
@@ -37,14 +39,16 @@ abbrev pub EndsWithNextAlways :
     (List Reference → Type 0) → (List Reference → Ended → Type 0) → RegsFields → Act Ending
     → List ℕ → List ℕ → RegsFields → ℕ → Type 0
 EndsWithNextAlways Has Tells g act core core' after w =
-    (refs : List Reference) → Has refs → EndsWithNext Tells g act (midstep_with core [] refs) core' after w
+    (refs : List Reference) → Has refs → EndsWithNext Tells g act
+    (midstep_with core [] refs) core' after w
 
 -- The operation of an instruction whose address has no tally word ends as in `EndsWithNextAlways`.
 abbrev pub Operates :
     (List Reference → Type 0) → (List Reference → Ended → Type 0) → Quick → RegsFields → ℕ
     → FinalFields → List ℕ → List ℕ → RegsFields → Type 0
 Operates Has Tells q g w last core core' after =
-    EndsWithNextAlways Has Tells g (operate_and_end q.effect q.reg g w (chain_end_fields (without_tally last)))
+    EndsWithNextAlways Has Tells g (operate_and_end q.effect q.reg g w
+    (chain_end_fields (without_tally last)))
     core core' after w
 
 -- the formed address of an instruction that has counted a tally word
@@ -58,18 +62,20 @@ abbrev pub OperatesCounted :
     → Counting → List ℕ → List ℕ → RegsFields → Type 0
 OperatesCounted Has Tells q g w c core core' after =
     (refs : List Reference) → Has refs
-    → EndsWithNext Tells g (operate_and_end q.effect q.reg g w (chain_end_fields (counted_address c)))
+    → EndsWithNext Tells g (operate_and_end q.effect q.reg g w
+    (chain_end_fields (counted_address c)))
     (midstep_after_address core (counted_address c) refs) core' after w
 
--- The program of an instruction, from the formation of its address on, ends as in `EndsWithNextAlways`.
+-- The program of an instruction, from the formation of its address on, ends as in
+-- `EndsWithNextAlways`.
 abbrev pub Addresses :
     (List Reference → Type 0) → (List Reference → Ended → Type 0) → Quick → RegsFields → ℕ
     → List ℕ → List ℕ → RegsFields → Type 0
 Addresses Has Tells q g w core core' after =
     EndsWithNextAlways Has Tells g (form_and_operate q.effect q.reg g w) core core' after w
 
--- The program of an instruction, from the lookup of its row on, ends as in `EndsWithNextAlways`, whether or not
--- it may be a privileged one.
+-- The program of an instruction, from the lookup of its row on, ends as in `EndsWithNextAlways`,
+-- whether or not it may be a privileged one.
 abbrev pub Decodes :
     (List Reference → Type 0) → (List Reference → Ended → Type 0) → RegsFields → ℕ → List ℕ
     → List ℕ → RegsFields → Type 0

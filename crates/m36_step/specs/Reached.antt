@@ -37,7 +37,8 @@ abbrev pub unwritten_end :
     Effect → ℕ → RegsFields → Formed → List ℕ → List Reference → Operand36 → Result Reached Fault
     → ProgramResult (Result Performed Halt) (List ℕ)
 unwritten_end e n g f core refs o (Ok u) =
-    run_after_address g (perform e n g (chain_end_fields f) (part_of u.part) 0 (operand_fields o)) f core
+    run_after_address g (perform e n g (chain_end_fields f) (part_of u.part) 0 (operand_fields o)) f
+    core
     refs
 unwritten_end e n g f core refs o (Err fault) = refused_end f core refs fault
 

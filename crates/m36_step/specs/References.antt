@@ -24,14 +24,16 @@ read_served d core f refs (Ok words) =
       reply = Ok (answer_of_words d (claimed_by f.tally f.place) words);
       mid = midstep_after_address core f refs;
     }
-read_served d core f refs (Err fault) = record { reply = Err fault; mid = midstep_after_address core f refs }
+read_served d core f refs (Err fault) =
+    record { reply = Err fault; mid = midstep_after_address core f refs }
 
 -- Core serves this Read, and the answer has these words or this refusal.
 abbrev pub ServesRead :
     RegsFields → Formed → ℕ → Memory → List Reference → List ℕ → List Reference
     → Result (List ℕ) Fault → Type 0
 ServesRead g f count m refs core refs' words =
-    serve core_store g (midstep_after_address m.core f refs) (request_at Read (chain_end_fields f) count)
+    serve core_store g (midstep_after_address m.core f refs)
+    (request_at Read (chain_end_fields f) count)
     ≡ read_served (sdw_in m f.last.at.seg) core f refs' words
 
 -- the answer to a Write, given the place of the first word, or the refusal
@@ -50,5 +52,6 @@ abbrev pub ServesWrite :
     RegsFields → Formed → ℕ → Memory → List Reference → List ℕ → List Reference → Result ℕ Fault
     → Type 0
 ServesWrite g f count m refs core refs' place =
-    serve core_store g (midstep_after_address m.core f refs) (request_at Write (chain_end_fields f) count)
+    serve core_store g (midstep_after_address m.core f refs)
+    (request_at Write (chain_end_fields f) count)
     ≡ write_served (sdw_in m f.last.at.seg) core f count refs' place

@@ -207,7 +207,8 @@ pub(crate) fn execute_effect(
 /// Whether a transfer is taken, if tally runout is as the tally word of its address has set it.
 #[tactic(auto, unfolding(m36_model::specs::Step::with_chain_tally))]
 pub(crate) fn is_taken(row: &Row, regs: &Regs, formed: &Formed) -> bool
-    ensures { result ≡ is_taken row.now.effect (with_chain_tally regs.now (chain_end_fields formed.now)) }
+    ensures { result ≡ is_taken row.now.effect
+        (with_chain_tally regs.now (chain_end_fields formed.now)) }
 {
     match formed.tally {
         None => m36_xfer::is_taken(row.effect, regs),

@@ -10,7 +10,8 @@ ghost use Rattle.m36_inst.specs.Operands.{operand_of};
 ghost use Rattle.m36_model.specs.Chain.{chain_end_fields};
 ghost use Rattle.m36_model.specs.Modification.{here};
 ghost use Rattle.m36_model.specs.Registers.{RegsFields};
-ghost use Rattle.m36_model.specs.Step.{program, execute_decoded, decode, execute_unless_barred, is_barred, execute_admitted, immediate_halt};
+ghost use Rattle.m36_model.specs.Step.{program, execute_decoded, decode, execute_unless_barred};
+ghost use Rattle.m36_model.specs.Step.{is_barred, execute_admitted, immediate_halt};
 ghost use Rattle.m36_model.specs.Step.{form_and_operate, operate_and_end};
 ghost use Rattle.m36_step.specs.Ended.{EndsAs, EndsFormed, completed_end};
 
@@ -134,7 +135,8 @@ fn execute_permitted(
     requires inst { inst.now ≡ inst_of word }
     requires room { length refs.old.items ≤ 4 }
     ensures ends { EndsAs regs.old
-        (execute_admitted row.now.effect row.now.reg regs.old word (operand_of row.now.effect)) walk.old.core
+        (execute_admitted row.now.effect row.now.reg regs.old word (operand_of row.now.effect))
+        walk.old.core
         refs.old.items walk.new.core refs.new.items regs.new result }
     ensures dbr { walk.new.dbr ≡ regs.new.dbr }
 {
@@ -182,7 +184,8 @@ fn decode_and_execute(
 ) -> Ended
     requires dbr { walk.old.dbr ≡ regs.old.dbr }
     requires room { length refs.old.items ≤ 4 }
-    ensures ends { EndsAs regs.old (execute_decoded regs.old word privileged (decode word)) walk.old.core
+    ensures ends { EndsAs regs.old (execute_decoded regs.old word privileged (decode word))
+        walk.old.core
         refs.old.items walk.new.core refs.new.items regs.new result }
     ensures dbr { walk.new.dbr ≡ regs.new.dbr }
 {

@@ -7,8 +7,8 @@ ghost use Rattle.m36_model.specs.Step.{record_of};
 ghost use Rattle.m36_model.specs.declared.outcome.Outcome.TheVariants.{Next};
 ghost use Rattle.m36_step.specs.Hurry.{state_after_steps};
 
+use crate::quick::try_quick_step;
 use crate::recorder::NoRecord;
-use crate::try_quick_step::try_quick_step;
 use m36_model::Regs;
 use m36_walk::Walk;
 

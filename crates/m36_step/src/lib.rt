@@ -39,6 +39,7 @@ pub mod machine;
 mod operands;
 mod operate;
 mod operated;
+mod quick;
 mod quick_counted;
 mod quick_pairs;
 mod quick_words;
@@ -49,7 +50,6 @@ mod references;
 mod shown;
 pub mod stepper;
 mod targets;
-mod try_quick_step;
 pub mod turns;
 mod writes;
 

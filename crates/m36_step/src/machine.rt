@@ -15,10 +15,10 @@ ghost use Rattle.m36_model.specs.declared.outcome.Outcome.TheVariants.{Next};
 
 use crate::execute::execute;
 use crate::hurry::run_quick_steps;
+use crate::quick::try_quick_step;
 use crate::recording::record_end;
 use crate::shown::take_shown_step;
 use crate::stepper::{Replay, Stepper};
-use crate::try_quick_step::try_quick_step;
 use crate::turns::{BackAnswer, Turn};
 use m36_core::Core;
 use m36_isol::law_audit_preserved;
@@ -157,7 +157,8 @@ impl Machine {
         ensures told { result ≡ record_of core_store self.old.state }
         ensures state { self.new.state ≡ state_after core_store self.old.state }
         ensures ended { self.new.ended ≡ self.old.ended }
-        ensures kept { PreservesAudit self.old.state self.new.state (record_of core_store self.old.state) }
+        ensures kept { PreservesAudit self.old.state self.new.state
+            (record_of core_store self.old.state) }
     {
         let mut told = self.empty_record();
         self.step_into(&mut told);
@@ -171,7 +172,8 @@ impl Machine {
         ensures told { told.new ≡ record_of core_store self.old.state }
         ensures state { self.new.state ≡ state_after core_store self.old.state }
         ensures ended { self.new.ended ≡ self.old.ended }
-        ensures kept { PreservesAudit self.old.state self.new.state (record_of core_store self.old.state) }
+        ensures kept { PreservesAudit self.old.state self.new.state
+            (record_of core_store self.old.state) }
     {
         law_audit_preserved();
         let Machine { walk, regs, .. } = self;

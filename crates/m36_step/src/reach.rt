@@ -39,7 +39,8 @@ fn reach_by_kind(
     requires addressed { row.now.operand ≢ N }
     requires room { length refs.old.items + 1 < 40 }
     ensures reaches { run_after_address regs.now
-        (operate_by_kind row.now.effect row.now.reg regs.now (chain_end_fields formed.now) row.now.operand)
+        (operate_by_kind row.now.effect row.now.reg regs.now
+        (chain_end_fields formed.now) row.now.operand)
         formed.now walk.old.core refs.old.items ≡ reached_end row.now.effect row.now.reg regs.now
         formed.now row.now.operand walk.new.core refs.new.items operand.new result }
     ensures got { IfOk result (λ u. HoldsFor row.now.operand operand.new.got) }

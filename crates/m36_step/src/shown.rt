@@ -8,8 +8,8 @@ ghost use Rattle.m36_model.specs.Step.{record_of, state_after};
 ghost use Rattle.m36_step.specs.Shown.{EndsShown, shown_end};
 
 use crate::execute::execute;
+use crate::quick::try_quick_step;
 use crate::recorder::Recorder;
-use crate::try_quick_step::try_quick_step;
 use m36_model::{At, Final, Kind, Outcome, Refs, Regs, Shown};
 use m36_walk::Walk;
 use m36_word::Word;

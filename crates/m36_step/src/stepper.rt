@@ -1,7 +1,8 @@
 //! The traits of machines that are stepped.
 
 ghost use Rattle.std.specs.Prelude.{ℕ, ◌≡◌, ◌<◌, ◌≤◌, ◌^◌, ◌⊎◌, Option, IfOk};
-ghost use Rattle.m36_step.specs.Answers.{PrecludesStep, HasGoneBack, IsService, IsStep, IsStepOrEnd};
+ghost use Rattle.m36_step.specs.Answers.{PrecludesStep, HasGoneBack, IsService, IsStep};
+ghost use Rattle.m36_step.specs.Answers.{IsStepOrEnd};
 
 use crate::turns::{BackAnswer, Turn};
 use m36_model::Regs;
@@ -91,7 +92,8 @@ pub trait Replay: Stepper {
     fn hurry(&mut self, most: u32) -> u32
         ensures few { result ≤ most }
         ensures state { self.new ≡ apply_repeatedly after result self.old }
-        ensures on { (n : ℕ) → n < result → IsStepWithNext (answer (apply_repeatedly after n self.old)) }
+        ensures on { (n : ℕ) → n < result → IsStepWithNext
+            (answer (apply_repeatedly after n self.old)) }
     {
         let _ = most;
         0

@@ -29,7 +29,8 @@ use Rattle.m36_super.specs.Library.{Library}
 use Rattle.m36_super.specs.PagedPut.{paged_put}
 use Rattle.m36_super.specs.Services.{link_changes, note_snapped, note_refused, asks_too_much}
 use Rattle.m36_super.specs.Services.{console_text}
-use Rattle.m36_super.specs.NextEvent.{NextEvent, Step, Link, Print, Over, loaded_after, next_event_after}
+use Rattle.m36_super.specs.NextEvent.{NextEvent, Step, Link, Print, Over, loaded_after}
+use Rattle.m36_super.specs.NextEvent.{next_event_after}
 use Rattle.m36_super.specs.FlatRun.{FlatRun}
 
 -- a state of the booted run: registers and memory, what the rings know of links, what the next turn
@@ -66,7 +67,8 @@ pub record IsStepTo (s : PagedState) (before : Booted) (turn : Turn) (after : Bo
 
 -- A turn that is a step: some pages are served, and then the step is taken, which meets no absent
 -- page.
-pub record IsStepWithPages (frames : ℕ) (before : Booted) (turn : Turn) (after : Booted) : Type 0 where
+pub record IsStepWithPages (frames : ℕ) (before : Booted) (turn : Turn)
+    (after : Booted) : Type 0 where
   pub services : ℕ
   pub few : services ≤ pages_of_an_instruction
   pub last : PagedState

@@ -16,7 +16,8 @@ use Rattle.m36_step.specs.declared.turns.Turn.TheVariants.{Stepped, Linked, Cons
 use Rattle.m36_super.specs.Library.{Library}
 use Rattle.m36_super.specs.Services.{link_changes, note_snapped, note_refused, asks_too_much}
 use Rattle.m36_super.specs.Services.{console_text}
-use Rattle.m36_super.specs.NextEvent.{NextEvent, Step, Link, Print, Over, loaded_after, next_event_after}
+use Rattle.m36_super.specs.NextEvent.{NextEvent, Step, Link, Print, Over, loaded_after}
+use Rattle.m36_super.specs.NextEvent.{next_event_after}
 
 -- registers and flat memory; what the rings know; what the next turn is; and whether an LDBR has
 -- been executed

@@ -24,7 +24,8 @@ event_after_known_fault false false f = Over (end.Fault f)
 abbrev pub event_after_fault : Bool → ℕ → Fault → NextEvent
 event_after_fault true ring f = Over (end.Fault f)
 event_after_fault false ring f =
-    event_after_known_fault (nat_eq f.number fault_tag_2) (nat_eq f.number master_mode_entry && nat_eq ring 0) f
+    event_after_known_fault (nat_eq f.number fault_tag_2)
+    (nat_eq f.number master_mode_entry && nat_eq ring 0) f
 
 -- the next turn after a step in a ring with this outcome; every stop ends the run
 abbrev pub event_after_outcome : Bool → ℕ → Outcome → NextEvent

@@ -10,7 +10,8 @@ use Rattle.m36_model.specs.declared.outcome.Fault.{Fault}
 use Rattle.m36_model.specs.declared.outcome.Outcome.{Outcome}
 use Rattle.m36_model.specs.declared.outcome.Outcome.TheVariants.{Faulted}
 use Rattle.m36_model.specs.declared.record.StepRecord.{StepRecord}
-use Rattle.m36_isol.specs.PageServices.{IsPageFaultServed, ArePageFaultsServed, pages_of_an_instruction}
+use Rattle.m36_isol.specs.PageServices.{IsPageFaultServed, ArePageFaultsServed}
+use Rattle.m36_isol.specs.PageServices.{pages_of_an_instruction}
 use Rattle.m36_page.specs.Fields.{PagerFields}
 use Rattle.m36_super.specs.SuperFields.{paged_of, IsRunning}
 

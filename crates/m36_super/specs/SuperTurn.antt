@@ -13,13 +13,15 @@ use Rattle.m36_model.specs.declared.outcome.Outcome.{Outcome}
 use Rattle.m36_model.specs.declared.outcome.Outcome.TheVariants.{Next, Faulted, Stopped}
 use Rattle.m36_link.specs.Fields.{SnapFields}
 use Rattle.m36_link.specs.Snap.{RefusedFields}
-use Rattle.m36_step.specs.Answers.{HasGoneBack, IsService, IsStep, IsHalted, IsUnable, PrecludesStep}
+use Rattle.m36_step.specs.Answers.{HasGoneBack, IsService, IsStep, IsHalted, IsUnable}
+use Rattle.m36_step.specs.Answers.{PrecludesStep}
 use Rattle.m36_step.specs.declared.turns.Turn.{Turn}
 use Rattle.m36_step.specs.declared.turns.Turn.TheVariants.{Stepped, Linked, Console, Ended, Full}
 use Rattle.m36_step.specs.declared.turns.Turn.TheVariants.{NoMemory}
 use Rattle.m36_step.specs.declared.turns.BackAnswer.{BackAnswer}
 use Rattle.m36_super.specs.NextEvent.{NextEvent, Step, Link, Print, Over, loaded_after}
-use Rattle.m36_super.specs.NextEvent.{event_after_known_fault, event_after_fault, event_after_outcome}
+use Rattle.m36_super.specs.NextEvent.{event_after_known_fault, event_after_fault}
+use Rattle.m36_super.specs.NextEvent.{event_after_outcome}
 use Rattle.m36_super.specs.Library.{Library}
 use Rattle.m36_super.specs.BootedRun.{Booted, IsStepTurn, IsLinkTurn, IsConsoleTurn, IsTurnBy}
 use Rattle.m36_super.specs.BootedRun.{IsTurn, IsStepTo, record_of_state}
@@ -72,8 +74,10 @@ pub link_quiet :
     (answer : Result SnapFields RefusedFields) (frames : ℕ) (at : AtFields) (before : Booted)
     (turn : Turn) (after : Booted) → IsLinkTurn answer frames at before turn after → IsService turn
     → IsNoService after.next_event
-link_quiet (Ok s) frames at before (Linked note) after h service = subst IsNoService (sym h.next_event) tt
-link_quiet (Ok s) frames at before (Console text) after h service = subst IsNoService (sym h.next_event) tt
+link_quiet (Ok s) frames at before (Linked note) after h service =
+    subst IsNoService (sym h.next_event) tt
+link_quiet (Ok s) frames at before (Console text) after h service =
+    subst IsNoService (sym h.next_event) tt
 link_quiet (Ok s) frames at before (Stepped told) after h service = absurd service
 link_quiet (Ok s) frames at before (Ended e) after h service = absurd service
 link_quiet (Ok s) frames at before Full after h service = absurd service
@@ -133,7 +137,8 @@ IsNoStep (Link at) = Unit {0}
 IsNoStep Print = Unit {0}
 IsNoStep (Over e) = Unit {0}
 
-frame_in_pager : (link console : Bool) (f : Fault) → IsNoStep (event_after_known_fault link console f)
+frame_in_pager :
+    (link console : Bool) (f : Fault) → IsNoStep (event_after_known_fault link console f)
 frame_in_pager true console f = tt
 frame_in_pager false true f = tt
 frame_in_pager false false f = tt
@@ -141,7 +146,8 @@ frame_in_pager false false f = tt
 held_on : (loaded : Bool) (ring : ℕ) (f : Fault) → IsNoStep (event_after_fault loaded ring f)
 held_on true ring f = tt
 held_on false ring f =
-    frame_in_pager (nat_eq f.number fault_tag_2) (nat_eq f.number master_mode_entry && nat_eq ring 0) f
+    frame_in_pager (nat_eq f.number fault_tag_2)
+    (nat_eq f.number master_mode_entry && nat_eq ring 0) f
 
 held_after :
     (loaded : Bool) (ring : ℕ) (outcome : Outcome)
@@ -155,7 +161,8 @@ takes_held :
     → IsStepTo s before turn after → PrecludesStep turn → IsNoStep after.next_event
 takes_held s before turn after h interrupts =
     subst (λ (r : Booted). IsNoStep r.next_event) (sym h.after_is)
-    (held_after (loaded_after before.loaded (record_of_state s)) (record_of_state s).ppr.prr (record_of_state s).outcome
+    (held_after (loaded_after before.loaded (record_of_state s)) (record_of_state s).ppr.prr
+    (record_of_state s).outcome
     (subst PrecludesStep h.told interrupts))
 
 step_held :
@@ -191,7 +198,8 @@ console_no_interrupt :
     (b : Bool) (text : Result (List ℕ) Fault) (before : Booted) (turn : Turn) (after : Booted)
     → IsConsoleTurn b text before turn after → PrecludesStep turn → ⊥
 console_no_interrupt true text before turn after h interrupts = subst PrecludesStep h.0 interrupts
-console_no_interrupt false (Err f) before turn after h interrupts = subst PrecludesStep h.0 interrupts
+console_no_interrupt false (Err f) before turn after h interrupts =
+    subst PrecludesStep h.0 interrupts
 console_no_interrupt false (Ok text) before turn after h interrupts =
     subst PrecludesStep h.0 interrupts
 

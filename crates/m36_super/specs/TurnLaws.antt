@@ -40,7 +40,8 @@ pub record IsFlatTurn (lib : Library) (before : Booted) (turn : Turn)
 pub record ObeysTurnLaw (lib : Library) (before : Booted) (turn : Turn)
     (after : Booted) : Type 0 where
   pub cases :
-      IsFlatTurn lib before turn after ⊎ ((turn ≡ NoMemory) × (after ≡ before)) ⊎ TurnExecutesAbsa turn
+      IsFlatTurn lib before turn after ⊎ ((turn ≡ NoMemory) × (after ≡ before))
+      ⊎ TurnExecutesAbsa turn
   pub locates : TurnExecutesAbsa turn → TurnExecutesAbsa (flat_turn lib (flat_run_of before)).turn
   pub stands : LaidOutUntilLdbr after.loaded lib.catalog.frames after.state
 
@@ -72,5 +73,6 @@ IsPlainTurn NoMemory = ⊥
 abbrev pub PlainTurnsLaw : Type 0
 PlainTurnsLaw =
     (lib : Library) (turns : List Turn) (r last : Booted) → r.loaded ≡ false
-    → LaidOutUntilLdbr false lib.catalog.frames r.state → AreTurns lib r turns last → Each IsPlainTurn turns
+    → LaidOutUntilLdbr false lib.catalog.frames r.state → AreTurns lib r turns last
+    → Each IsPlainTurn turns
     → turns ≡ flat_turns lib (flat_run_of r) (length turns)

@@ -1,13 +1,15 @@
 //! The console service.
 
-ghost use Rattle.std.specs.Prelude.{◌≡◌, ◌≤◌, ◌<◌, ◌+◌, ◌*◌, ◌/◌, ◌++◌, ◌==◌, Bool, length, Ok, Err, MatchResult};
+ghost use Rattle.std.specs.Prelude.{◌≡◌, ◌≤◌, ◌<◌, ◌+◌, ◌*◌, ◌/◌, ◌++◌, ◌==◌, Bool, length, Ok};
+ghost use Rattle.std.specs.Prelude.{Err, MatchResult};
 ghost use Rattle.m36_model.specs.Flat.{flat_store};
 ghost use Rattle.m36_model.specs.Store.{fault_by, examined_reply};
 ghost use Rattle.m36_model.specs.Place.{core_sdw};
 ghost use Rattle.m36_model.specs.BootedCore.{booted_dbr};
 ghost use Rattle.m36_link.specs.Fields.{KnownFields};
 ghost use Rattle.m36_super.specs.BootedRun.{IsConsoleTurn};
-ghost use Rattle.m36_super.specs.Services.{console_limit, console_word_limit, asks_too_much, written_character, characters_of};
+ghost use Rattle.m36_super.specs.Services.{console_limit, console_word_limit, asks_too_much};
+ghost use Rattle.m36_super.specs.Services.{written_character, characters_of};
 ghost use Rattle.m36_super.specs.Services.{console_at, console_words, console_text};
 ghost use Rattle.m36_super.specs.SuperFields.{run_of, IsManaged, IsRunning};
 ghost use Rattle.m36_super.specs.Writing.{flat_by};
@@ -58,7 +60,8 @@ fn described_word(core: &Core, pager: &Pager, regs: &Regs, sdw: &Sdw, at: At) ->
     requires managed { IsManaged (length pager.now.holders) core.now pager.now }
     requires dbr { regs.now.dbr ≡ booted_dbr }
     requires live { core_sdw core.now booted_dbr at.seg ≡ Ok sdw.now }
-    ensures { ExaminedResult result (examined_reply flat_store regs.now (flat_by core.now pager.now) at) }
+    ensures { ExaminedResult result (examined_reply flat_store regs.now (flat_by core.now pager.now)
+        at) }
 {
     let same = is_executing(regs, at);
     if let Err(Acv(acv)) = may_read(sdw, at.ring, same) {
@@ -76,7 +79,8 @@ fn described_word(core: &Core, pager: &Pager, regs: &Regs, sdw: &Sdw, at: At) ->
 fn examined_reply(core: &Core, pager: &Pager, regs: &Regs, at: At) -> Result<Word, Fault>
     requires managed { IsManaged (length pager.now.holders) core.now pager.now }
     requires dbr { regs.now.dbr ≡ booted_dbr }
-    ensures { ExaminedResult result (examined_reply flat_store regs.now (flat_by core.now pager.now) at) }
+    ensures { ExaminedResult result (examined_reply flat_store regs.now (flat_by core.now pager.now)
+        at) }
 {
     match descriptor(core, regs.dbr, at.seg) {
         Ok(sdw) => described_word(core, pager, regs, &sdw, at),

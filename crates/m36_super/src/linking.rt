@@ -1,6 +1,7 @@
 //! The link service.
 
-ghost use Rattle.std.specs.Prelude.{◌≡◌, ◌≤◌, ◌<◌, ◌+◌, ◌^◌, ◌⊎◌, length, IfSome, option_copied, ◌∷◌, [], Bool, Ok, Err, Some};
+ghost use Rattle.std.specs.Prelude.{◌≡◌, ◌≤◌, ◌<◌, ◌+◌, ◌^◌, ◌⊎◌, length, IfSome, option_copied};
+ghost use Rattle.std.specs.Prelude.{◌∷◌, [], Bool, Ok, Err, Some};
 ghost use Rattle.obj36_parts.specs.ObjectSegment.{segment_limit};
 ghost use Rattle.m36_link.specs.Known.{linkage_segment};
 ghost use Rattle.m36_link.specs.Snap.{snap_of};
@@ -169,8 +170,8 @@ fn complete_snap(
 }
 
 /// The service of the link at a place.
-/// If the link is refused, the next turn is the end of the run. Fails only with `NoMemory`, and then
-/// changes nothing.
+/// If the link is refused, the next turn is the end of the run. Fails only with `NoMemory`, and
+/// then changes nothing.
 #[tactic(auto, using(crate::proofs::LinkTurns::answers))]
 pub(crate) fn link(
     alloc: Global,

@@ -2,7 +2,9 @@
 
 ghost use Rattle.std.specs.Prelude.{ℕ, ◌≡◌, false, Some};
 ghost use Rattle.m36_model.specs.Step.{decode};
-ghost use Rattle.m36_super.specs.NextEvent.{is_ldbr, executed_ldbr, loaded_after, event_after_known_fault, event_after_fault, event_after_outcome};
+ghost use Rattle.m36_super.specs.NextEvent.{is_ldbr, executed_ldbr, loaded_after};
+ghost use Rattle.m36_super.specs.NextEvent.{event_after_known_fault, event_after_fault};
+ghost use Rattle.m36_super.specs.NextEvent.{event_after_outcome};
 
 use m36_inst::{Effect, Inst, row};
 use m36_model::{At, End, Fault, Outcome, StepRecord};

@@ -6,8 +6,10 @@ ghost use Rattle.m36_link.specs.Fields.{KnownFields};
 ghost use Rattle.m36_page.specs.Residence.{has_page, AgreesWithCore, IsPager};
 ghost use Rattle.m36_page.specs.Changes.{IsBrought};
 ghost use Rattle.m36_super.specs.BootedRun.{IsStepTurn};
-ghost use Rattle.m36_super.specs.SuperFields.{run_of, IsManaged, IsRunning, RunningUntilLdbr, NoServiceAfterLdbr};
-ghost use Rattle.m36_super.specs.Stepping.{AbsentWordResult, AttemptResult, IsStepped, StepContract};
+ghost use Rattle.m36_super.specs.SuperFields.{run_of, IsManaged, IsRunning, RunningUntilLdbr};
+ghost use Rattle.m36_super.specs.SuperFields.{NoServiceAfterLdbr};
+ghost use Rattle.m36_super.specs.Stepping.{AbsentWordResult, AttemptResult, IsStepped};
+ghost use Rattle.m36_super.specs.Stepping.{StepContract};
 
 use crate::next_event::{NextEvent, event_after_outcome, loaded_after};
 use m36_model::{At, Fault, Outcome, Refs, StepRecord};
@@ -69,7 +71,8 @@ fn bring_page_in(machine: &mut Machine, pager: &mut Pager, at: At, refs: &Refs)
 fn try_step(machine: &mut Machine, pager: &mut Pager, told: &mut StepRecord) -> bool
     requires { IsRunning (length pager.old.holders) machine.old.state.regs machine.old.state.store
         pager.old }
-    ensures { AttemptResult result machine.old.state pager.old machine.new.state pager.new told.new }
+    ensures { AttemptResult result machine.old.state pager.old machine.new.state pager.new
+        told.new }
 {
     machine.step_into(told);
     match absent_word(told.outcome) {

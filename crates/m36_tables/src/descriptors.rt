@@ -2,7 +2,8 @@
 
 ghost use Rattle.std.specs.Prelude.{◌≡◌, ◌<◌, ◌^◌, IfOk, OnOk, Ok, length};
 ghost use Rattle.m36_desc.specs.Descriptors.{sdw_of};
-ghost use Rattle.m36_model.specs.Place.{directory_at, has_descriptor_in_bounds, sdw_place, live_by, sdw_at, core_sdw};
+ghost use Rattle.m36_model.specs.Place.{directory_at, has_descriptor_in_bounds, sdw_place, live_by};
+ghost use Rattle.m36_model.specs.Place.{sdw_at, core_sdw};
 ghost use Rattle.m36_tables.specs.Tables.{TableWordIsInCore};
 
 use crate::addresses::{directory_at, wrapped_address};
@@ -28,7 +29,8 @@ fn has_descriptor_in_bounds(dbr: Dbr, seg: u16) -> bool
 pub fn descriptor_place(core: &Core, dbr: Dbr, seg: u16) -> Result<u32, Refusal>
     requires { seg < 2 ^ 15 }
     ensures value { result ≡ sdw_place core.now dbr seg }
-    ensures directory { OnOk result (TableWordIsInCore (length core.now) dbr.unpaged (directory_at dbr seg)) }
+    ensures directory { OnOk result (TableWordIsInCore (length core.now) dbr.unpaged
+        (directory_at dbr seg)) }
     ensures bound { IfOk result (λ a. a < 2 ^ 24) }
 {
     if !has_descriptor_in_bounds(dbr, seg) {
@@ -79,7 +81,8 @@ fn descriptor_at(core: &Core, even: u32) -> Result<Sdw, Refusal>
 pub fn descriptor(core: &Core, dbr: Dbr, seg: u16) -> Result<Sdw, Refusal>
     requires { seg < 2 ^ 15 }
     ensures value { result ≡ core_sdw core.now dbr seg }
-    ensures directory { OnOk result (TableWordIsInCore (length core.now) dbr.unpaged (directory_at dbr seg)) }
+    ensures directory { OnOk result (TableWordIsInCore (length core.now) dbr.unpaged
+        (directory_at dbr seg)) }
 {
     descriptor_at(core, descriptor_place(core, dbr, seg)?)
 }

@@ -30,7 +30,8 @@ last_word (byte ∷ bytes) = number_of_bytes (byte ∷ bytes) / 2 ^ 4 ∷ []
 -- the words of this many groups of nine bytes, two each, and of the bytes that are left
 unfoldable pub words_of : ℕ → List ℕ → List ℕ
 words_of zero bytes = last_word bytes
-words_of (suc groups) bytes = number_of_bytes (take 9 bytes) / 2 ^ 36 ∷ number_of_bytes (take 9 bytes) % 2 ^ 36
+words_of (suc groups) bytes =
+    number_of_bytes (take 9 bytes) / 2 ^ 36 ∷ number_of_bytes (take 9 bytes) % 2 ^ 36
     ∷ words_of groups (drop 9 bytes)
 
 -- Bytes unpacked into words. T3 with the number of bytes if no words are packed into that many. T4

@@ -1,6 +1,7 @@
 //! The lines of a text, and the words of a line.
 
-ghost use Rattle.std.specs.Prelude.{◌≡◌, ◌==◌, [], ◌∷◌, Option, None, Some, MatchOption, IfSome, length, ◌<◌};
+ghost use Rattle.std.specs.Prelude.{◌≡◌, ◌==◌, [], ◌∷◌, Option, None, Some, MatchOption, IfSome};
+ghost use Rattle.std.specs.Prelude.{length, ◌<◌};
 ghost use Rattle.std.specs.List.{position, slice_split};
 ghost use Rattle.m36_text.specs.Lines.{lines_of, open_lines_of, unended_line, words_of, HasMore};
 

@@ -1,7 +1,8 @@
 //! Numbers in lines that are parsed. The result is None if the text does not have the form.
 
 ghost use Rattle.std.specs.Prelude.{◌≡◌, ◌^◌, ◌<◌, ◌≤◌, IfSome};
-ghost use Rattle.m36_text.specs.Numbers.{octal_in, decimal_in, short_decimal_in, has_no_leading_zero, plain_decimal_in};
+ghost use Rattle.m36_text.specs.Numbers.{octal_in, decimal_in, short_decimal_in};
+ghost use Rattle.m36_text.specs.Numbers.{has_no_leading_zero, plain_decimal_in};
 
 use crate::reading::{read_decimal, read_octal};
 

@@ -1,8 +1,11 @@
 //! Packing words into bytes, and unpacking them.
 
-ghost use Rattle.std.specs.Prelude.{◌≡◌, ◌+◌, ◌-◌, ◌*◌, ◌/◌, ◌%◌, ◌^◌, ◌<◌, ◌≤◌, ◌⊎◌, [], ◌∷◌, ◌++◌, length, drop, IfOk, IfErr, OnOk};
+ghost use Rattle.std.specs.Prelude.{◌≡◌, ◌+◌, ◌-◌, ◌*◌, ◌/◌, ◌%◌, ◌^◌, ◌<◌, ◌≤◌, ◌⊎◌, [], ◌∷◌};
+ghost use Rattle.std.specs.Prelude.{◌++◌, length, drop, IfOk, IfErr, OnOk};
 ghost use Rattle.m36_text.specs.Digits.{digits};
-ghost use Rattle.m36_text.specs.Packing.{packed, number_of_bytes, last_word, words_of, unpacked, UnpackResult, IsFaultOfCount, UnpacksWhatWasPacked, PacksWhatWasUnpacked, UnpacksIntoWords};
+ghost use Rattle.m36_text.specs.Packing.{packed, number_of_bytes, last_word, words_of, unpacked};
+ghost use Rattle.m36_text.specs.Packing.{UnpackResult, IsFaultOfCount, UnpacksWhatWasPacked};
+ghost use Rattle.m36_text.specs.Packing.{PacksWhatWasUnpacked, UnpacksIntoWords};
 ghost use Rattle.m36_text.specs.declared.packing.PackFault.TheVariants as fault;
 
 use m36_outside::Text;

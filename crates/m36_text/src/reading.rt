@@ -1,8 +1,11 @@
 //! Parsing of numbers.
 
-ghost use Rattle.std.specs.Prelude.{◌≡◌, ◌+◌, ◌-◌, ◌^◌, ◌<◌, ◌≤◌, length, min, None, IfOk, IfErr, IfSome};
+ghost use Rattle.std.specs.Prelude.{◌≡◌, ◌+◌, ◌-◌, ◌^◌, ◌<◌, ◌≤◌, length, min, None, IfOk, IfErr};
+ghost use Rattle.std.specs.Prelude.{IfSome};
 ghost use Rattle.m36_text.specs.Digits.{is_digit};
-ghost use Rattle.m36_text.specs.Reading.{first_non_digit, number_of, number_read, IndexIsWithin, ReadsOctal, ReadsDecimal, OctalTextHasPlaces, DecimalTextHasNoLeadingZero};
+ghost use Rattle.m36_text.specs.Reading.{first_non_digit, number_of, number_read, IndexIsWithin};
+ghost use Rattle.m36_text.specs.Reading.{ReadsOctal, ReadsDecimal, OctalTextHasPlaces};
+ghost use Rattle.m36_text.specs.Reading.{DecimalTextHasNoLeadingZero};
 
 /// Why a text could not be parsed as a number.
 #[derive(Clone, Copy, PartialEq, Eq)]

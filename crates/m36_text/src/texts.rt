@@ -2,7 +2,8 @@
 
 ghost use Rattle.std.specs.Prelude.{◌≡◌, ◌≤◌, true, length};
 ghost use Rattle.std.specs.List.{list_all};
-ghost use Rattle.m36_text.specs.Texts.{is_text, is_letter, is_name_character, name_limit, is_name, is_file_name};
+ghost use Rattle.m36_text.specs.Texts.{is_text, is_letter, is_name_character, name_limit, is_name};
+ghost use Rattle.m36_text.specs.Texts.{is_file_name};
 
 use crate::reading::is_digit;
 

@@ -25,7 +25,8 @@ may_of_any (Some command) = may_of command
 -- A call over a world performs the program of the command. Without a command nothing happens.
 abbrev pub WorldPerforms : Option Command → Status → Seen → Seen → Type 0
 WorldPerforms None result old new = new ≡ old
-WorldPerforms (Some command) result old new = Performs (program command) (result_of_status result) old new
+WorldPerforms (Some command) result old new =
+    Performs (program command) (result_of_status result) old new
 
 -- If the folder shows its files, the command accepts them, what it needs holds, and nothing fails
 -- outside, then the status is Done, or memory ran out.

@@ -295,4 +295,5 @@ command_in (entry ∷ entries) word g =
 -- the command that a list of words asks for; None if it is no command
 unfoldable pub command_of : List (List ℕ) → Option Command
 command_of [] = None
-command_of (word ∷ words) = option_and_then (command_in commands word) (with_words nothing_given words)
+command_of (word ∷ words) =
+    option_and_then (command_in commands word) (with_words nothing_given words)

@@ -1,7 +1,8 @@
 //! The line that reports how a call ended.
 
 ghost use Rattle.std.specs.Prelude.{◌≡◌, IfOk};
-ghost use Rattle.m36_top.specs.StatusLine.{bad_file_details, status_details, status_line, report_of};
+ghost use Rattle.m36_top.specs.StatusLine.{bad_file_details, status_details, status_line};
+ghost use Rattle.m36_top.specs.StatusLine.{report_of};
 
 use m36_outside::Text;
 use m36_status::{Bad, Status};

@@ -1,7 +1,10 @@
 //! The table of commands: what each command word makes of the operand and the options.
 
 ghost use Rattle.std.specs.Prelude.{◌≡◌};
-ghost use Rattle.m36_top.specs.Words.{file_given, user_given, bare, has_no_run_option, has_no_option, audit_command, audit, folder_run, run, trace, procs, access, print, alm_command, alm, bind_command, bind, debug_command, debug, seed_of, make, commands, command_in};
+ghost use Rattle.m36_top.specs.Words.{file_given, user_given, bare, has_no_run_option};
+ghost use Rattle.m36_top.specs.Words.{has_no_option, audit_command, audit, folder_run, run, trace};
+ghost use Rattle.m36_top.specs.Words.{procs, access, print, alm_command, alm, bind_command, bind};
+ghost use Rattle.m36_top.specs.Words.{debug_command, debug, seed_of, make, commands, command_in};
 
 use crate::command::Command;
 use crate::names::{Operand, bindfile_of, source_of};

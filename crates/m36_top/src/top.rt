@@ -98,9 +98,11 @@ pub fn m36<F: Folder, L: Lines, S: Sink>(
     // promises, and that only some commands write files or take input: the parts of `TopCall`, each
     // by what the three objects record of the call.
     ensures call { TopCall (command_of words.now) result
-        (objects_as_world F.asked F.wrote F.files F.read_faults F.write_faults L.given L.left L.faults
+        (objects_as_world F.asked F.wrote F.files F.read_faults F.write_faults L.given L.left
+        L.faults
         S.taken S.written S.faults folder.old lines.old out.old)
-        (objects_as_world F.asked F.wrote F.files F.read_faults F.write_faults L.given L.left L.faults
+        (objects_as_world F.asked F.wrote F.files F.read_faults F.write_faults L.given L.left
+        L.faults
         S.taken S.written S.faults folder.new lines.new out.new) }
 
     // Over a folder, an input and an output that never fail, ReadFault and WriteFault never occur.

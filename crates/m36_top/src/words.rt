@@ -1,7 +1,11 @@
 //! The words of the command line.
 
 ghost use Rattle.std.specs.Prelude.{◌≡◌, ◌≤◌, true, length, drop, IfSome};
-ghost use Rattle.m36_top.specs.Words.{steps_limit, steps_of, with_operand, with_steps, with_user, with_unaudited, expecting, steps_prefix, user_prefix, is_steps_with_value, is_user_with_value, with_option_or_operand, with_word, complete_given, with_words, nothing_given, command_of};
+ghost use Rattle.m36_top.specs.Words.{steps_limit, steps_of, with_operand, with_steps, with_user};
+ghost use Rattle.m36_top.specs.Words.{with_unaudited, expecting, steps_prefix, user_prefix};
+ghost use Rattle.m36_top.specs.Words.{is_steps_with_value, is_user_with_value};
+ghost use Rattle.m36_top.specs.Words.{with_option_or_operand, with_word, complete_given};
+ghost use Rattle.m36_top.specs.Words.{with_words, nothing_given, command_of};
 
 use crate::command::Command;
 use crate::names::{Operand, operand_of};

@@ -13,7 +13,8 @@ use Rattle.m36_trace.specs.declared.text.TraceText.{TraceText}
 
 -- a line whose outcome is Next, from its number, the ring and segment number of the instruction
 -- and of the address, A, Q, and the values that are not kept
-unfoldable pub kept_line_of_values : ℕ → ℕ → ℕ → ℕ → ℕ → ℕ → ℕ → ℕ → Option ℕ → Option FinalFields → Ind
+unfoldable pub kept_line_of_values :
+    ℕ → ℕ → ℕ → ℕ → ℕ → ℕ → ℕ → ℕ → Option ℕ → Option FinalFields → Ind
     → List ℕ
 kept_line_of_values n ring seg address_ring address_seg a q ic word at ind =
     with_space (decimal_text n)

@@ -3,7 +3,8 @@
 ghost use Rattle.std.specs.Prelude.{◌≡◌, ◌+◌, ◌≤◌, ◌<◌, ◌^◌, ◌++◌, length};
 ghost use Rattle.m36_text.specs.Digits.{octal_text, decimal_text, word_text};
 ghost use Rattle.m36_trace.specs.TraceLine.{segment_word_text, instruction_text, address_text};
-ghost use Rattle.m36_trace.specs.TraceLine.{operand_text, final_text, letter, indicators_text, fault_text};
+ghost use Rattle.m36_trace.specs.TraceLine.{operand_text, final_text, letter, indicators_text};
+ghost use Rattle.m36_trace.specs.TraceLine.{fault_text};
 ghost use Rattle.m36_trace.specs.TraceLine.{stop_text, outcome_text};
 
 use crate::digits::{place_digits, put_characters, ring_digit, word_digits};

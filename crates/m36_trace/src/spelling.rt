@@ -65,7 +65,8 @@ fn put_dash(into: &mut [u8], place: usize) -> usize
 pub fn put_instruction(into: &mut [u8], place: usize, word: Option<Word>) -> usize
     requires { place + 13 ≤ length into.old }
     ensures bound { result ≤ place + 13 }
-    ensures text { take result into.new ≡ take place into.old ++ with_space (instruction_text word) }
+    ensures text { take result into.new
+        ≡ take place into.old ++ with_space (instruction_text word) }
 {
     match word {
         Some(word) => put_word(into, place, word),
@@ -114,7 +115,8 @@ pub fn put_final(
 pub fn put_word_part(into: &mut [u8], place: usize, part: &WordPart) -> usize
     requires { place + 16 ≤ length into.old }
     ensures end { result ≡ place + 13 }
-    ensures text { take result into.new ≡ take place into.old ++ with_space (word_text part.now.of) }
+    ensures text { take result into.new
+        ≡ take place into.old ++ with_space (word_text part.now.of) }
 {
     put_at(into, place, &part.bytes);
     place + 13

@@ -22,7 +22,8 @@ fn line_of_values(
     outcome: Outcome,
     after: &Regs,
 ) -> ArrayString<160>
-    ensures text { result.bytes ≡ joined_by_spaces (fields_of_values n ppr.now word at outcome after.now) }
+    ensures text { result.bytes ≡ joined_by_spaces
+        (fields_of_values n ppr.now word at outcome after.now) }
     ensures len { length result.bytes ≤ 144 }
 {
     let mut line = ArrayString::new();

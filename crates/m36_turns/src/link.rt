@@ -3,7 +3,8 @@
 ghost use Rattle.std.specs.Prelude.{◌≡◌, ◌+◌, ◌≤◌, ◌<◌, ◌^◌, ◌++◌, length};
 ghost use Rattle.m36_text.specs.Digits.{word_text};
 ghost use Rattle.m36_trace.specs.TraceLine.{segment_word_text};
-ghost use Rattle.m36_turns.specs.TurnLines.{link_code_text, pair_text, link_answer_text, link_line_of};
+ghost use Rattle.m36_turns.specs.TurnLines.{link_code_text, pair_text, link_answer_text};
+ghost use Rattle.m36_turns.specs.TurnLines.{link_line_of};
 
 use crate::append::append;
 use arrayvec::ArrayVec;

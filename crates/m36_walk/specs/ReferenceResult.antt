@@ -43,7 +43,8 @@ result_after_rights d (Err f) first_place = Err f
 abbrev pub result_after_descriptor : (SdwFields → Result Unit Acv)
     → (SdwFields → Result (List Spot) (ℕ × Refusal)) → AtFields → Result SdwFields Fault
     → Result ReferenceResult Fault
-result_after_descriptor rights first_place at (Ok d) = result_after_rights d (violation_as_fault at (rights d))
+result_after_descriptor rights first_place at (Ok d) =
+    result_after_rights d (violation_as_fault at (rights d))
     (places_as_fault at (first_place d))
 result_after_descriptor rights first_place at (Err f) = Err f
 
@@ -52,7 +53,8 @@ result_after_descriptor rights first_place at (Err f) = Err f
 unfoldable pub reference_result : (SdwFields → Result Unit Acv)
     → (SdwFields → Result (List Spot) (ℕ × Refusal)) → Result SdwFields Refusal → AtFields
     → Result ReferenceResult Fault
-reference_result rights first_place sdw at = result_after_descriptor rights first_place at (refusal_as_fault at sdw)
+reference_result rights first_place sdw at =
+    result_after_descriptor rights first_place at (refusal_as_fault at sdw)
 
 -- the result of the code as that of the definitions: the spots are a run of `count` words from the
 -- place that it has found
@@ -61,7 +63,8 @@ result_of_lookup count (Ok f) = Ok (record { sdw = f.sdw; spots = run_from f.pla
 result_of_lookup count (Err f) = Err f
 
 -- an answered reference has set its marks, and a refused one has changed nothing
-abbrev pub MarksAreSet : DbrFields → AtFields → Bool → List ℕ → List ℕ → Result LookupResult Fault → Type 0
+abbrev pub MarksAreSet :
+    DbrFields → AtFields → Bool → List ℕ → List ℕ → Result LookupResult Fault → Type 0
 MarksAreSet dbr at write old new (Ok f) =
     new ≡ with_marks old (marks_by dbr at.seg write at.word (Ok f.sdw))
 MarksAreSet dbr at write old new (Err f) = new ≡ old

@@ -44,10 +44,13 @@ sdw_in m seg = sdw_or_zero (core_sdw m.core m.dbr seg)
 
 -- The reply to a request and the state after it, by the result of the reference. An answered
 -- reference adds its claims and itself.
-abbrev pub served_with_result : Request → List ℕ → List Spot → List Reference → Result ReferenceResult Fault
+abbrev pub served_with_result :
+    Request → List ℕ → List Spot → List Reference → Result ReferenceResult Fault
     → ServeResult (List ℕ)
-served_with_result q new claims refs (Err f) = record { reply = Err f; mid = midstep_with new claims refs }
-served_with_result q new claims refs (Ok r) = answered_with core_store new claims refs q r.sdw r.spots
+served_with_result q new claims refs (Err f) =
+    record { reply = Err f; mid = midstep_with new claims refs }
+served_with_result q new claims refs (Ok r) =
+    answered_with core_store new claims refs q r.sdw r.spots
 
 -- the result of a reference to `count` words, by the core address of the first or the fault
 abbrev pub result_at_place : SdwFields → ℕ → Result ℕ Fault → Result ReferenceResult Fault
@@ -55,7 +58,8 @@ result_at_place d count (Ok a) = Ok (record { sdw = d; spots = run_from a count 
 result_at_place d count (Err f) = Err f
 
 -- the result of a reference that checks a target and touches no word
-abbrev pub result_at_target : {A : Type 0} → SdwFields → Result A Fault → Result ReferenceResult Fault
+abbrev pub result_at_target :
+    {A : Type 0} → SdwFields → Result A Fault → Result ReferenceResult Fault
 result_at_target d (Ok a) = Ok (record { sdw = d; spots = [] })
 result_at_target d (Err f) = Err f
 
@@ -68,7 +72,8 @@ answer_of_words d claims words =
 -- claimed
 abbrev pub served_with_words : Request → SdwFields → List ℕ → List Spot → List Reference
     → Result (List ℕ) Fault → ServeResult (List ℕ)
-served_with_words q d new claims refs (Err f) = record { reply = Err f; mid = midstep_with new claims refs }
+served_with_words q d new claims refs (Err f) =
+    record { reply = Err f; mid = midstep_with new claims refs }
 served_with_words q d new claims refs (Ok words) =
     record {
       reply = Ok (answer_of_words d claims words);

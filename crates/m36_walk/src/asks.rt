@@ -7,7 +7,8 @@ ghost use Rattle.m36_model.specs.Core.{core_store};
 ghost use Rattle.m36_model.specs.Sight.{content_in};
 ghost use Rattle.m36_model.specs.Store.{Core_word, place, segment_r1};
 ghost use Rattle.m36_walk.specs.ReferenceResult.{refusal_as_fault};
-ghost use Rattle.m36_walk.specs.Served.{sdw_in, result_at_place, result_at_target, ok_map, ServesWithoutChange};
+ghost use Rattle.m36_walk.specs.Served.{sdw_in, result_at_place, result_at_target, ok_map};
+ghost use Rattle.m36_walk.specs.Served.{ServesWithoutChange};
 
 use crate::refusal::fault;
 use crate::targets::{check_call, check_transfer, find_first_ring, find_place};
@@ -53,9 +54,11 @@ impl Walk {
     /// Checks the target of CALL6, in the ring of `at`, called from `p`. Returns the ring in which
     /// execution continues.
     pub fn check_call_target(&mut self, at: At, p: Ppr) -> Result<u8, Fault>
-        ensures serves { ServesWithoutChange (λ g. (g.ppr.psr ≡ p.psr) × (g.ppr.prr ≡ p.prr)) Call self.old
+        ensures serves { ServesWithoutChange (λ g. (g.ppr.psr ≡ p.psr) × (g.ppr.prr ≡ p.prr)) Call
+            self.old
             at (result_at_target (sdw_in self.old at.seg) result) }
-        ensures ring { IfOk result (λ ring. ring ≡ ring_after_call (sdw_in self.old at.seg) at.ring) }
+        ensures ring { IfOk result (λ ring. ring ≡ ring_after_call (sdw_in self.old at.seg)
+            at.ring) }
         ensures bound { IfOk result (λ ring. ring < 2 ^ 3) }
         ensures same { self.new ≡ self.old }
     {

@@ -5,7 +5,8 @@ ghost use Rattle.std.specs.Prelude.{ℕ, ◌≡◌, ◌+◌, ◌%◌, ◌<◌, �
 ghost use Rattle.m36_associative.specs.Right.{AreCoherent};
 ghost use Rattle.m36_model.specs.Act.{Fetch, Indirect, Odd, Read, Transfer};
 ghost use Rattle.m36_walk.specs.Runs.{IsInCore};
-ghost use Rattle.m36_walk.specs.Served.{sdw_in, result_at_target, ServesRun, ServesClaim, ServesWithoutChange};
+ghost use Rattle.m36_walk.specs.Served.{sdw_in, result_at_target, ServesRun, ServesClaim};
+ghost use Rattle.m36_walk.specs.Served.{ServesWithoutChange};
 
 use m36_associative::{
     Memories, may_transfer_to, place_to_change, place_to_fetch, place_to_fetch_elsewhere,

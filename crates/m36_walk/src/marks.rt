@@ -2,7 +2,8 @@
 
 ghost use Rattle.std.specs.Prelude.{◌≡◌, ◌/◌, ◌<◌, ◌^◌, Ok, length};
 ghost use Rattle.m36_associative.specs.Right.{AreCoherent};
-ghost use Rattle.m36_model.specs.Place.{directory_at, page_at, with_marks, directory_marks, page_marks, marks_by};
+ghost use Rattle.m36_model.specs.Place.{directory_at, page_at, with_marks, directory_marks};
+ghost use Rattle.m36_model.specs.Place.{page_marks, marks_by};
 ghost use Rattle.m36_tables.specs.Tables.{TableWordIsInCore};
 
 use m36_associative::{Memories, mark};
@@ -32,7 +33,8 @@ fn mark_directory(core: &mut Core, memories: &mut Memories, dbr: Dbr, seg: u16)
 #[tactic(auto, unfolding(m36_model::specs::Place::with_marks))]
 fn mark_page(core: &mut Core, memories: &mut Memories, dbr: Dbr, sdw: &Sdw, word: u32, write: bool)
     requires word { word < 2 ^ 18 }
-    requires table { TableWordIsInCore (length core.old) sdw.now.unpaged (page_at sdw.now (word / 1024)) }
+    requires table { TableWordIsInCore (length core.old) sdw.now.unpaged
+        (page_at sdw.now (word / 1024)) }
     requires right { AreCoherent core.old dbr memories.old }
     ensures marked { core.new ≡ with_marks core.old (page_marks write word (Ok sdw.now)) }
     ensures len { length core.new ≡ length core.old }
@@ -59,7 +61,8 @@ pub(crate) fn set_marks(
     requires seg { seg < 2 ^ 15 }
     requires word { word < 2 ^ 18 }
     requires directory { TableWordIsInCore (length core.old) dbr.unpaged (directory_at dbr seg) }
-    requires page { TableWordIsInCore (length core.old) sdw.now.unpaged (page_at sdw.now (word / 1024)) }
+    requires page { TableWordIsInCore (length core.old) sdw.now.unpaged
+        (page_at sdw.now (word / 1024)) }
     requires right { AreCoherent core.old dbr memories.old }
     ensures marked { core.new ≡ with_marks core.old (marks_by dbr seg write word (Ok sdw.now)) }
     ensures len { length core.new ≡ length core.old }

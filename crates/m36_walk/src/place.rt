@@ -1,6 +1,7 @@
 //! The places of the words of a segment.
 
-ghost use Rattle.std.specs.Prelude.{ℕ, ◌≡◌, ◌+◌, ◌/◌, ◌%◌, ◌<◌, ◌≤◌, ◌^◌, Ok, Err, IfOk, IfErr, OnOk, length};
+ghost use Rattle.std.specs.Prelude.{ℕ, ◌≡◌, ◌+◌, ◌/◌, ◌%◌, ◌<◌, ◌≤◌, ◌^◌, Ok, Err, IfOk, IfErr};
+ghost use Rattle.std.specs.Prelude.{OnOk, length};
 ghost use Rattle.m36_desc.specs.Fields.{DbrFields};
 ghost use Rattle.m36_model.specs.Core.{core_store};
 ghost use Rattle.m36_associative.specs.Right.{AreCoherent};
@@ -64,7 +65,8 @@ fn run_in_core(size: u32, place: u32, count: u32) -> Result<u32, Refused>
     requires size { size ≤ 2 ^ 24 }
     requires place { place < 2 ^ 24 }
     requires count { count ≤ 16 }
-    ensures value { (word : ℕ) → spots_in_core size word place count ≡ run_or_refusal word count result }
+    ensures value { (word : ℕ) → spots_in_core size word place count
+        ≡ run_or_refusal word count result }
     ensures inside { IfOk result (λ a. IsInCore size a count) }
     ensures bound { IfOk result (λ a. a < 2 ^ 24) }
     ensures further { IfErr result (λ r. r.further < count) }
@@ -88,7 +90,8 @@ pub(crate) fn first_place(core: &Core, sdw: &Sdw, word: u32, count: u32) -> Resu
     requires some { 1 ≤ count }
     requires block { word % 16 + count ≤ 16 }
     ensures value { (dbr : DbrFields) (seg : ℕ)
-        → spots_of core_store core.now dbr sdw.now seg word count ≡ run_or_refusal word count result }
+        → spots_of core_store core.now dbr sdw.now seg word count
+        ≡ run_or_refusal word count result }
     ensures inside { IfOk result (λ a. IsInCore (length core.now) a count) }
     ensures bound { IfOk result (λ a. a < 2 ^ 24) }
     ensures further { IfErr result (λ r. r.further < count) }
@@ -122,7 +125,8 @@ pub(crate) fn cached_first_place(
     requires block { word % 16 + count ≤ 16 }
     requires right { AreCoherent core.now dbr memories.old }
     ensures value { (other : DbrFields) (seg : ℕ)
-        → spots_of core_store core.now other sdw.now seg word count ≡ run_or_refusal word count result }
+        → spots_of core_store core.now other sdw.now seg word count
+        ≡ run_or_refusal word count result }
     ensures inside { IfOk result (λ a. IsInCore (length core.now) a count) }
     ensures bound { IfOk result (λ a. a < 2 ^ 24) }
     ensures further { IfErr result (λ r. r.further < count) }

@@ -4,11 +4,13 @@
 //! Core does not change in either case, since the marks of a reference that is answered here are
 //! already set. The answer is a core address; another call reads or writes the word there.
 
-ghost use Rattle.std.specs.Prelude.{ℕ, ◌≡◌, ◌+◌, ◌%◌, ◌<◌, ◌≤◌, ◌^◌, [], ◌∷◌, None, Ok, IfSome, IsTrue, Option, length, slice_index};
+ghost use Rattle.std.specs.Prelude.{ℕ, ◌≡◌, ◌+◌, ◌%◌, ◌<◌, ◌≤◌, ◌^◌, [], ◌∷◌, None, Ok, IfSome};
+ghost use Rattle.std.specs.Prelude.{IsTrue, Option, length, slice_index};
 ghost use Rattle.m36_word.specs.Pairs.{pair_words};
 ghost use Rattle.m36_model.specs.Act.{Fetch, Indirect, Odd, Transfer};
 ghost use Rattle.m36_model.specs.Step.{aligned_at};
-ghost use Rattle.m36_walk.specs.Served.{sdw_in, result_at_target, ServesWord, ServesClaim, ServesWithoutChange, Reads};
+ghost use Rattle.m36_walk.specs.Served.{sdw_in, result_at_target, ServesWord, ServesClaim};
+ghost use Rattle.m36_walk.specs.Served.{ServesWithoutChange, Reads};
 ghost use Rattle.m36_walk.specs.Words.{with_pending};
 ghost use Rattle.m36_walk.specs.declared.words.Pending.{Pending};
 
@@ -157,7 +159,8 @@ impl Walk {
     /// Whether a transfer in the ring of `at`, from the same ring, may go to a word.
     #[inline(always)]
     pub fn quick_transfer(&self, at: At) -> bool
-        ensures { IsTrue result → ServesWithoutChange (λ g. g.ppr.prr ≡ at.ring) Transfer self.now at
+        ensures { IsTrue result → ServesWithoutChange
+            (λ g. g.ppr.prr ≡ at.ring) Transfer self.now at
             (result_at_target (sdw_in self.now at.seg) (Ok (tt {0}))) }
     {
         transfer_in_front(&self.core, self.dbr, &self.memories, at)

@@ -1,13 +1,17 @@
 //! One reference by the tables: descriptor, rights, places, and then its marks. Then its page is
 //! put in front.
 
-ghost use Rattle.std.specs.Prelude.{◌≡◌, ◌+◌, ◌/◌, ◌%◌, ◌<◌, ◌≤◌, ◌^◌, ◌==◌, Ok, IfOk, OnOk, length, Result, true, false};
-ghost use Rattle.m36_desc.specs.Access.{unless_violation, first_violation, read_rows, write_rows, fetch_rows};
+ghost use Rattle.std.specs.Prelude.{◌≡◌, ◌+◌, ◌/◌, ◌%◌, ◌<◌, ◌≤◌, ◌^◌, ◌==◌, Ok, IfOk, OnOk};
+ghost use Rattle.std.specs.Prelude.{length, Result, true, false};
+ghost use Rattle.m36_desc.specs.Access.{unless_violation, first_violation, read_rows, write_rows};
+ghost use Rattle.m36_desc.specs.Access.{fetch_rows};
 ghost use Rattle.m36_associative.specs.Right.{AreCoherent};
 ghost use Rattle.m36_model.specs.Core.{core_store};
 ghost use Rattle.m36_model.specs.Place.{core_sdw, directory_at};
 ghost use Rattle.m36_model.specs.Store.{spots_of};
-ghost use Rattle.m36_walk.specs.ReferenceResult.{refusal_as_fault, violation_as_fault, reference_result, result_with_places, result_of_lookup, MarksAreSet};
+ghost use Rattle.m36_walk.specs.ReferenceResult.{refusal_as_fault, violation_as_fault};
+ghost use Rattle.m36_walk.specs.ReferenceResult.{reference_result, result_with_places};
+ghost use Rattle.m36_walk.specs.ReferenceResult.{result_of_lookup, MarksAreSet};
 ghost use Rattle.m36_walk.specs.Runs.{IsInCore, places_as_fault};
 ghost use Rattle.m36_walk.specs.Served.{sdw_in};
 ghost use Rattle.m36_tables.specs.Tables.{TableWordIsInCore};
@@ -120,7 +124,8 @@ pub(crate) fn read_by_tables(
     requires some { 1 ≤ count }
     requires block { at.word % 16 + count ≤ 16 }
     requires right { AreCoherent core.old dbr memories.old }
-    ensures spots_in_core { reference_result (λ d. unless_violation tt (first_violation (read_rows d at.ring (at.seg == psr))))
+    ensures spots_in_core { reference_result (λ d. unless_violation tt
+        (first_violation (read_rows d at.ring (at.seg == psr))))
         (λ d. spots_of core_store core.old dbr d at.seg at.word count)
         (core_sdw core.old dbr at.seg) at ≡ result_of_lookup count result }
     ensures marked { MarksAreSet dbr at false core.old core.new result }
@@ -147,7 +152,8 @@ pub(crate) fn write_by_tables(
     requires some { 1 ≤ count }
     requires block { at.word % 16 + count ≤ 16 }
     requires right { AreCoherent core.old dbr memories.old }
-    ensures spots_in_core { reference_result (λ d. unless_violation tt (first_violation (write_rows d at.ring)))
+    ensures spots_in_core { reference_result (λ d. unless_violation tt
+        (first_violation (write_rows d at.ring)))
         (λ d. spots_of core_store core.old dbr d at.seg at.word count)
         (core_sdw core.old dbr at.seg) at ≡ result_of_lookup count result }
     ensures marked { MarksAreSet dbr at true core.old core.new result }
@@ -171,7 +177,8 @@ pub(crate) fn fetch_by_tables(
     at: At,
 ) -> Result<LookupResult, Fault>
     requires right { AreCoherent core.old dbr memories.old }
-    ensures spots_in_core { reference_result (λ d. unless_violation tt (first_violation (fetch_rows d at.ring)))
+    ensures spots_in_core { reference_result (λ d. unless_violation tt
+        (first_violation (fetch_rows d at.ring)))
         (λ d. spots_of core_store core.old dbr d at.seg at.word 1)
         (core_sdw core.old dbr at.seg) at ≡ result_of_lookup 1 result }
     ensures marked { MarksAreSet dbr at false core.old core.new result }

@@ -2,11 +2,14 @@
 //! R1.
 
 ghost use Rattle.std.specs.Prelude.{◌≡◌, ◌<◌, ◌^◌, ◌==◌, [], Ok, IfOk, length};
-ghost use Rattle.m36_desc.specs.Access.{unless_violation, first_violation, has_ordered_brackets, ordered_rows, transfer_rows, call_rows, ring_after_call};
+ghost use Rattle.m36_desc.specs.Access.{unless_violation, first_violation, has_ordered_brackets};
+ghost use Rattle.m36_desc.specs.Access.{ordered_rows, transfer_rows, call_rows, ring_after_call};
 ghost use Rattle.m36_model.specs.Core.{core_store};
 ghost use Rattle.m36_model.specs.Place.{core_sdw};
-ghost use Rattle.m36_model.specs.Store.{Core_word, is_within_bound, when_ordered, bound_only, spots_of, place, segment_r1};
-ghost use Rattle.m36_walk.specs.ReferenceResult.{refusal_as_fault, violation_as_fault, reference_result};
+ghost use Rattle.m36_model.specs.Store.{Core_word, is_within_bound, when_ordered, bound_only};
+ghost use Rattle.m36_model.specs.Store.{spots_of, place, segment_r1};
+ghost use Rattle.m36_walk.specs.ReferenceResult.{refusal_as_fault, violation_as_fault};
+ghost use Rattle.m36_walk.specs.ReferenceResult.{reference_result};
 ghost use Rattle.m36_walk.specs.Runs.{IsInCore, places_as_fault};
 ghost use Rattle.m36_walk.specs.Served.{sdw_in, result_at_place, result_at_target, ok_map};
 
@@ -37,7 +40,8 @@ fn check_bound(sdw: &Sdw, at: At) -> Result<(), Fault>
 #[inline(always)]
 #[tactic(auto, unfolding(crate::specs::ReferenceResult::reference_result))]
 pub(crate) fn check_transfer(core: &Core, dbr: Dbr, at: At, prr: u8) -> Result<(), Fault>
-    ensures { reference_result (λ d. unless_violation tt (first_violation (transfer_rows d at.ring prr)))
+    ensures { reference_result (λ d. unless_violation tt
+        (first_violation (transfer_rows d at.ring prr)))
         (λ d. bound_only (is_within_bound d at.word) at.word) (core_sdw core.now dbr at.seg) at
         ≡ result_at_target (sdw_in (record { core = core.now; dbr = dbr }) at.seg) result }
 {
@@ -93,7 +97,8 @@ fn check_brackets(sdw: &Sdw) -> Result<(), Refusal>
 /// live descriptor, brackets out of order, out of bound, no page, or past the end of core.
 #[tactic(auto, unfolding(crate::specs::ReferenceResult::reference_result))]
 pub(crate) fn find_place(core: &Core, dbr: Dbr, at: At) -> Result<u32, Fault>
-    ensures asked { reference_result (λ d. unless_violation tt (first_violation (ordered_rows d [])))
+    ensures asked { reference_result (λ d. unless_violation tt
+        (first_violation (ordered_rows d [])))
         (λ d. spots_of core_store core.now dbr d at.seg at.word 1) (core_sdw core.now dbr at.seg) at
         ≡ result_at_place (sdw_in (record { core = core.now; dbr = dbr }) at.seg) 1 result }
     ensures inside { IfOk result (λ a. IsInCore (length core.now) a 1) }

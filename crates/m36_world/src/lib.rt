@@ -20,8 +20,8 @@
 //! For each event a record says what it did (`IsFileRead`, `IsOutputFailed`, ..). It has the facts
 //! that the traits of `m36_outside` promise for the call, and one equation, `rest`, by which
 //! everything else in `Seen` is unchanged. `Happened` selects the record by the event. `Follow` is
-//! `Happened` for a list of events, one after another. So one clause says what a function did to the
-//! outside, and in which order. An event is logged after the call that it records, and takes no
+//! `Happened` for a list of events, one after another. So one clause says what a function did to
+//! the outside, and in which order. An event is logged after the call that it records, and takes no
 //! memory.
 //!
 //! A call that fails to write output is one event. Such a call may write some of the pieces and a

@@ -1,7 +1,9 @@
 //! The indicators that results set.
 
 ghost use Rattle.std.specs.Prelude.{◌≡◌, ◌||◌};
-ghost use Rattle.m36_model.specs.Results.{half, set_zero_negative, set_zero_negative_carry, set_zero_negative_overflow, set_zero_negative_carry_overflow};
+ghost use Rattle.m36_model.specs.Results.{half, set_zero_negative, set_zero_negative_carry};
+ghost use Rattle.m36_model.specs.Results.{set_zero_negative_overflow};
+ghost use Rattle.m36_model.specs.Results.{set_zero_negative_carry_overflow};
 ghost use Rattle.m36_model.specs.Results.{set_by_comparison, with_zero};
 ghost use Rattle.m36_xdata.specs.Registers.{working_of};
 ghost use Rattle.m36_xdata.specs.Results.{sum_fields};

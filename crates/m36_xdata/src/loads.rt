@@ -23,7 +23,8 @@ pub fn load_complement(r: Register, given: &Operand36, regs: &Regs) -> Change
     requires register { HasValidIndex r }
     requires got { HoldsNumber r given.now.got }
     ensures value { IsEffect result regs.now
-        (load_complement (working_of r) (operand (working_of r) (operand_fields given.now)) regs.now) }
+        (load_complement (working_of r) (operand (working_of r) (operand_fields given.now))
+        regs.now) }
     ensures put { length (words_to_write result.put) ≡ 0 }
 {
     let s = negation(r, operand_number(r, given));
@@ -42,7 +43,8 @@ pub fn load_and_clear(r: Register, given: &Operand36, regs: &Regs) -> Change
     requires register { HasValidIndex r }
     requires got { HoldsNumber r given.now.got }
     ensures value { IsEffect result regs.now
-        (load_and_clear (working_of r) (operand (working_of r) (operand_fields given.now)) regs.now) }
+        (load_and_clear (working_of r) (operand (working_of r) (operand_fields given.now))
+        regs.now) }
     ensures put { length (words_to_write result.put) ≡ 1 }
 {
     let v = operand_number(r, given);

@@ -1,7 +1,8 @@
 //! The forms of most effects: a register takes a number, indicators are set, or words are written.
 
 ghost use Rattle.std.specs.Prelude.{◌≡◌, ◌*◌, ◌<◌, [], length};
-ghost use Rattle.m36_model.specs.Results.{half, words, with_value_and_indicators, with_indicators, with_value, sets_register};
+ghost use Rattle.m36_model.specs.Results.{half, words, with_value_and_indicators, with_indicators};
+ghost use Rattle.m36_model.specs.Results.{with_value, sets_register};
 ghost use Rattle.m36_model.specs.Results.{completes, completes_or_overflows};
 ghost use Rattle.m36_xdata.specs.Registers.{working_of, HasValidIndex, PutsNumber};
 ghost use Rattle.m36_xdata.specs.Changes.{IsEffect, words_to_write, with_new_values};
@@ -34,7 +35,8 @@ pub fn register_change(r: Register, v: u128, ind: Ind, overflow: bool, regs: &Re
     requires register { HasValidIndex r }
     requires number { v < 2 * half (working_of r) }
     ensures value { IsEffect result regs.now
-        (completes_or_overflows (with_value_and_indicators (working_of r) v ind regs.now) [] overflow) }
+        (completes_or_overflows (with_value_and_indicators (working_of r) v ind regs.now) []
+        overflow) }
     ensures put { length (words_to_write result.put) ≡ 0 }
 {
     Change {

@@ -34,7 +34,8 @@ fn carry(regs: &Regs) -> bool
 fn into_register(r: Register, s: Computed, regs: &Regs) -> Change
     requires register { HasValidIndex r }
     requires number { s.value < 2 * half (working_of r) }
-    ensures value { IsEffect result regs.now (into_register (working_of r) (sum_fields s) regs.now) }
+    ensures value { IsEffect result regs.now
+        (into_register (working_of r) (sum_fields s) regs.now) }
     ensures put { length (words_to_write result.put) ≡ 0 }
 {
     register_change(
@@ -148,7 +149,8 @@ pub fn add_with_carry(r: Register, given: &Operand36, regs: &Regs) -> Change
     requires register { HasValidIndex r }
     requires got { HoldsNumber r given.now.got }
     ensures value { IsEffect result regs.now
-        (add_with_carry (working_of r) (operand (working_of r) (operand_fields given.now)) regs.now) }
+        (add_with_carry (working_of r) (operand (working_of r) (operand_fields given.now))
+        regs.now) }
     ensures put { length (words_to_write result.put) ≡ 0 }
 {
     into_register(
@@ -180,7 +182,8 @@ pub fn subtract_logical(r: Register, given: &Operand36, regs: &Regs) -> Change
     requires register { HasValidIndex r }
     requires got { HoldsNumber r given.now.got }
     ensures value { IsEffect result regs.now
-        (subtract_logical (working_of r) (operand (working_of r) (operand_fields given.now)) regs.now) }
+        (subtract_logical (working_of r) (operand (working_of r) (operand_fields given.now))
+        regs.now) }
     ensures put { length (words_to_write result.put) ≡ 0 }
 {
     into_register_logical(
@@ -218,7 +221,8 @@ pub fn add_to_storage(r: Register, given: &Operand36, regs: &Regs) -> Change
     requires register { HasValidIndex r }
     requires got { HoldsNumber r given.now.got }
     ensures value { IsEffect result regs.now
-        (add_to_storage (working_of r) (operand (working_of r) (operand_fields given.now)) regs.now) }
+        (add_to_storage (working_of r) (operand (working_of r) (operand_fields given.now))
+        regs.now) }
     ensures put { PutsNumber r (words_to_write result.put) }
 {
     into_operand(
@@ -234,7 +238,8 @@ pub fn subtract_stored(r: Register, given: &Operand36, regs: &Regs) -> Change
     requires register { HasValidIndex r }
     requires got { HoldsNumber r given.now.got }
     ensures value { IsEffect result regs.now
-        (subtract_stored (working_of r) (operand (working_of r) (operand_fields given.now)) regs.now) }
+        (subtract_stored (working_of r) (operand (working_of r) (operand_fields given.now))
+        regs.now) }
     ensures put { PutsNumber r (words_to_write result.put) }
 {
     into_operand(

@@ -13,8 +13,8 @@
 //!   core into A. CAMS and CAMP have no visible effect.
 //!
 //! [`exec`] gives exactly the effect that the instruction's equations define. [`transfer`],
-//! [`call_in_place`] (CALL6) and [`return_in_place`] (RTCD) execute the most frequent instructions directly in the
-//! registers.
+//! [`call_in_place`] (CALL6) and [`return_in_place`] (RTCD) execute the most frequent instructions
+//! directly in the registers.
 //!
 //! Source: Multics Processor Manual AL39, "Transfer of control instructions", "Call (using PR6 and
 //! PR7)", "Return control double", "No operation" and "Privileged instructions"; for calls and

@@ -1,7 +1,8 @@
 //! Objects, and how they are read and written.
 
 ghost use Rattle.std.specs.Prelude.{[], ◌∷◌, ◌++◌, ◌≡◌, ◌+◌, ◌*◌, ◌<◌, ◌≤◌, ◌^◌};
-ghost use Rattle.std.specs.Prelude.{true, length, nat_eq, if◌then◌else◌, Some, None, option_map, IfOk, IfSome, OnOk};
+ghost use Rattle.std.specs.Prelude.{true, length, nat_eq, if◌then◌else◌, Some, None, option_map};
+ghost use Rattle.std.specs.Prelude.{IfOk, IfSome, OnOk};
 ghost use Rattle.obj36_parts.specs.ObjectSegment.{inner_statics, outer_statics};
 ghost use Rattle.obj36_parts.specs.ObjectSegment.{definition_section, linkage_section};
 ghost use Rattle.obj36_parts.specs.ObjectSegment.{symbol_section, section_words, map_part};
@@ -95,7 +96,8 @@ struct Lengths {
 
 // Adds the map word of the static section, which only version 2 has.
 fn push_static_entry(out: &mut Words, newer: bool, offset: u64, length: u64) -> Result<(), NoMemory>
-    ensures { OnOk result (out.new ≡ out.old ++ (if newer then word_with_halves offset length ∷ [] else [])) }
+    ensures { OnOk result (out.new ≡ out.old ++ (if newer then word_with_halves offset length ∷ []
+        else [])) }
 {
     if newer {
         out.push(word_of_halves(offset, length))

@@ -1,5 +1,6 @@
 -- The hash tables of definitions and links, by which a name or a link is found.
-use Rattle.std.specs.Prelude.{ℕ, ◌≡◌, ◌+◌, ◌*◌, ◌^◌, Bool, ◌&&◌, nat_eq, List, [], position, is_some}
+use Rattle.std.specs.Prelude.{ℕ, ◌≡◌, ◌+◌, ◌*◌, ◌^◌, Bool, ◌&&◌, nat_eq, List, [], position}
+use Rattle.std.specs.Prelude.{is_some}
 use Rattle.std.specs.List.{list_any}
 use Rattle.std.specs.Map.{lookup}
 use Rattle.m36_text.specs.Once.{appended_unless}
@@ -13,7 +14,8 @@ use Rattle.obj36_parts.specs.ObjectSegment.{definition_named}
 -- the table of the first definition of each name, after one more definition, which is added unless
 -- the table has its name
 unfoldable pub with_first_definition : List (List ℕ × DefFields) → Named → List (List ℕ × DefFields)
-with_first_definition firsts d = appended_unless (is_some (lookup (same d.name) firsts)) firsts (d.name, d.def)
+with_first_definition firsts d =
+    appended_unless (is_some (lookup (same d.name) firsts)) firsts (d.name, d.def)
 
 -- The table has each name of the definitions once, with the place of its first definition.
 pub record AreFirsts (definitions : List Named) (firsts : List (List ℕ × DefFields)) : Type 0 where
@@ -22,7 +24,8 @@ pub record AreFirsts (definitions : List Named) (firsts : List (List ℕ × DefF
 
 -- all fields of a link but its names, as one number for its hash
 abbrev pub link_hash_number : LinkFields → ℕ
-link_hash_number l = l.expr + 2 ^ 18 * l.modifier + 2 ^ 24 * l.kind + 2 ^ 32 * class_number l.section
+link_hash_number l =
+    l.expr + 2 ^ 18 * l.modifier + 2 ^ 24 * l.kind + 2 ^ 32 * class_number l.section
 
 -- whether two links are equal in all fields
 unfoldable pub same_link : LinkFields → LinkFields → Bool

@@ -42,7 +42,8 @@ name_quarter name i = slice_index (length name ∷ name) i
 -- word j of a name, counted from 0
 unfoldable pub name_word : List ℕ → ℕ → ℕ
 name_word name j =
-    of_quarters (name_quarter name (4 * j)) (name_quarter name (4 * j + 1)) (name_quarter name (4 * j + 2))
+    of_quarters (name_quarter name (4 * j)) (name_quarter name (4 * j + 1))
+    (name_quarter name (4 * j + 2))
     (name_quarter name (4 * j + 3))
 
 -- `count` words of a name, from word j on

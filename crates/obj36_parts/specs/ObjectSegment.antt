@@ -145,7 +145,8 @@ entry_name_offset names base l = if has_entry l.kind then name_offset l.entry na
 unfoldable pub expression_words : List (List ℕ) → ℕ → List LinkFields → List ℕ
 expression_words names base [] = []
 expression_words names base (l ∷ ls) =
-    word_with_halves l.kind (section_or_name_offset names base l) ∷ word_with_halves (entry_name_offset names base l) l.expr
+    word_with_halves l.kind (section_or_name_offset names base l) ∷ word_with_halves
+    (entry_name_offset names base l) l.expr
     ∷ expression_words names base ls
 
 -- the words of a definition section: its head, the definitions, the expressions of the links, and
@@ -204,7 +205,8 @@ linkage_length statics links = first_link_at statics + 2 * links
 -- begin at the offset `expressions` of the definition section
 unfoldable pub linkage_part : List ℕ → List LinkFields → ℕ → List ℕ
 linkage_part statics ls expressions =
-    0 ∷ word_with_halves (first_link_at (length statics)) (length ls) ∷ 0 ∷ 0 ∷ 0 ∷ 0 ∷ 0 ∷ 0 ∷ statics
+    0 ∷ word_with_halves (first_link_at (length statics))
+    (length ls) ∷ 0 ∷ 0 ∷ 0 ∷ 0 ∷ 0 ∷ 0 ∷ statics
     ++ link_words ls (first_link_at (length statics)) expressions
 
 -- the words of the linkage section of the object of these parts
@@ -428,7 +430,8 @@ is_well_formed p =
     && are_distinct (definition_names p.definitions)
     && list_all (is_valid_link p.version) p.links
     && list_all
-    (is_valid_relocation (length p.text) (length (inner_statics p)) (length (outer_statics p)) p.version)
+    (is_valid_relocation (length p.text) (length (inner_statics p))
+    (length (outer_statics p)) p.version)
     p.relocations
     && are_in_order p.relocations
 
@@ -459,4 +462,5 @@ pub record IsObject (p : PartsFields) (d k s : List ℕ) : Type 0 where
 -- Different parts have different words. (Parts have only one list of words, since this is
 -- `words_of` of them.)
 abbrev pub WordsDetermineParts : Type 0
-WordsDetermineParts = (p q : PartsFields) (words : List ℕ) → Encodes p words → Encodes q words → p ≡ q
+WordsDetermineParts =
+    (p q : PartsFields) (words : List ℕ) → Encodes p words → Encodes q words → p ≡ q

@@ -4,9 +4,11 @@ ghost use Rattle.std.specs.Prelude.{true, ◌≡◌, ◌+◌, ◌*◌, ◌^◌, 
 ghost use Rattle.std.specs.Prelude.{◌&&◌, ◌||◌, not, nat_eq, nat_le, if◌then◌else◌};
 ghost use Rattle.std.specs.List.{list_all};
 ghost use Rattle.obj36_parts.specs.Names.{is_name};
-ghost use Rattle.obj36_parts.specs.ObjectSegment.{has_section, greatest_class_number, last_section_number, offset_part};
+ghost use Rattle.obj36_parts.specs.ObjectSegment.{has_section, greatest_class_number};
+ghost use Rattle.obj36_parts.specs.ObjectSegment.{last_section_number, offset_part};
 ghost use Rattle.obj36_parts.specs.ObjectSegment.{is_valid_link_section, is_valid_link_name};
-ghost use Rattle.obj36_parts.specs.ObjectSegment.{is_valid_definition, is_valid_link, is_relocatable, is_valid_relocation};
+ghost use Rattle.obj36_parts.specs.ObjectSegment.{is_valid_definition, is_valid_link};
+ghost use Rattle.obj36_parts.specs.ObjectSegment.{is_relocatable, is_valid_relocation};
 ghost use Rattle.obj36_parts.specs.ObjectSegment.{order_of, are_in_order, left_part};
 ghost use Rattle.obj36_parts.specs.ObjectSegment.{definition_names, are_distinct};
 
@@ -146,7 +148,8 @@ fn is_relocatable_word(room: RelocationBounds, section: Section, offset: u32) ->
 // Whether an object with these bounds can have a relocation.
 #[tactic(auto, unfolding(crate::specs::ObjectSegment::is_valid_relocation))]
 fn is_good_relocation(room: RelocationBounds, relocation: &Reloc) -> bool
-    ensures { result ≡ is_valid_relocation room.text room.inner room.outer room.version relocation.now }
+    ensures { result ≡ is_valid_relocation room.text room.inner room.outer room.version
+        relocation.now }
 {
     is_relocatable_word(room, relocation.section, relocation.offset)
         && relocation.offset < 1 << 18
@@ -157,7 +160,8 @@ fn is_good_relocation(room: RelocationBounds, relocation: &Reloc) -> bool
 // Whether an object with these bounds can have each of these relocations.
 fn are_good_relocations(room: RelocationBounds, relocations: &[Reloc]) -> bool
     ensures { result
-        ≡ list_all (is_valid_relocation room.text room.inner room.outer room.version) relocations.now }
+        ≡ list_all (is_valid_relocation room.text room.inner room.outer room.version)
+        relocations.now }
 {
     let mut rest = relocations;
     while let [first, others @ ..] = rest {
@@ -227,7 +231,8 @@ pub(crate) fn are_good_tables(
         ≡ (list_all (is_valid_definition room.version) definitions.now
         && are_distinct (definition_names definitions.now)
         && list_all (is_valid_link room.version) links.now
-        && list_all (is_valid_relocation room.text room.inner room.outer room.version) relocations.now
+        && list_all (is_valid_relocation room.text room.inner room.outer room.version)
+        relocations.now
         && are_in_order relocations.now) }
 {
     are_good_definitions(room.version, definitions.items())

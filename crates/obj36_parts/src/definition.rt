@@ -136,7 +136,8 @@ fn add_first_definition(
     firsts: &mut IndexMap<Name, Def, HashSeed>,
     definition: &Named,
 ) -> Result<(), NoMemory>
-    ensures ok { OnOk result (firsts.new.entries ≡ with_first_definition firsts.old.entries definition.now) }
+    ensures ok { OnOk result (firsts.new.entries ≡ with_first_definition firsts.old.entries
+        definition.now) }
     ensures err { OnErr result (firsts.new.entries ≡ firsts.old.entries) }
 {
     if firsts.contains_key(&definition.name) {

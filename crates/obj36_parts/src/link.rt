@@ -7,7 +7,8 @@ ghost use Rattle.m36_text.specs.Seeds.{name_writes};
 ghost use Rattle.obj36_parts.specs.Names.{with_name, with_names};
 ghost use Rattle.obj36_parts.specs.ObjectSegment.{name_used, entry_used, link_names};
 ghost use Rattle.obj36_parts.specs.ObjectSegment.{all_link_names};
-ghost use Rattle.obj36_parts.specs.Indexes.{link_hash_number, same_link, has_link, with_first_index};
+ghost use Rattle.obj36_parts.specs.Indexes.{link_hash_number, same_link, has_link};
+ghost use Rattle.obj36_parts.specs.Indexes.{with_first_index};
 ghost use Rattle.std.specs.Cmp.Rules.{hashing};
 ghost use Rattle.std.specs.Hash as fed;
 ghost use Rattle.std.proofs.Common.{rules};
@@ -191,7 +192,8 @@ fn add_first_index(
     link: &Link,
     place: u64,
 ) -> Result<(), NoMemory>
-    ensures ok { OnOk result (places.new.entries ≡ with_first_index places.old.entries link.now place) }
+    ensures ok { OnOk result (places.new.entries ≡ with_first_index places.old.entries link.now
+        place) }
     ensures err { OnErr result (places.new.entries ≡ places.old.entries) }
 {
     if places.contains_key(link) {

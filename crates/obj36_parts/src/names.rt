@@ -3,7 +3,8 @@
 ghost use Rattle.std.specs.Prelude.{[], ◌++◌, ◌≡◌, ◌+◌, ◌-◌, ◌*◌, ◌^◌, ◌<◌, ◌≤◌, length};
 ghost use Rattle.std.specs.Prelude.{OnOk, IfOk};
 ghost use Rattle.m36_text.specs.Texts.{name_limit};
-ghost use Rattle.obj36_parts.specs.Names.{with_name, with_names, name_offset, name_size, name_quarter};
+ghost use Rattle.obj36_parts.specs.Names.{with_name, with_names, name_offset, name_size};
+ghost use Rattle.obj36_parts.specs.Names.{name_quarter};
 ghost use Rattle.obj36_parts.specs.Names.{name_word, name_words, all_name_words};
 ghost use Rattle.obj36_parts.specs.ObjectSegment.{definition_names, link_names, all_link_names};
 ghost use Rattle.obj36_parts.specs.ObjectSegment.{has_name, has_entry};

@@ -9,8 +9,10 @@ ghost use Rattle.obj36_parts.specs.Sections.{later_section};
 ghost use Rattle.obj36_parts.specs.ObjectSegment.{version_of, padded_to_even};
 ghost use Rattle.obj36_parts.specs.ObjectSegment.{offset_if_any};
 ghost use Rattle.obj36_parts.specs.ObjectSegment.{class_of};
-ghost use Rattle.obj36_parts.specs.ObjectSegment.{definition_words, section_or_name_offset, entry_name_offset};
-ghost use Rattle.obj36_parts.specs.ObjectSegment.{definition_names, all_link_names, first_expression_at};
+ghost use Rattle.obj36_parts.specs.ObjectSegment.{definition_words, section_or_name_offset};
+ghost use Rattle.obj36_parts.specs.ObjectSegment.{entry_name_offset};
+ghost use Rattle.obj36_parts.specs.ObjectSegment.{definition_names, all_link_names};
+ghost use Rattle.obj36_parts.specs.ObjectSegment.{first_expression_at};
 ghost use Rattle.obj36_parts.specs.ObjectSegment.{expression_words, definition_part};
 ghost use Rattle.obj36_parts.specs.ObjectSegment.{linkage_part, relocation_word};
 ghost use Rattle.obj36_parts.specs.ObjectSegment.{symbol_part, definition_head_words};
@@ -241,8 +243,10 @@ fn entry(table: &NameTable, link: &Link) -> u64
 // Adds the two words of the expression of a link.
 fn push_expression(out: &mut Words, table: &NameTable, link: &Link) -> Result<(), NoMemory>
     ensures { OnOk result (out.new ≡ out.old
-        ++ word_with_halves link.now.kind (section_or_name_offset table.now.names table.now.base link.now)
-        ∷ word_with_halves (entry_name_offset table.now.names table.now.base link.now) link.now.expr ∷ []) }
+        ++ word_with_halves link.now.kind (section_or_name_offset table.now.names table.now.base
+        link.now)
+        ∷ word_with_halves (entry_name_offset table.now.names table.now.base link.now) link.now.expr
+        ∷ []) }
 {
     let first = word_of_halves(link.kind as u64, subject(table, link));
     let second = word_of_halves(entry(table, link), link.expr as u64);

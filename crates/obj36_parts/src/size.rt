@@ -2,7 +2,8 @@
 
 ghost use Rattle.std.specs.Prelude.{◌++◌, ◌≡◌, ◌+◌, ◌*◌, ◌^◌, ◌<◌, ◌≤◌, length};
 ghost use Rattle.obj36_parts.specs.ObjectSegment.{definition_names, all_link_names};
-ghost use Rattle.obj36_parts.specs.Sizes.{distinct_names_size, total_names_size, undefined_name_size, undefined_names_size};
+ghost use Rattle.obj36_parts.specs.Sizes.{distinct_names_size, total_names_size};
+ghost use Rattle.obj36_parts.specs.Sizes.{undefined_name_size, undefined_names_size};
 
 use crate::definition::Defs;
 use crate::link::Links;

@@ -12,7 +12,7 @@ use Rattle.obj36_read.specs.Reading.{quarter_at}
 use Rattle.obj36_read.specs.TableFaults.{earlier, index_if_bad, next_definition, name_offset_at, name_is_within, same_quarters, same_name, first_repeat_of, first_repeat}
 use Rattle.obj36_read.specs.Spelled.{words_but_last, last_word_value}
 use Rattle.obj36_read.specs.Repeated.{has_spelling, least_earlier_place, least_repeated_place}
-use Rattle.obj36_read.specs.declared.first_repeat.Spelling.{Spelling}
+use Rattle.obj36_read.specs.declared.repeats.Spelling.{Spelling}
 use Rattle.obj36_read.proofs.FaultLoops.{earlier-assoc, earlier-none}
 use Rattle.obj36_read.proofs.SpelledNames.{spelled_same}
 

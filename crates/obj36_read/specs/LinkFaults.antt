@@ -3,7 +3,8 @@ use Rattle.std.specs.Prelude.{ℕ, zero, suc, ◌+◌, ◌*◌, ◌%◌, ◌^◌
 use Rattle.std.specs.Prelude.{nat_lt, nat_le, if◌then◌else◌, List, length, slice_index, Option}
 use Rattle.std.specs.Prelude.{Some, None, option_map}
 use Rattle.obj36_parts.specs.Halves.{left, right}
-use Rattle.obj36_parts.specs.ObjectSegment.{is_newer_version, has_name, has_section, last_section_number}
+use Rattle.obj36_parts.specs.ObjectSegment.{is_newer_version, has_name, has_section}
+use Rattle.obj36_parts.specs.ObjectSegment.{last_section_number}
 use Rattle.obj36_parts.specs.ObjectSegment.{head_words, link_head}
 use Rattle.obj36_read.specs.Reading.{link_start}
 use Rattle.obj36_read.specs.TableFaults.{earlier, index_if_bad, expression_count, first_expression}
@@ -14,7 +15,8 @@ use Rattle.obj36_read.specs.TableFaults.{earlier, index_if_bad, expression_count
 -- with a section whose number is one of this version.
 unfoldable pub is_expression_type : ℕ → ℕ → Bool
 is_expression_type version word =
-    has_name (left word) || (has_section (left word) && nat_le (right word) (last_section_number version))
+    has_name (left word) || (has_section (left word) && nat_le (right word)
+    (last_section_number version))
 
 -- the first of `count` expressions from `at` on whose type or section is invalid
 unfoldable pub first_bad_type : ℕ → List ℕ → ℕ → ℕ → Option ℕ
@@ -72,5 +74,6 @@ index_in_list from place = option_map (λ p. from + p) place
 -- they begin
 unfoldable pub links_fault : ℕ → ℕ → List ℕ → ℕ → List ℕ → Option ℕ
 links_fault version d_from d k_from k =
-    earlier (index_in_list d_from (first_bad_type version d (expression_count d) (first_expression d)))
+    earlier (index_in_list d_from (first_bad_type version d (expression_count d)
+    (first_expression d)))
     (index_in_list k_from (linkage_fault version d k))

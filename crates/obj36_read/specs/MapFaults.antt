@@ -7,8 +7,10 @@ use Rattle.m36_text.specs.Lines.{first_true_case}
 use Rattle.obj36_parts.specs.Halves.{left, right}
 use Rattle.obj36_parts.specs.ObjectSegment.{is_newer_version, head_words}
 use Rattle.obj36_parts.specs.ObjectSegment.{definition_head_words, symbol_head_words}
-use Rattle.obj36_read.specs.Reading.{older_map_words, newer_map_words, map_index, map_word, version_in}
-use Rattle.obj36_read.specs.Reading.{section_length_in_map, text_index, definition_index, linkage_index, statics_index}
+use Rattle.obj36_read.specs.Reading.{older_map_words, newer_map_words, map_index, map_word}
+use Rattle.obj36_read.specs.Reading.{version_in}
+use Rattle.obj36_read.specs.Reading.{section_length_in_map, text_index, definition_index}
+use Rattle.obj36_read.specs.Reading.{linkage_index, statics_index}
 use Rattle.obj36_read.specs.Reading.{symbol_index, bound_index}
 use Rattle.obj36_read.specs.declared.map.Extent.{Extent}
 use Rattle.obj36_read.specs.declared.map.Extents.{Extents}
@@ -69,7 +71,8 @@ extents_of words =
       definition = extent_at words definition_index;
       linkage = extent_at words linkage_index;
       statics =
-          if is_newer_version (version_in words) then extent_at words statics_index else absent_extent;
+          if is_newer_version (version_in words) then extent_at words statics_index else
+          absent_extent;
       symbol = extent_at words (symbol_index (version_in words));
     }
 

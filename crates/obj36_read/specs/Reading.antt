@@ -25,7 +25,8 @@ quarter_at words at i = quarter (slice_index words (at + i / 4)) (i % 4)
 -- `count` characters from part i on, each of which keeps its low eight bits
 unfoldable pub characters : List ℕ → ℕ → ℕ → ℕ → List ℕ
 characters words at i zero = []
-characters words at i (suc count) = quarter_at words at i % 2 ^ 8 ∷ characters words at (i + 1) count
+characters words at i (suc count) =
+    quarter_at words at i % 2 ^ 8 ∷ characters words at (i + 1) count
 
 -- the name at an index; a length over 32 is taken as 32
 unfoldable pub name_at : List ℕ → ℕ → List ℕ

@@ -7,7 +7,7 @@ use Rattle.std.specs.Cmp.Lexicographic.{pointwise}
 use Rattle.obj36_read.specs.Reading.{quarter_at}
 use Rattle.obj36_read.specs.TableFaults.{earlier, next_definition, name_offset_at, name_is_within}
 use Rattle.obj36_read.specs.Spelled.{words_but_last, last_word_value}
-use Rattle.obj36_read.specs.declared.first_repeat.Spelling.{Spelling}
+use Rattle.obj36_read.specs.declared.repeats.Spelling.{Spelling}
 
 -- whether the name at a place has this spelling
 unfoldable pub has_spelling : List ℕ → ℕ → Spelling → Bool
@@ -21,7 +21,8 @@ unfoldable pub least_earlier_place : List ℕ → List (Spelling × ℕ) → ℕ
 least_earlier_place d places at =
     if name_is_within d at then option_map (min at) (lookup (has_spelling d at) places) else None
 
--- the least of the results of `least_earlier_place` for the names of `count` definitions from `at` on
+-- the least of the results of `least_earlier_place` for the names of `count` definitions from `at`
+-- on
 unfoldable pub least_repeated_place : List ℕ → List (Spelling × ℕ) → ℕ → ℕ → Option ℕ
 least_repeated_place d places zero at = None
 least_repeated_place d places (suc count) at =

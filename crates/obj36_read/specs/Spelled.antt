@@ -16,4 +16,5 @@ leading_quarters_value w (suc (suc (suc n))) = w
 
 -- the nine-bit parts of the last word of a name that belong to the name, as one number
 unfoldable pub last_word_value : List ℕ → ℕ → ℕ
-last_word_value d at = leading_quarters_value (slice_index d (at + quarter_at d at 0 / 4)) (quarter_at d at 0 % 4)
+last_word_value d at =
+    leading_quarters_value (slice_index d (at + quarter_at d at 0 / 4)) (quarter_at d at 0 % 4)

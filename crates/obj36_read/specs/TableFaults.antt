@@ -106,7 +106,8 @@ same_quarters d at other i (suc count) =
 -- whether two names are within the section and are equal
 unfoldable pub same_name : List ℕ → ℕ → ℕ → Bool
 same_name d at other =
-    name_is_within d at && name_is_within d other && same_quarters d at other 0 (quarter_at d at 0 + 1)
+    name_is_within d at && name_is_within d other && same_quarters d at other 0
+    (quarter_at d at 0 + 1)
 
 -- the least place of a name, or of an equal name of `count` definitions from `at` on, if there is
 -- one
@@ -136,7 +137,8 @@ unfoldable pub members_fault : ℕ → List ℕ → Option ℕ
 members_fault version d =
     earlier
     (index_if_bad (expressions_leave_section d) 1)
-    (earlier (first_bad_class (greatest_class_number version) d (definition_count d) (first_definition d))
+    (earlier (first_bad_class (greatest_class_number version) d (definition_count d)
+    (first_definition d))
     (first_repeat d (definition_count d) (first_definition d)))
 
 -- the first word with which O5 refuses a definition section

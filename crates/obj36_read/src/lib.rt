@@ -10,10 +10,10 @@
 //! Source: the format is this project's own.
 #![tactic(auto)]
 
-mod first_repeat;
 pub mod linking;
 mod lists;
 pub mod map;
 pub mod reading;
+mod repeats;
 pub mod spelling;
 pub mod tables;

@@ -7,7 +7,8 @@ ghost use Rattle.obj36_read.specs.TableFaults.{earlier, expression_count};
 ghost use Rattle.obj36_read.specs.TableFaults.{first_expression};
 ghost use Rattle.obj36_read.specs.Reading.{link_start};
 ghost use Rattle.obj36_read.specs.LinkFaults.{is_expression_type, first_bad_type, link_count};
-ghost use Rattle.obj36_read.specs.LinkFaults.{is_valid_linkage_head, is_valid_link_at, first_bad_link, linkage_fault};
+ghost use Rattle.obj36_read.specs.LinkFaults.{is_valid_linkage_head, is_valid_link_at};
+ghost use Rattle.obj36_read.specs.LinkFaults.{first_bad_link, linkage_fault};
 ghost use Rattle.obj36_read.specs.LinkFaults.{index_in_list, links_fault};
 
 use crate::reading::word_at;

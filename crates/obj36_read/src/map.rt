@@ -8,7 +8,8 @@ ghost use Rattle.obj36_read.specs.MapFaults.{extent_at, locates_map, is_valid_en
 ghost use Rattle.obj36_read.specs.Reading.{symbol_index, statics_index, newer_map_words};
 ghost use Rattle.obj36_read.specs.MapFaults.{absent_extent, map_word_fault, map_fault};
 ghost use Rattle.obj36_read.specs.MapFaults.{is_bad_extent, section_fault, extents_of, covers};
-ghost use Rattle.obj36_read.specs.MapFaults.{sections_covering, first_shared_word, shared_fault, extent_words};
+ghost use Rattle.obj36_read.specs.MapFaults.{sections_covering, first_shared_word, shared_fault};
+ghost use Rattle.obj36_read.specs.MapFaults.{extent_words};
 ghost use Rattle.obj36_read.specs.Near.{AllFitHalfWords};
 
 use crate::reading::{

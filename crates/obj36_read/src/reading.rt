@@ -1,15 +1,20 @@
 //! Decodes the parts that a list of words may encode.
 
 ghost use Rattle.std.specs.Prelude.{[], ◌≡◌, ◌+◌, ◌-◌, ◌*◌, ◌/◌, ◌%◌, ◌^◌, ◌<◌};
-ghost use Rattle.std.specs.Prelude.{◌≤◌, ◌++◌, min, length, take, drop, slice_index, if◌then◌else◌, IfOk, OnOk};
+ghost use Rattle.std.specs.Prelude.{◌≤◌, ◌++◌, min, length, take, drop, slice_index, if◌then◌else◌};
+ghost use Rattle.std.specs.Prelude.{IfOk, OnOk};
 ghost use Rattle.obj36_parts.specs.declared.section.Section.TheVariants.{Text};
 ghost use Rattle.obj36_parts.specs.Halves.{quarter};
-ghost use Rattle.obj36_read.specs.Reading.{quarter_at, characters, name_at, section_of_class_number};
+ghost use Rattle.obj36_read.specs.Reading.{quarter_at, characters, name_at};
+ghost use Rattle.obj36_read.specs.Reading.{section_of_class_number};
 ghost use Rattle.obj36_read.specs.Reading.{section_with, definition_at, definitions_in, link_at};
 ghost use Rattle.obj36_read.specs.Reading.{links_in, relocation_in, relocations_in, map_index};
-ghost use Rattle.obj36_read.specs.Reading.{version_in, section_length_in_map, count_of_items, from_definition};
-ghost use Rattle.obj36_read.specs.Reading.{from_linkage, from_statics, from_symbol, first_link_in_head};
-ghost use Rattle.obj36_read.specs.Reading.{statics_in, bound_index, bound_in, parts_of, newer_map_words};
+ghost use Rattle.obj36_read.specs.Reading.{version_in, section_length_in_map, count_of_items};
+ghost use Rattle.obj36_read.specs.Reading.{from_definition};
+ghost use Rattle.obj36_read.specs.Reading.{from_linkage, from_statics, from_symbol};
+ghost use Rattle.obj36_read.specs.Reading.{first_link_in_head};
+ghost use Rattle.obj36_read.specs.Reading.{statics_in, bound_index, bound_in, parts_of};
+ghost use Rattle.obj36_read.specs.Reading.{newer_map_words};
 ghost use Rattle.m36_text.specs.Texts.{name_limit};
 ghost use Rattle.obj36_parts.specs.ObjectSegment.{definition_head_words, symbol_head_words};
 

@@ -4,14 +4,17 @@ ghost use Rattle.std.specs.Prelude.{◌≡◌, ◌+◌, ◌-◌, ◌*◌, ◌/�
 ghost use Rattle.std.specs.Prelude.{◌||◌, min, length, Option, Some};
 ghost use Rattle.std.specs.Prelude.{None, IfSome, IfOk};
 ghost use Rattle.obj36_read.specs.TableFaults.{earlier, index_if_bad, definition_count};
-ghost use Rattle.obj36_read.specs.TableFaults.{first_definition, next_definition, has_room_for_definition};
+ghost use Rattle.obj36_read.specs.TableFaults.{first_definition, next_definition};
+ghost use Rattle.obj36_read.specs.TableFaults.{has_room_for_definition};
 ghost use Rattle.obj36_read.specs.TableFaults.{chain_fault, count_fault, expression_count};
-ghost use Rattle.obj36_read.specs.TableFaults.{first_expression, expressions_leave_section, class_at};
-ghost use Rattle.obj36_read.specs.TableFaults.{first_bad_class, name_offset_at, name_is_within, is_at_head};
+ghost use Rattle.obj36_read.specs.TableFaults.{first_expression, expressions_leave_section};
+ghost use Rattle.obj36_read.specs.TableFaults.{class_at};
+ghost use Rattle.obj36_read.specs.TableFaults.{first_bad_class, name_offset_at, name_is_within};
+ghost use Rattle.obj36_read.specs.TableFaults.{is_at_head};
 ghost use Rattle.obj36_read.specs.TableFaults.{members_fault, table_fault};
 
-use crate::first_repeat::fault_of_repeats;
 use crate::reading::{quarter_from, word_at};
+use crate::repeats::fault_of_repeats;
 use m36_word::{NoMemory, Word};
 use obj36_parts::checks::greatest_class;
 use obj36_parts::halves::{left_of, right_of};

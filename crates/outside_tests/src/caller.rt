@@ -1,7 +1,8 @@
 //! A function over any folder and sink: it reads one file and puts two lines. Its contract follows
 //! from the contracts of the traits alone.
 
-ghost use Rattle.std.specs.Prelude.{ℕ, [], ◌∷◌, ◌++◌, ◌≡◌, List, Some, IfSome, IfOk, IfErr, MatchResult};
+ghost use Rattle.std.specs.Prelude.{ℕ, [], ◌∷◌, ◌++◌, ◌≡◌, List, Some, IfSome, IfOk, IfErr};
+ghost use Rattle.std.specs.Prelude.{MatchResult};
 ghost use Rattle.m36_outside.specs.Passing.{TakesLines};
 ghost use Rattle.m36_outside.specs.Put.{PutResult, PutHasCause};
 ghost use Rattle.m36_outside.specs.ReadAnswer.{ReadResult, ReadHasCause};
