@@ -41,8 +41,8 @@ few_segments dbr seg h = ltb-true seg (2 ^ 15) (and_parts (nat_lt (2 * seg) (16 
 
 pub word_below : (core : List ℕ) (dbr : DbrFields) (seg w a : ℕ) → IsSegmentWord core dbr seg w a → number_of core dbr seg w < 2 ^ 23
 word_below core dbr seg w a h =
-    let live_descriptor = word_live core dbr seg w a h in
-    let few = few_segments dbr seg (live_in_bounds core dbr seg live_descriptor.0 live_descriptor.1) in
+    let live = word_live core dbr seg w a h in
+    let few = few_segments dbr seg (live_in_bounds core dbr seg live.0 live.1) in
     let table_number = word_number core dbr seg w a h in
     omega arith
 
@@ -134,8 +134,8 @@ ordered_order false core d piece r fits h = cc
 ordered_order true core d piece r fits h = piece_order d.unpaged core d piece r fits h
 
 run_order : (core : List ℕ) (dbr : DbrFields) (seg : ℕ) (v : Result SdwFields Refusal) (piece : ℕ) (r : Run) → core_sdw core dbr seg ≡ v → run_of core v piece ≡ Some r → r.first ≤ r.end
-run_order core dbr seg (Err e) piece r live_descriptor h = cc
-run_order core dbr seg (Ok d) piece r live_descriptor h = ordered_order (has_ordered_brackets d) core d piece r (live_fits core dbr seg d live_descriptor) h
+run_order core dbr seg (Err e) piece r live h = cc
+run_order core dbr seg (Ok d) piece r live h = ordered_order (has_ordered_brackets d) core d piece r (live_fits core dbr seg d live) h
 
 pub runs_in_order : (core : List ℕ) (dbr : DbrFields) → EndAfterBegin (run core dbr)
 unfolding run

@@ -73,18 +73,18 @@ module _ (core : List ℕ) (dbrs : List DbrFields) (firsts : List ℕ) (k : ℕ)
     first_none false = refl
 
     none_by : (v : Result SdwFields Refusal) → core_sdw core dbr seg ≡ v → ((d : SdwFields) → v ≡ Ok d → has_ordered_brackets d ≡ false) → (piece : ℕ) → run_of core v piece ≡ None
-    none_by (Err e) live_descriptor off piece = refl
-    none_by (Ok d) live_descriptor off piece = ap (λ (b : Bool). run_if_ordered b core d piece) (off d refl)
+    none_by (Err e) live off piece = refl
+    none_by (Ok d) live off piece = ap (λ (b : Bool). run_if_ordered b core d piece) (off d refl)
 
     pub no_words : ((d : SdwFields) → core_sdw core dbr seg ≡ Ok d → has_ordered_brackets d ≡ false) → (size : ℕ) (starts stops : List ℕ) → AreCounted (joint_run core dbrs firsts) (256 * (2 ^ 15 * k + seg)) size starts stops → AreCounted (joint_run core dbrs firsts) (256 * (2 ^ 15 * k + seg + 1)) size starts stops
     no_words off = none_at (λ piece. ap (unpaged_first_run (slice_index firsts (2 ^ 15 * k + seg) == 2 ^ 15 * k + seg)) (none_by (core_sdw core dbr seg) refl off piece) ∙ first_none (slice_index firsts (2 ^ 15 * k + seg) == 2 ^ 15 * k + seg))
 
     -- the runs of a segment that has a first descriptor, is live, and has its brackets in order
     pub runs_are : slice_index firsts (2 ^ 15 * k + seg) ≡ 2 ^ 15 * k + seg → (d : SdwFields) → core_sdw core dbr seg ≡ Ok d → has_ordered_brackets d ≡ true → (piece : ℕ) → piece < 256 → joint_run core dbrs firsts (256 * (2 ^ 15 * k + seg) + piece) ≡ run_by d.unpaged core d piece
-    runs_are first d live_descriptor order piece few =
+    runs_are first d live order piece few =
         joint_at piece few
         ∙ ap (λ (b : Bool). unpaged_first_run b (run_of core (core_sdw core dbr seg) piece)) (eq-eqb (slice_index firsts (2 ^ 15 * k + seg)) (2 ^ 15 * k + seg) first)
-        ∙ run_live core d (core_sdw core dbr seg) piece live_descriptor order
+        ∙ run_live core d (core_sdw core dbr seg) piece live order
 
   -- once every segment in bounds was visited, all runs of the process are counted
   pub process_counted : (n m size : ℕ) (starts stops : List ℕ) → ((q : ℕ) → has_descriptor_in_bounds dbr q ≡ nat_lt q n) → n ≤ m → m ≤ 2 ^ 15 → AreCounted (joint_run core dbrs firsts) (256 * (2 ^ 15 * k + m)) size starts stops → AreCounted (joint_run core dbrs firsts) (256 * (2 ^ 15 * (k + 1))) size starts stops
@@ -92,10 +92,10 @@ module _ (core : List ℕ) (dbrs : List DbrFields) (firsts : List ℕ) (k : ℕ)
       counted_on (joint_run core dbrs firsts) (256 * (2 ^ 15 * k + m)) (256 * (2 ^ 15 * (k + 1))) size starts stops (omega arith) none c
     where
       dead_by : (seg : ℕ) → m ≤ seg → (v : Result SdwFields Refusal) → core_sdw core dbr seg ≡ v → (piece : ℕ) (b : Bool) → unpaged_first_run b (run_of core v piece) ≡ None
-      dead_by seg far v live_descriptor piece false = refl
-      dead_by seg far (Err e) live_descriptor piece true = refl
-      dead_by seg far (Ok d) live_descriptor piece true =
-          let lt : seg < n = ltb-true seg n (sym (bounds seg) ∙ live_in_bounds core dbr seg d live_descriptor) in
+      dead_by seg far v live piece false = refl
+      dead_by seg far (Err e) live piece true = refl
+      dead_by seg far (Ok d) live piece true =
+          let lt : seg < n = ltb-true seg n (sym (bounds seg) ∙ live_in_bounds core dbr seg d live) in
           absurd (omega arith)
 
       none : (i : ℕ) → 256 * (2 ^ 15 * k + m) ≤ i → i < 256 * (2 ^ 15 * (k + 1)) → joint_run core dbrs firsts i ≡ None

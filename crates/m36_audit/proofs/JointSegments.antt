@@ -44,8 +44,8 @@ pub record HasWord (core : List ℕ) (dbrs : List DbrFields) (firsts : List ℕ)
 
 segment_small : (core : List ℕ) (dbr : DbrFields) (seg w a : ℕ) → IsSegmentWord core dbr seg w a → seg < 2 ^ 15
 segment_small core dbr seg w a h =
-    let live_descriptor = word_live core dbr seg w a h in
-    few_segments dbr seg (live_in_bounds core dbr seg live_descriptor.0 live_descriptor.1)
+    let live = word_live core dbr seg w a h in
+    few_segments dbr seg (live_in_bounds core dbr seg live.0 live.1)
 
 -- the parts of the run with a number
 record RunOf (core : List ℕ) (dbrs : List DbrFields) (firsts : List ℕ) (i a : ℕ) : Type 0 where
@@ -91,8 +91,8 @@ module _ (core : List ℕ) (dbrs : List DbrFields) (firsts : List ℕ) (equal_de
 
   live_word : (k : ℕ) (x : Named) → (h : HasWord core dbrs firsts a k x) → LiveOf core dbrs k h.seg h.dbr
   live_word k x h =
-      let live_descriptor = word_live core h.dbr h.seg x.w a h.word in
-      live_of core dbrs k h.seg h.dbr live_descriptor.0 h.process live_descriptor.1
+      let live = word_live core h.dbr h.seg x.w a h.word in
+      live_of core dbrs k h.seg h.dbr live.0 h.process live.1
 
   clash_breaks : Clash (HasWord core dbrs firsts a) → IsJointSegment core dbrs a
   clash_breaks c =
@@ -183,18 +183,18 @@ module _ (core : List ℕ) (dbrs : List DbrFields) (firsts : List ℕ) (equal_de
     below : k < length dbrs
     below = slice_get_within dbrs k dbr process
 
-    live_descriptor : LiveOf core dbrs k seg dbr
-    live_descriptor =
+    live : LiveOf core dbrs k seg dbr
+    live =
         let d = word_live core dbr seg w a word in
         live_of core dbrs k seg dbr d.0 process d.1
 
     first : FirstOf core dbrs firsts equal_descriptors k seg dbr
-    first = first_of core dbrs firsts equal_descriptors k seg dbr live_descriptor below
+    first = first_of core dbrs firsts equal_descriptors k seg dbr live below
 
     word_first : IsSegmentWord core first.dbr_first (slice_index firsts (2 ^ 15 * k + seg) % 2 ^ 15) w a
     word_first =
         let p = word_parts core dbr seg w a word in
-        word_is core first.dbr_first (slice_index firsts (2 ^ 15 * k + seg) % 2 ^ 15) w a (record { sdw = p.sdw; live_descriptor = first.sdw ∙ p.live_descriptor; order = p.order; bound = p.bound; lies = p.lies; inside = p.inside })
+        word_is core first.dbr_first (slice_index firsts (2 ^ 15 * k + seg) % 2 ^ 15) w a (record { sdw = p.sdw; live = first.sdw ∙ p.live; order = p.order; bound = p.bound; lies = p.lies; inside = p.inside })
 
     first_number : ℕ
     first_number =
@@ -237,7 +237,7 @@ module _ (core : List ℕ) (dbrs : List DbrFields) (firsts : List ℕ) (equal_de
       let moved : IsSegmentWord core one.dbr_first (slice_index firsts (2 ^ 15 * k + seg) % 2 ^ 15) other_w a = (λ (P : DbrFields → ℕ → Type 0) (x : P two_of.dbr_first (slice_index firsts (2 ^ 15 * l + other_seg) % 2 ^ 15)). subst (λ (d : DbrFields). P d (slice_index firsts (2 ^ 15 * k + seg) % 2 ^ 15)) dbr_is (subst (P two_of.dbr_first) seg_is x)) (λ d s. IsSegmentWord core d s other_w a) word_count in
       let table_number : number_of core one.dbr_first (slice_index firsts (2 ^ 15 * k + seg) % 2 ^ 15) w ≡ number_of core one.dbr_first (slice_index firsts (2 ^ 15 * k + seg) % 2 ^ 15) other_w = sym n.run_is_at ∙ ap (λ (x : ℕ). x % 2 ^ 23) e ∙ m.run_is_at ∙ (λ t. number_of core (dbr_is t) (seg_is t) other_w) in
       record {
-        segment = firsts_same core dbrs firsts equal_descriptors k l seg other_seg dbr other (live_descriptor k dbr at seg w word) (live_descriptor l other at_too other_seg other_w other_word) (below k dbr at seg w word) (below l other at_too other_seg other_w other_word) firsts_are;
+        segment = firsts_same core dbrs firsts equal_descriptors k l seg other_seg dbr other (live k dbr at seg w word) (live l other at_too other_seg other_w other_word) (below k dbr at seg w word) (below l other at_too other_seg other_w other_word) firsts_are;
         word = word_once core one.dbr_first (slice_index firsts (2 ^ 15 * k + seg) % 2 ^ 15) w other_w a (word_first k dbr at seg w word) moved table_number;
       }
 

@@ -16,7 +16,7 @@ use Rattle.m36_audit.proofs.SameDescriptors.{live_of, same_firsts, firsts_same}
 module _ (core : List ℕ) (dbrs : List DbrFields) (firsts : List ℕ) (equal_descriptors : AreFirstEquals core dbrs (2 ^ 15 * length dbrs) firsts) (few : length dbrs ≤ 8) (a : ℕ) where
   shared_by : (k l : ℕ) (dbr other : DbrFields) (t u : Table) → k < length dbrs → l < length dbrs → slice_get dbrs k ≡ Some dbr → slice_get dbrs l ≡ Some other → IsWordOfTable core dbr t a → IsWordOfTable core other u a → AreShared core dbr other t u → identity firsts k t ≡ identity firsts l u
   shared_by k l dbr other (Pages s) (Pages r) lt lt_too at at_too of of_too h =
-      ap (λ (n : ℕ). 17 + n) (same_firsts core dbrs firsts equal_descriptors k l s r dbr other (live_of core dbrs k s dbr of.1.sdw at of.1.live_descriptor) (live_of core dbrs l r other of_too.1.sdw at_too of_too.1.live_descriptor) lt lt_too h)
+      ap (λ (n : ℕ). 17 + n) (same_firsts core dbrs firsts equal_descriptors k l s r dbr other (live_of core dbrs k s dbr of.1.sdw at of.1.live) (live_of core dbrs l r other of_too.1.sdw at_too of_too.1.live) lt lt_too h)
   shared_by k l dbr other (Pages s) Sdws lt lt_too at at_too of of_too h = absurd h
   shared_by k l dbr other (Pages s) Directory lt lt_too at at_too of of_too h = absurd h
   shared_by k l dbr other Sdws u lt lt_too at at_too of of_too h = absurd h
@@ -25,7 +25,7 @@ module _ (core : List ℕ) (dbrs : List DbrFields) (firsts : List ℕ) (equal_de
   same_by : (k l : ℕ) (dbr other : DbrFields) (t u : Table) → k < length dbrs → l < length dbrs → k ≢ l → slice_get dbrs k ≡ Some dbr → slice_get dbrs l ≡ Some other → IsWordOfTable core dbr t a → IsWordOfTable core other u a → identity firsts k t ≡ identity firsts l u → AreShared core dbr other t u
   same_by k l dbr other (Pages s) (Pages r) lt lt_too apart at at_too of of_too e =
       let one : slice_index firsts (2 ^ 15 * k + s) ≡ slice_index firsts (2 ^ 15 * l + r) = omega arith in
-      firsts_same core dbrs firsts equal_descriptors k l s r dbr other (live_of core dbrs k s dbr of.1.sdw at of.1.live_descriptor) (live_of core dbrs l r other of_too.1.sdw at_too of_too.1.live_descriptor) lt lt_too one
+      firsts_same core dbrs firsts equal_descriptors k l s r dbr other (live_of core dbrs k s dbr of.1.sdw at of.1.live) (live_of core dbrs l r other of_too.1.sdw at_too of_too.1.live) lt lt_too one
   same_by k l dbr other (Pages s) Sdws lt lt_too apart at at_too of of_too e = absurd (omega arith)
   same_by k l dbr other (Pages s) Directory lt lt_too apart at at_too of of_too e = absurd (omega arith)
   same_by k l dbr other Sdws Sdws lt lt_too apart at at_too of of_too e = absurd (apart (omega arith))

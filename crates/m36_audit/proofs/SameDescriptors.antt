@@ -140,45 +140,45 @@ pub record LiveOf (core : List ℕ) (dbrs : List DbrFields) (k seg : ℕ) (dbr :
   pub is : IsDescriptorKey core dbr seg key
 
 pub live_of : (core : List ℕ) (dbrs : List DbrFields) (k seg : ℕ) (dbr : DbrFields) (d : SdwFields) → slice_get dbrs k ≡ Some dbr → core_sdw core dbr seg ≡ Ok d → LiveOf core dbrs k seg dbr
-live_of core dbrs k seg dbr d process live_descriptor =
-    let has = live_key core dbr seg d live_descriptor in
-    record { process = process; small = few_segments dbr seg (live_in_bounds core dbr seg d live_descriptor); key = has.key; is = has.is }
+live_of core dbrs k seg dbr d process live =
+    let has = live_key core dbr seg d live in
+    record { process = process; small = few_segments dbr seg (live_in_bounds core dbr seg d live); key = has.key; is = has.is }
 
 module _ (core : List ℕ) (dbrs : List DbrFields) (firsts : List ℕ) (equal_descriptors : AreFirstEquals core dbrs (2 ^ 15 * length dbrs) firsts) where
-  module _ (k seg : ℕ) (dbr : DbrFields) (live_descriptor : LiveOf core dbrs k seg dbr) (few : k < length dbrs) where
-    pub at_number : KeyAt core dbrs (2 ^ 15 * k + seg) live_descriptor.key
-    at_number = numbered core dbrs k seg live_descriptor.key dbr live_descriptor.process live_descriptor.small live_descriptor.is
+  module _ (k seg : ℕ) (dbr : DbrFields) (live : LiveOf core dbrs k seg dbr) (few : k < length dbrs) where
+    pub at_number : KeyAt core dbrs (2 ^ 15 * k + seg) live.key
+    at_number = numbered core dbrs k seg live.key dbr live.process live.small live.is
 
     pub number_small : 2 ^ 15 * k + seg < 2 ^ 15 * length dbrs
-    number_small = let small = live_descriptor.small in omega arith
+    number_small = let small = live.small in omega arith
 
-    pub odd_small : live_descriptor.is.odd < 2 ^ 36
+    pub odd_small : live.is.odd < 2 ^ 36
     odd_small =
-        let lt = equal_descriptors.small (2 ^ 15 * k + seg) live_descriptor.key number_small at_number in
-        let e = numbered_odd core dbrs k seg live_descriptor.key dbr live_descriptor.process live_descriptor.small live_descriptor.is at_number in
+        let lt = equal_descriptors.small (2 ^ 15 * k + seg) live.key number_small at_number in
+        let e = numbered_odd core dbrs k seg live.key dbr live.process live.small live.is at_number in
         omega arith
 
-  module _ (k l seg other_seg : ℕ) (dbr other : DbrFields) (live_descriptor : LiveOf core dbrs k seg dbr) (other_live : LiveOf core dbrs l other_seg other) (few : k < length dbrs) (few_too : l < length dbrs) where
+  module _ (k l seg other_seg : ℕ) (dbr other : DbrFields) (live : LiveOf core dbrs k seg dbr) (other_live : LiveOf core dbrs l other_seg other) (few : k < length dbrs) (few_too : l < length dbrs) where
     -- equal words have the same number
     pub same_firsts : AreSame core dbr other seg other_seg → slice_index firsts (2 ^ 15 * k + seg) ≡ slice_index firsts (2 ^ 15 * l + other_seg)
     same_firsts s =
-        let w = words_same core dbr other seg other_seg live_descriptor.key other_live.key s live_descriptor.is other_live.is in
+        let w = words_same core dbr other seg other_seg live.key other_live.key s live.is other_live.is in
         let evens = w.evens in
         let odds = w.odds in
-        let is = live_descriptor.is.key_is in
+        let is = live.is.key_is in
         let is_too = other_live.is.key_is in
-        let one : other_live.key ≡ live_descriptor.key = omega arith in
-        equal_descriptors.same (2 ^ 15 * k + seg) (2 ^ 15 * l + other_seg) live_descriptor.key (number_small k seg dbr live_descriptor few) (number_small l other_seg other other_live few_too) (at_number k seg dbr live_descriptor few) (subst (KeyAt core dbrs (2 ^ 15 * l + other_seg)) one (at_number l other_seg other other_live few_too))
+        let one : other_live.key ≡ live.key = omega arith in
+        equal_descriptors.same (2 ^ 15 * k + seg) (2 ^ 15 * l + other_seg) live.key (number_small k seg dbr live few) (number_small l other_seg other other_live few_too) (at_number k seg dbr live few) (subst (KeyAt core dbrs (2 ^ 15 * l + other_seg)) one (at_number l other_seg other other_live few_too))
 
     -- the same number means equal words
-    pub same_words : slice_index firsts (2 ^ 15 * k + seg) ≡ slice_index firsts (2 ^ 15 * l + other_seg) → SameWords live_descriptor.is.even live_descriptor.is.odd other_live.is.even other_live.is.odd
+    pub same_words : slice_index firsts (2 ^ 15 * k + seg) ≡ slice_index firsts (2 ^ 15 * l + other_seg) → SameWords live.is.even live.is.odd other_live.is.even other_live.is.odd
     same_words e =
-        let one = equal_descriptors.each (2 ^ 15 * k + seg) live_descriptor.key (number_small k seg dbr live_descriptor few) (at_number k seg dbr live_descriptor few) in
+        let one = equal_descriptors.each (2 ^ 15 * k + seg) live.key (number_small k seg dbr live few) (at_number k seg dbr live few) in
         let two = equal_descriptors.each (2 ^ 15 * l + other_seg) other_live.key (number_small l other_seg other other_live few_too) (at_number l other_seg other other_live few_too) in
-        let keys : live_descriptor.key ≡ other_live.key = keys_same core dbrs (slice_index firsts (2 ^ 15 * k + seg)) live_descriptor.key other_live.key one (subst (λ (n : ℕ). KeyAt core dbrs n other_live.key) (sym e) two) in
-        let is = live_descriptor.is.key_is in
+        let keys : live.key ≡ other_live.key = keys_same core dbrs (slice_index firsts (2 ^ 15 * k + seg)) live.key other_live.key one (subst (λ (n : ℕ). KeyAt core dbrs n other_live.key) (sym e) two) in
+        let is = live.is.key_is in
         let is_too = other_live.is.key_is in
-        let small = odd_small k seg dbr live_descriptor few in
+        let small = odd_small k seg dbr live few in
         let small_too = odd_small l other_seg other other_live few_too in
         record { evens = omega arith; odds = omega arith }
 
@@ -186,12 +186,12 @@ module _ (core : List ℕ) (dbrs : List DbrFields) (firsts : List ℕ) (equal_de
     firsts_same e =
         let w = same_words e in
         record {
-          at = live_descriptor.is.at;
+          at = live.is.at;
           other_at = other_live.is.at;
-          found = live_descriptor.is.found;
+          found = live.is.found;
           other_found = other_live.is.found;
-          even = live_descriptor.is.even_is ∙ ap (λ (n : ℕ). Some n) w.evens ∙ sym other_live.is.even_is;
-          odd = live_descriptor.is.odd_is ∙ ap (λ (n : ℕ). Some n) w.odds ∙ sym other_live.is.odd_is;
+          even = live.is.even_is ∙ ap (λ (n : ℕ). Some n) w.evens ∙ sym other_live.is.even_is;
+          odd = live.is.odd_is ∙ ap (λ (n : ℕ). Some n) w.odds ∙ sym other_live.is.odd_is;
         }
 
   -- the first descriptor with the words of a live segment
@@ -203,21 +203,21 @@ module _ (core : List ℕ) (dbrs : List DbrFields) (firsts : List ℕ) (equal_de
     pub sdw : core_sdw core dbr_first (slice_index firsts (2 ^ 15 * k + seg) % 2 ^ 15) ≡ core_sdw core dbr seg
 
   pub first_of : (k seg : ℕ) (dbr : DbrFields) → LiveOf core dbrs k seg dbr → k < length dbrs → FirstOf k seg dbr
-  first_of k seg dbr live_descriptor few =
-      let here = at_number k seg dbr live_descriptor few in
-      let small = number_small k seg dbr live_descriptor few in
-      let at = equal_descriptors.each (2 ^ 15 * k + seg) live_descriptor.key small here in
-      let below = equal_descriptors.before (2 ^ 15 * k + seg) live_descriptor.key small here in
-      let is = live_descriptor.is.key_is in
+  first_of k seg dbr live few =
+      let here = at_number k seg dbr live few in
+      let small = number_small k seg dbr live few in
+      let at = equal_descriptors.each (2 ^ 15 * k + seg) live.key small here in
+      let below = equal_descriptors.before (2 ^ 15 * k + seg) live.key small here in
+      let is = live.is.key_is in
       let is_too = at.is.key_is in
-      let odd = odd_small k seg dbr live_descriptor few in
-      let odd_too = equal_descriptors.small (slice_index firsts (2 ^ 15 * k + seg)) live_descriptor.key below at in
-      let evens : at.is.even ≡ live_descriptor.is.even = omega arith in
-      let odds : at.is.odd ≡ live_descriptor.is.odd = omega arith in
+      let odd = odd_small k seg dbr live few in
+      let odd_too = equal_descriptors.small (slice_index firsts (2 ^ 15 * k + seg)) live.key below at in
+      let evens : at.is.even ≡ live.is.even = omega arith in
+      let odds : at.is.odd ≡ live.is.odd = omega arith in
       record {
         dbr_first = at.dbr;
         process = at.process;
         below = below;
-        first = sym (equal_descriptors.same (2 ^ 15 * k + seg) (slice_index firsts (2 ^ 15 * k + seg)) live_descriptor.key small below here at);
-        sdw = key_sdw core at.dbr (slice_index firsts (2 ^ 15 * k + seg) % 2 ^ 15) live_descriptor.key at.is ∙ (λ i. sdw_words (Some (evens i)) (Some (odds i))) ∙ sym (key_sdw core dbr seg live_descriptor.key live_descriptor.is);
+        first = sym (equal_descriptors.same (2 ^ 15 * k + seg) (slice_index firsts (2 ^ 15 * k + seg)) live.key small below here at);
+        sdw = key_sdw core at.dbr (slice_index firsts (2 ^ 15 * k + seg) % 2 ^ 15) live.key at.is ∙ (λ i. sdw_words (Some (evens i)) (Some (odds i))) ∙ sym (key_sdw core dbr seg live.key live.is);
       }

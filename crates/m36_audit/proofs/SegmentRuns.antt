@@ -38,8 +38,8 @@ counted_by runs n size starts stops r begun ended e f g c =
 
 module _ (core : List ℕ) (dbr : DbrFields) (seg : ℕ) where
   none_by : (v : Result SdwFields Refusal) → core_sdw core dbr seg ≡ v → ((d : SdwFields) → v ≡ Ok d → has_ordered_brackets d ≡ false) → (piece : ℕ) → run_of core v piece ≡ None
-  none_by (Err e) live_descriptor off piece = refl
-  none_by (Ok d) live_descriptor off piece = ap (λ (b : Bool). run_if_ordered b core d piece) (off d refl)
+  none_by (Err e) live off piece = refl
+  none_by (Ok d) live off piece = ap (λ (b : Bool). run_if_ordered b core d piece) (off d refl)
 
   -- a number of this segment
   at_number : (i : ℕ) → 256 * seg ≤ i → i < 256 * (seg + 1) → run core dbr i ≡ run_of core (core_sdw core dbr seg) (i - 256 * seg)
@@ -53,11 +53,11 @@ module _ (core : List ℕ) (dbr : DbrFields) (seg : ℕ) where
       counted_on (run core dbr) (256 * seg) (256 * (seg + 1)) size starts stops (omega arith)
       (λ i low high. at_number i low high ∙ none_by (core_sdw core dbr seg) refl off (i - 256 * seg)) c
 
-  module _ (d : SdwFields) (live_descriptor : core_sdw core dbr seg ≡ Ok d) (order : has_ordered_brackets d ≡ true) where
+  module _ (d : SdwFields) (live : core_sdw core dbr seg ≡ Ok d) (order : has_ordered_brackets d ≡ true) where
     -- the run of a number of a live segment
     pub live_at : (u : Bool) → d.unpaged ≡ u → (piece : ℕ) → piece < 256 → run core dbr (256 * seg + piece) ≡ run_by u core d piece
     live_at u e piece few =
-        run_at core dbr seg piece few ∙ run_live core d (core_sdw core dbr seg) piece live_descriptor order ∙ ap (λ (b : Bool). run_by b core d piece) e
+        run_at core dbr seg piece few ∙ run_live core d (core_sdw core dbr seg) piece live order ∙ ap (λ (b : Bool). run_by b core d piece) e
 
     live_number : (u : Bool) → d.unpaged ≡ u → (i : ℕ) → 256 * seg ≤ i → i < 256 * (seg + 1) → run core dbr i ≡ run_by u core d (i - 256 * seg)
     live_number u e i low high =
@@ -85,7 +85,7 @@ module _ (core : List ℕ) (dbr : DbrFields) (seg : ℕ) where
     -- one page
     pub page_at_number : d.unpaged ≡ false → (page : ℕ) → page ≤ d.bound / 64 → run core dbr (256 * seg + page) ≡ page_run core d page
     page_at_number paged page begins =
-        let bound = (live_fits core dbr seg d live_descriptor).bound in
+        let bound = (live_fits core dbr seg d live).bound in
         live_at false paged page (omega arith)
 
     pub page_absent : d.unpaged ≡ false → (page : ℕ) → page ≤ d.bound / 64 → None ≡ page_run core d page → (size : ℕ) (starts stops : List ℕ) → AreCounted (run core dbr) (256 * seg + page) size starts stops → AreCounted (run core dbr) (256 * seg + page + 1) size starts stops
@@ -101,9 +101,9 @@ module _ (core : List ℕ) (dbr : DbrFields) (seg : ℕ) where
 -- once every segment in bounds was visited, all runs are counted
 module _ (core : List ℕ) (dbr : DbrFields) (n m : ℕ) (bounds : (q : ℕ) → has_descriptor_in_bounds dbr q ≡ nat_lt q n) (enough : n ≤ m) (few : m ≤ 2 ^ 15) where
   dead_by : (seg : ℕ) → m ≤ seg → (v : Result SdwFields Refusal) → core_sdw core dbr seg ≡ v → (piece : ℕ) → run_of core v piece ≡ None
-  dead_by seg far (Err e) live_descriptor piece = refl
-  dead_by seg far (Ok d) live_descriptor piece =
-      let lt : seg < n = ltb-true seg n (sym (bounds seg) ∙ live_in_bounds core dbr seg d live_descriptor) in
+  dead_by seg far (Err e) live piece = refl
+  dead_by seg far (Ok d) live piece =
+      let lt : seg < n = ltb-true seg n (sym (bounds seg) ∙ live_in_bounds core dbr seg d live) in
       absurd (omega arith)
 
   dead : (i : ℕ) → 256 * m ≤ i → run core dbr i ≡ None
@@ -115,7 +115,7 @@ module _ (core : List ℕ) (dbr : DbrFields) (n m : ℕ) (bounds : (q : ℕ) →
       counted_on (run core dbr) (256 * m) (2 ^ 23) size starts stops (omega arith) (λ i low high. dead i low) c
 
 pub disorder_at : (core : List ℕ) (dbr : DbrFields) (seg : ℕ) (d : SdwFields) → core_sdw core dbr seg ≡ Ok d → has_ordered_brackets d ≡ false → (e : SdwFields) → core_sdw core dbr seg ≡ Ok e → has_ordered_brackets e ≡ false
-disorder_at core dbr seg d live_descriptor off e live_too =
+disorder_at core dbr seg d live off e live_too =
     let same : e ≡ d = cc in
     ap has_ordered_brackets same ∙ off
 

@@ -91,7 +91,7 @@ few_pieces false d w fits le =
 -- the parts of a segment word with a place in core
 pub record Word (core : List ℕ) (dbr : DbrFields) (seg w a : ℕ) : Type 0 where
   pub sdw : SdwFields
-  pub live_descriptor : core_sdw core dbr seg ≡ Ok sdw
+  pub live : core_sdw core dbr seg ≡ Ok sdw
   pub order : has_ordered_brackets sdw ≡ true
   pub bound : w / 16 ≤ sdw.bound
   pub lies : word_place_by sdw.unpaged sdw w (ptw_at core (page_at sdw (w / 1024))) ≡ Ok a
@@ -121,14 +121,14 @@ word_parts core dbr seg w a h =
     let k = place_parts core_store core dbr seg w (Core_word a) h in
     let tests = and_parts (has_ordered_brackets k.sdw) (is_within_bound k.sdw w) k.inside in
     let parts = inside_parts core (word_place_by k.sdw.unpaged k.sdw w (ptw_at core (page_at k.sdw (w / 1024)))) a k.found in
-    record { sdw = k.sdw; live_descriptor = k.live_descriptor; order = tests.0; bound = leb-true (w / 16) k.sdw.bound tests.1; lies = parts.lies; inside = parts.inside }
+    record { sdw = k.sdw; live = k.live; order = tests.0; bound = leb-true (w / 16) k.sdw.bound tests.1; lies = parts.lies; inside = parts.inside }
 
 pub word_is : (core : List ℕ) (dbr : DbrFields) (seg w a : ℕ) → Word core dbr seg w a → IsSegmentWord core dbr seg w a
 unfolding core_spot
 word_is core dbr seg w a k =
     place_is core_store core dbr seg w (Core_word a) (record {
       sdw = k.sdw;
-      live_descriptor = k.live_descriptor;
+      live = k.live;
       inside = and_from (has_ordered_brackets k.sdw) (is_within_bound k.sdw w) k.order (le-leb (w / 16) k.sdw.bound k.bound);
       found = inside_is core (word_place_by k.sdw.unpaged k.sdw w (ptw_at core (page_at k.sdw (w / 1024)))) a k.lies k.inside;
     })
@@ -153,18 +153,18 @@ run_at core dbr seg piece few =
     ap (λ (s : ℕ). run_of core (core_sdw core dbr s) ((256 * seg + piece) % 256)) one ∙ ap (run_of core (core_sdw core dbr seg)) other
 
 pub run_live : (core : List ℕ) (d : SdwFields) (r : Result SdwFields Refusal) (piece : ℕ) → r ≡ Ok d → has_ordered_brackets d ≡ true → run_of core r piece ≡ run_by d.unpaged core d piece
-run_live core d r piece live_descriptor order =
-    ap (λ (x : Result SdwFields Refusal). run_of core x piece) live_descriptor ∙ ap (λ (b : Bool). run_if_ordered b core d piece) order
+run_live core d r piece live order =
+    ap (λ (x : Result SdwFields Refusal). run_of core x piece) live ∙ ap (λ (b : Bool). run_if_ordered b core d piece) order
 
 -- a word of a segment is covered by its run
 pub word_covered : (core : List ℕ) (dbr : DbrFields) (seg w a : ℕ) → IsSegmentWord core dbr seg w a → Covers (run core dbr (number_of core dbr seg w)) a
 unfolding number_of
 word_covered core dbr seg w a h =
     let k = word_parts core dbr seg w a h in
-    let fits = live_fits core dbr seg k.sdw k.live_descriptor in
-    let piece = piece_live core dbr seg w k.sdw k.live_descriptor in
+    let fits = live_fits core dbr seg k.sdw k.live in
+    let piece = piece_live core dbr seg w k.sdw k.live in
     let few : piece_of (core_sdw core dbr seg) w < 256 = subst (λ (n : ℕ). n < 256) (sym piece) (few_pieces k.sdw.unpaged k.sdw w fits k.bound) in
-    let there = run_at core dbr seg (piece_of (core_sdw core dbr seg) w) few ∙ run_live core k.sdw (core_sdw core dbr seg) (piece_of (core_sdw core dbr seg) w) k.live_descriptor k.order ∙ ap (run_by k.sdw.unpaged core k.sdw) piece in
+    let there = run_at core dbr seg (piece_of (core_sdw core dbr seg) w) few ∙ run_live core k.sdw (core_sdw core dbr seg) (piece_of (core_sdw core dbr seg) w) k.live k.order ∙ ap (run_by k.sdw.unpaged core k.sdw) piece in
     covers_same _ _ a (sym there) (covered_by core k.sdw.unpaged k.sdw w a fits k.bound k.lies)
 
 pub word_inside : (core : List ℕ) (dbr : DbrFields) (seg w a : ℕ) → IsSegmentWord core dbr seg w a → a < length core
@@ -176,13 +176,13 @@ unfolding number_of
 word_once core dbr seg w x a h k same =
     let one = word_parts core dbr seg w a h in
     let other = word_parts core dbr seg x a k in
-    let live_descriptor = one.live_descriptor in
-    let live_too = other.live_descriptor in
+    let live = one.live in
+    let live_too = other.live in
     let sdw : other.sdw ≡ one.sdw = cc in
     let piece : piece_of (core_sdw core dbr seg) w ≡ piece_of (core_sdw core dbr seg) x = omega arith in
-    let pieces : piece_by one.sdw.unpaged one.sdw w ≡ piece_by one.sdw.unpaged one.sdw x = sym (piece_live core dbr seg w one.sdw live_descriptor) ∙ piece ∙ piece_live core dbr seg x one.sdw live_descriptor in
+    let pieces : piece_by one.sdw.unpaged one.sdw w ≡ piece_by one.sdw.unpaged one.sdw x = sym (piece_live core dbr seg w one.sdw live) ∙ piece ∙ piece_live core dbr seg x one.sdw live in
     let lies : word_place_by one.sdw.unpaged one.sdw x (ptw_at core (page_at one.sdw (x / 1024))) ≡ Ok a = subst (λ (d : SdwFields). word_place_by d.unpaged d x (ptw_at core (page_at d (x / 1024))) ≡ Ok a) sdw other.lies in
-    same_word core one.sdw.unpaged one.sdw w x a (live_fits core dbr seg one.sdw live_descriptor) pieces one.lies lies
+    same_word core one.sdw.unpaged one.sdw w x a (live_fits core dbr seg one.sdw live) pieces one.lies lies
 
 -- the segment word at a covered address
 pub record WordOf (core : List ℕ) (dbr : DbrFields) (k a : ℕ) : Type 0 where
@@ -193,19 +193,19 @@ pub record WordOf (core : List ℕ) (dbr : DbrFields) (k a : ℕ) : Type 0 where
 
 word_of_by : (core : List ℕ) (dbr : DbrFields) (k a : ℕ) (r : Result SdwFields Refusal) → core_sdw core dbr (k / 256) ≡ r → a < length core → Covers (run_of core r (k % 256)) a → WordOf core dbr k a
 unfolding number_of
-word_of_by core dbr k a (Err e) live_descriptor inside c = let is = c.is in cc
-word_of_by core dbr k a (Ok d) live_descriptor inside c = at (has_ordered_brackets d) refl c
+word_of_by core dbr k a (Err e) live inside c = let is = c.is in cc
+word_of_by core dbr k a (Ok d) live inside c = at (has_ordered_brackets d) refl c
   where
     at : (b : Bool) → has_ordered_brackets d ≡ b → Covers (run_if_ordered b core d (k % 256)) a → WordOf core dbr k a
     at false e f = let is = f.is in cc
     at true e f =
-        let fits = live_fits core dbr (k / 256) d live_descriptor in
+        let fits = live_fits core dbr (k / 256) d live in
         let word = word_by core d.unpaged d (k % 256) a fits f in
-        let piece = piece_live core dbr (k / 256) word.w d live_descriptor ∙ word.piece_is in
+        let piece = piece_live core dbr (k / 256) word.w d live ∙ word.piece_is in
         record {
           seg = k / 256;
           w = word.w;
-          word = word_is core dbr (k / 256) word.w a (record { sdw = d; live_descriptor = live_descriptor; order = e; bound = word.bound; lies = word.lies; inside = inside });
+          word = word_is core dbr (k / 256) word.w a (record { sdw = d; live = live; order = e; bound = word.bound; lies = word.lies; inside = inside });
           numbered = omega arith;
         }
 
@@ -216,7 +216,7 @@ covered_word core dbr k a inside c = word_of_by core dbr k a (core_sdw core dbr 
 
 -- a segment word is of a live segment
 pub word_live : (core : List ℕ) (dbr : DbrFields) (seg w a : ℕ) → IsSegmentWord core dbr seg w a → (d : SdwFields) × (core_sdw core dbr seg ≡ Ok d)
-word_live core dbr seg w a h = let k = word_parts core dbr seg w a h in (k.sdw, k.live_descriptor)
+word_live core dbr seg w a h = let k = word_parts core dbr seg w a h in (k.sdw, k.live)
 
 pub record Numbered (seg table_number : ℕ) : Type 0 where
   pub low : 256 * seg ≤ table_number
@@ -227,7 +227,7 @@ pub word_number : (core : List ℕ) (dbr : DbrFields) (seg w a : ℕ) → IsSegm
 unfolding number_of
 word_number core dbr seg w a h =
     let k = word_parts core dbr seg w a h in
-    let fits = live_fits core dbr seg k.sdw k.live_descriptor in
-    let piece = piece_live core dbr seg w k.sdw k.live_descriptor in
+    let fits = live_fits core dbr seg k.sdw k.live in
+    let piece = piece_live core dbr seg w k.sdw k.live in
     let few = few_pieces k.sdw.unpaged k.sdw w fits k.bound in
     record { low = omega arith; high = omega arith }

@@ -93,7 +93,7 @@ module _ (core : List ℕ) (dbrs : List DbrFields) (firsts : List ℕ) (small : 
     no_pages d p none values t =
         same _ _ values (pages_past core dbr seg d p (256 * seg + 0) (256 * (seg + 1)) (omega arith)) (no_pages_back core dbr seg d p 0 (omega arith) none) (at_first d p values t)
 
-    module _ (sdw : SdwFields) (live_descriptor : core_sdw core dbr seg ≡ Ok sdw) (d p : ℕ) where
+    module _ (sdw : SdwFields) (live : core_sdw core dbr seg ≡ Ok sdw) (d p : ℕ) where
       pages_by : sdw.unpaged ≡ false → (n : ℕ) → n ≤ sdw.bound / 64 + 1 → (values : List ℕ) → IsSameLookup (IsMarkedSoFar core dbr d p (256 * seg)) values → IsSameLookup (IsMarkedSoFar core dbr d p (256 * seg + n)) (pages_recorded (17 + slice_index firsts (2 ^ 15 * k + seg)) sdw n values)
       unfolding pages_recorded
       pages_by paged zero le values t = at_first d p values t
@@ -102,20 +102,20 @@ module _ (core : List ℕ) (dbrs : List DbrFields) (firsts : List ℕ) (small : 
           let e : 256 * seg + n + 1 ≡ 256 * seg + suc n = omega arith in
           let before = pages_by paged n (omega arith) values t in
           subst (λ (m : ℕ). IsSameLookup (IsMarkedSoFar core dbr d p m) (with_number_at (pages_recorded (17 + slice_index firsts (2 ^ 15 * k + seg)) sdw n values) (page_at sdw n) (17 + slice_index firsts (2 ^ 15 * k + seg)))) e
-          (more (IsMarkedSoFar core dbr d p (256 * seg + n)) (IsMarkedSoFar core dbr d p (256 * seg + n + 1)) (Pages seg) (page_at sdw n) (pages_recorded (17 + slice_index firsts (2 ^ 15 * k + seg)) sdw n values) (pages_past core dbr seg d p (256 * seg + n) (256 * seg + n + 1) (omega arith)) (page_new core dbr seg d p n sdw live_descriptor paged begins) (page_here core dbr seg d p n sdw live_descriptor paged begins) before)
+          (more (IsMarkedSoFar core dbr d p (256 * seg + n)) (IsMarkedSoFar core dbr d p (256 * seg + n + 1)) (Pages seg) (page_at sdw n) (pages_recorded (17 + slice_index firsts (2 ^ 15 * k + seg)) sdw n values) (pages_past core dbr seg d p (256 * seg + n) (256 * seg + n + 1) (omega arith)) (page_new core dbr seg d p n sdw live paged begins) (page_here core dbr seg d p n sdw live paged begins) before)
 
       table_by : (u : Bool) → sdw.unpaged ≡ u → (values : List ℕ) → IsSameLookup (IsMarkedSoFar core dbr d p (256 * seg)) values → IsSameLookup (IsMarkedSoFar core dbr d p (256 * (seg + 1))) (page_table_recorded (17 + slice_index firsts (2 ^ 15 * k + seg)) sdw u values)
-      table_by true e values t = no_pages d p (λ n a le h. whole_has_none core dbr seg d p sdw live_descriptor e n a h) values t
+      table_by true e values t = no_pages d p (λ n a le h. whole_has_none core dbr seg d p sdw live e n a h) values t
       table_by false e values t =
-          let bound = (live_fits core dbr seg sdw live_descriptor).bound in
+          let bound = (live_fits core dbr seg sdw live).bound in
           let few_pages : sdw.bound / 64 + 1 ≤ 256 = omega arith in
           let past : sdw.bound / 64 < sdw.bound / 64 + 1 = omega arith in
-          same _ _ (pages_recorded (17 + slice_index firsts (2 ^ 15 * k + seg)) sdw (sdw.bound / 64 + 1) values) (pages_past core dbr seg d p (256 * seg + (sdw.bound / 64 + 1)) (256 * (seg + 1)) (omega arith)) (no_pages_back core dbr seg d p (sdw.bound / 64 + 1) few_pages (none_past core dbr seg d p sdw live_descriptor (sdw.bound / 64 + 1) past)) (pages_by e (sdw.bound / 64 + 1) (omega arith) values t)
+          same _ _ (pages_recorded (17 + slice_index firsts (2 ^ 15 * k + seg)) sdw (sdw.bound / 64 + 1) values) (pages_past core dbr seg d p (256 * seg + (sdw.bound / 64 + 1)) (256 * (seg + 1)) (omega arith)) (no_pages_back core dbr seg d p (sdw.bound / 64 + 1) few_pages (none_past core dbr seg d p sdw live (sdw.bound / 64 + 1) past)) (pages_by e (sdw.bound / 64 + 1) (omega arith) values t)
 
     live_by : (d p : ℕ) (v : Result SdwFields Refusal) → core_sdw core dbr seg ≡ v → (values : List ℕ) → IsSameLookup (IsMarkedSoFar core dbr d p (256 * seg)) values → IsSameLookup (IsMarkedSoFar core dbr d p (256 * (seg + 1))) (table_recorded_if_live (17 + slice_index firsts (2 ^ 15 * k + seg)) v values)
     live_by d p (Err e) dead values t =
-        no_pages d p (λ n a le h. let live_descriptor = h.live_descriptor in cc) values t
-    live_by d p (Ok sdw) live_descriptor values t = table_by sdw live_descriptor d p sdw.unpaged refl values t
+        no_pages d p (λ n a le h. let live = h.live in cc) values t
+    live_by d p (Ok sdw) live values t = table_by sdw live d p sdw.unpaged refl values t
 
     segment_by : has_descriptor_in_bounds dbr seg ≡ true → (values : List ℕ) → IsSameLookup (IsMarkedSoFar core dbr seg seg (256 * seg)) values → IsSameLookup (IsMarkedSoFar core dbr (seg + 1) (seg + 1) (256 * (seg + 1))) (segment_recorded core dbr firsts k seg values)
     unfolding segment_recorded

@@ -145,7 +145,7 @@ module _ (core : List ℕ) (dbr : DbrFields) (seg : ℕ) where
     -- a segment has at most 256 pages
     few_pages : (s page a : ℕ) → IsPageWord core dbr s page a → page < 256
     few_pages s page a k =
-        let fits : IsSdw k.sdw = live_fits core dbr s k.sdw k.live_descriptor in
+        let fits : IsSdw k.sdw = live_fits core dbr s k.sdw k.live in
         let begins = k.begins in
         omega arith
 
@@ -186,22 +186,22 @@ module _ (core : List ℕ) (dbr : DbrFields) (seg : ℕ) where
         no_pages 0 (omega arith) (λ n a le k. none n a k) size tables least (subst (λ (p : ℕ). AreMarked (IsMarkedSoFar core dbr sdws directories p) size tables least) e m)
 
     pub not_live : ((d : SdwFields) → core_sdw core dbr seg ≡ Ok d → ⊥) → (size : ℕ) (tables : List ℕ) (least : Option ℕ) → AreMarked (IsMarkedSoFar core dbr sdws directories (256 * seg)) size tables least → AreMarked (IsMarkedSoFar core dbr sdws directories (256 * (seg + 1))) size tables least
-    not_live dead size tables least m = no_page_table (λ n a k. dead k.sdw k.live_descriptor) size tables least m
+    not_live dead size tables least m = no_page_table (λ n a k. dead k.sdw k.live) size tables least m
 
     pub whole_has_none : (d : SdwFields) → core_sdw core dbr seg ≡ Ok d → d.unpaged ≡ true → (n a : ℕ) → IsPageWord core dbr seg n a → ⊥
-    whole_has_none d live_descriptor whole n a k =
-        let there = k.live_descriptor in
+    whole_has_none d live whole n a k =
+        let there = k.live in
         let paged = k.paged in
         let same : k.sdw ≡ d = cc in
         let says : k.sdw.unpaged ≡ true = ap (λ (x : SdwFields). x.unpaged) same ∙ whole in
         cc
 
     pub not_paged : (d : SdwFields) → core_sdw core dbr seg ≡ Ok d → d.unpaged ≡ true → (size : ℕ) (tables : List ℕ) (least : Option ℕ) → AreMarked (IsMarkedSoFar core dbr sdws directories (256 * seg)) size tables least → AreMarked (IsMarkedSoFar core dbr sdws directories (256 * (seg + 1))) size tables least
-    not_paged d live_descriptor whole size tables least m = no_page_table (whole_has_none d live_descriptor whole) size tables least m
+    not_paged d live whole size tables least m = no_page_table (whole_has_none d live whole) size tables least m
 
     pub none_past : (d : SdwFields) → core_sdw core dbr seg ≡ Ok d → (page : ℕ) → d.bound / 64 < page → (n a : ℕ) → page ≤ n → IsPageWord core dbr seg n a → ⊥
-    none_past d live_descriptor page past n a le k =
-        let there = k.live_descriptor in
+    none_past d live page past n a le k =
+        let there = k.live in
         let begins = k.begins in
         let same : k.sdw ≡ d = cc in
         let bounds : k.sdw.bound ≡ d.bound = ap (λ (x : SdwFields). x.bound) same in
@@ -209,15 +209,15 @@ module _ (core : List ℕ) (dbr : DbrFields) (seg : ℕ) where
 
     -- a segment has no pages after those that begin within the bound
     pub pages_done : (d : SdwFields) → core_sdw core dbr seg ≡ Ok d → (page : ℕ) → page ≤ 256 → d.bound / 64 < page → (size : ℕ) (tables : List ℕ) (least : Option ℕ) → AreMarked (IsMarkedSoFar core dbr sdws directories (256 * seg + page)) size tables least → AreMarked (IsMarkedSoFar core dbr sdws directories (256 * (seg + 1))) size tables least
-    pages_done d live_descriptor page few past size tables least m = no_pages page few (none_past d live_descriptor page past) size tables least m
+    pages_done d live page few past size tables least m = no_pages page few (none_past d live page past) size tables least m
 
-    module _ (page : ℕ) (d : SdwFields) (live_descriptor : core_sdw core dbr seg ≡ Ok d) (paged : d.unpaged ≡ false) (begins : page ≤ d.bound / 64) where
+    module _ (page : ℕ) (d : SdwFields) (live : core_sdw core dbr seg ≡ Ok d) (paged : d.unpaged ≡ false) (begins : page ≤ d.bound / 64) where
       page_small : page < 256
-      page_small = few_pages seg page (page_at d page) (record { sdw = d; live_descriptor = live_descriptor; paged = paged; begins = begins; found = refl })
+      page_small = few_pages seg page (page_at d page) (record { sdw = d; live = live; paged = paged; begins = begins; found = refl })
 
       found_there : (s n a : ℕ) → s ≡ seg → n ≡ page → IsPageWord core dbr s n a → a ≡ page_at d page
       found_there s n a e f k =
-          let there : core_sdw core dbr seg ≡ Ok k.sdw = ap (λ (x : ℕ). core_sdw core dbr x) (sym e) ∙ k.live_descriptor in
+          let there : core_sdw core dbr seg ≡ Ok k.sdw = ap (λ (x : ℕ). core_sdw core dbr x) (sym e) ∙ k.live in
           let same : k.sdw ≡ d = cc in
           k.found ∙ ap (λ (x : SdwFields). page_at x n) same ∙ ap (page_at d) f
 
@@ -239,7 +239,7 @@ module _ (core : List ℕ) (dbr : DbrFields) (seg : ℕ) where
       pub page_here : IsMarkedSoFar core dbr sdws directories (256 * seg + page + 1) (Pages seg) (page_at d page)
       page_here =
           let lt : 256 * seg + page < 256 * seg + page + 1 = omega arith in
-          (page, lt, record { sdw = d; live_descriptor = live_descriptor; paged = paged; begins = begins; found = refl })
+          (page, lt, record { sdw = d; live = live; paged = paged; begins = begins; found = refl })
 
       pub page_more : (size : ℕ) (tables : List ℕ) (least : Option ℕ) → AreMarked (IsMarkedSoFar core dbr sdws directories (256 * seg + page)) size tables least → AreMarked (IsMarkedSoFar core dbr sdws directories (256 * seg + page + 1)) size (tables_marked tables (seg + 3) (page_at d page)) (least_marked tables least (seg + 3) (page_at d page))
       page_more size tables least m =
@@ -262,7 +262,7 @@ module _ (core : List ℕ) (dbr : DbrFields) (n m : ℕ) (bounds : (q : ℕ) →
   is_sofar Directory a k = (k.0, below k.0 k.1.bounds, k.1)
   is_sofar (Pages s) a k =
       let small = few_pages core dbr s m m s k.0 a k.1 in
-      let lt = below s (live_in_bounds core dbr s k.1.sdw k.1.live_descriptor) in
+      let lt = below s (live_in_bounds core dbr s k.1.sdw k.1.live) in
       (k.0, omega arith, k.1)
 
   pub all_marked : (size : ℕ) (tables : List ℕ) (least : Option ℕ) → AreMarked (IsMarkedSoFar core dbr m m (256 * m)) size tables least → AreMarked (IsWordOfTable core dbr) size tables least

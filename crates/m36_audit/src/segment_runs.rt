@@ -64,7 +64,7 @@ pub(crate) fn unpaged_second_run(sdw: &Sdw) -> Run
 /// Counts the two runs of an unpaged segment.
 fn count_unpaged(counts: &mut RunCounts, core: &Core, dbr: Dbr, seg: u16, sdw: &Sdw)
     requires seg { seg < 2 ^ 15 }
-    requires live_descriptor { core_sdw core.now dbr seg ≡ Ok sdw.now }
+    requires live { core_sdw core.now dbr seg ≡ Ok sdw.now }
     requires order { has_ordered_brackets sdw.now ≡ true }
     requires whole { sdw.now.unpaged ≡ true }
     requires before { AreCounted (run core.now dbr) (runs_of_segment * seg) (length core.now)
@@ -79,7 +79,7 @@ fn count_unpaged(counts: &mut RunCounts, core: &Core, dbr: Dbr, seg: u16, sdw: &
 /// Counts the run of one page, if the page is in a frame.
 fn count_page(counts: &mut RunCounts, core: &Core, dbr: Dbr, seg: u16, sdw: &Sdw, page: u32)
     requires seg { seg < 2 ^ 15 }
-    requires live_descriptor { core_sdw core.now dbr seg ≡ Ok sdw.now }
+    requires live { core_sdw core.now dbr seg ≡ Ok sdw.now }
     requires order { has_ordered_brackets sdw.now ≡ true }
     requires paged { sdw.now.unpaged ≡ false }
     requires page { page ≤ last_page sdw.now }
@@ -98,7 +98,7 @@ fn count_page(counts: &mut RunCounts, core: &Core, dbr: Dbr, seg: u16, sdw: &Sdw
 /// Counts the runs of a paged segment.
 fn count_pages(counts: &mut RunCounts, core: &Core, dbr: Dbr, seg: u16, sdw: &Sdw)
     requires seg { seg < 2 ^ 15 }
-    requires live_descriptor { core_sdw core.now dbr seg ≡ Ok sdw.now }
+    requires live { core_sdw core.now dbr seg ≡ Ok sdw.now }
     requires order { has_ordered_brackets sdw.now ≡ true }
     requires paged { sdw.now.unpaged ≡ false }
     requires before { AreCounted (run core.now dbr) (runs_of_segment * seg) (length core.now)

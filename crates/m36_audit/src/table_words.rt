@@ -52,7 +52,7 @@ fn mark_directory(marks: &mut TableMarks, core: &Core, dbr: Dbr, seg: u16)
 /// Marks the words of the page table of a live paged segment.
 fn mark_page_table(marks: &mut TableMarks, core: &Core, dbr: Dbr, seg: u16, sdw: &Sdw)
     requires seg { seg < 2 ^ 15 }
-    requires live_descriptor { core_sdw core.now dbr seg ≡ Ok sdw.now }
+    requires live { core_sdw core.now dbr seg ≡ Ok sdw.now }
     requires paged { sdw.now.unpaged ≡ false }
     requires before { AreMarked (IsMarkedSoFar core.now dbr (seg + 1) (seg + 1)
         (pages_of_segment * seg))

@@ -73,7 +73,7 @@ FurtherWithin o Starves m n = n ≡ 0
 
 counted_first : (turn : Turn) → (session_state_after initial_session_state turn).taken ≡ step_count_after 0 turn
 unfolding session_state_after
-counted_first (turns.Stepped result_of_put) = refl
+counted_first (turns.Stepped told) = refl
 counted_first (turns.Linked note) = refl
 counted_first (turns.Console text) = refl
 counted_first (turns.Ended end) = refl
@@ -95,17 +95,17 @@ turned_within :
     → ((first second third : M) (one two : Turn) → o.next first one second → o.next second two third → PrecludesStep one → IsStep two → ⊥)
     → o.next m turn after → (run.left ≡ 0 → WasMade o PrecludesStep m) → after_turn run b turn ≡ next
     → FurtherWithin o next after n → step_count_after 0 turn + n ≤ run.left
-turned_within o turn run b (Runs run1) m after n interrupted may was is decide_after_turn =
+turned_within o turn run b (Runs run1) m after n interrupted may was is further =
     let counts = subst (λ (f : AfterTurn). TurnChangesCounts (put_turn_result turn f) run.left 0 (session_state_after initial_session_state turn).taken) is (came_counts turn run b initial_session_state) in
     let makes = subst (λ (f : AfterTurn). PrecludesStepIfNoneLeft o (put_turn_result turn f) m after) is (came_interrupted o turn run b m after may) in
-    let more : n ≤ run1.left = decide_after_turn (λ none. record { before = m; makes = makes none }) in
+    let more : n ≤ run1.left = further (λ none. record { before = m; makes = makes none }) in
     let within : (session_state_after initial_session_state turn).taken + run1.left ≤ run.left =
     runs_count (is_service turn) run1.left run.left 0 (session_state_after initial_session_state turn).taken run.left counts (omega arith) in
     omega (arith, more, within, counted_first turn)
-turned_within o turn run b Waits m after n interrupted may was is decide_after_turn =
-    omega (arith, decide_after_turn, last_within o turn run.left m after interrupted may was)
-turned_within o turn run b Starves m after n interrupted may was is decide_after_turn =
-    omega (arith, decide_after_turn, last_within o turn run.left m after interrupted may was)
+turned_within o turn run b Waits m after n interrupted may was is further =
+    omega (arith, further, last_within o turn run.left m after interrupted may was)
+turned_within o turn run b Starves m after n interrupted may was is further =
+    omega (arith, further, last_within o turn run.left m after interrupted may was)
 
 further_within :
     {M : Type 0} (o : MachineRelations M) (next : AfterTurn) (s : SessionStateFields) (m : M) (events : List (SessionEvent M)) (s' : SessionPoint) (m' : M)

@@ -161,5 +161,5 @@ quit_last o sitting doing m (e ∷ events) s' m' going follow over =
     elim (over_or_not after.doing) [
       | inl there ↦ subst (λ l. EndInQuit (line_in e.happened ++ l)) (sym (over_takes_none o after.sitting after.doing e.after events s' m' there follow.1))
           (subst EndInQuit (sym (append-nil (line_in e.happened))) (happened_quit o (o.regs e.after) sitting doing m e.after e.happened follow.0 there))
-      | inr decide_after_turn ↦ quit_behind (line_in e.happened) (lines_in events) (quit_last o after.sitting after.doing e.after events s' m' decide_after_turn follow.1 over)
+      | inr further ↦ quit_behind (line_in e.happened) (lines_in events) (quit_last o after.sitting after.doing e.after events s' m' further follow.1 over)
     ]

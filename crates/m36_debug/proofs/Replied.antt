@@ -35,8 +35,8 @@ pub record AfterTurn (more : List Event) (old new : Seen) : Type 0 where
   pub follow : Follow more between new
   pub input : input_by between ≡ input_by old
 
-decide_after_turn : (pieces : List (List ℕ)) (more : List Event) (old new : Seen) → Follow (outputs pieces ++ more) old new → AfterTurn more old new
-decide_after_turn pieces more old new follow =
+further : (pieces : List (List ℕ)) (more : List Event) (old new : Seen) → Follow (outputs pieces ++ more) old new → AfterTurn more old new
+further pieces more old new follow =
     let parts = follow_split (outputs pieces) more old new follow in
     record { between = parts.between; follow = parts.goes_on; input = outputs_keep pieces old parts.between parts.begins }
 
@@ -158,12 +158,12 @@ takes_puts_none most go pieces result (inl goes) = let is = goes.first in cc
 takes_puts_none most go pieces result (inr fails) = let is = fails.only in cc
 
 pub session_puts_none :
-    {M : Type 0} (o : MachineRelations M) (left taken : ℕ) (activity_after_line : List ℕ) (s : SessionStateFields) (m : M) → PutsNone (session_from o left taken activity_after_line s m)
+    {M : Type 0} (o : MachineRelations M) (left taken : ℕ) (begun : List ℕ) (s : SessionStateFields) (m : M) → PutsNone (session_from o left taken begun s m)
 unfolding session_from
-session_puts_none o zero zero activity_after_line s m = takes_puts_none 1 _
-session_puts_none o zero (suc taken) activity_after_line s m = too_long_puts_none
-session_puts_none o (suc left) zero activity_after_line s m = takes_puts_none (suc left) _
-session_puts_none o (suc left) (suc taken) activity_after_line s m = session_puts_none o left taken activity_after_line s m
+session_puts_none o zero zero begun s m = takes_puts_none 1 _
+session_puts_none o zero (suc taken) begun s m = too_long_puts_none
+session_puts_none o (suc left) zero begun s m = takes_puts_none (suc left) _
+session_puts_none o (suc left) (suc taken) begun s m = session_puts_none o left taken begun s m
 
 -- ---- a reply
 
@@ -183,7 +183,7 @@ pub record WentOn {M : Type 0} (Is : Reply M → Type 0) (on : List ℕ → Sess
   pub more : List Event
   pub events_are : events ≡ outputs written ++ more
   pub goes : Goes (on kept sitting machine) more result
-  pub decide_after_turn : AfterTurn more old new
+  pub further : AfterTurn more old new
 
 -- The last was `quit`.
 pub record HasQuit {M : Type 0} (Is : Reply M → Type 0) (events : List Event) (result : Result (Unit {0}) Status) (old new : Seen) : Type 0 where
@@ -217,7 +217,7 @@ has_failed :
     {M : Type 0} (Is : Reply M → Type 0) (reply : Reply M) (events : List Event) (result : Result (Unit {0}) Status) (old new : Seen)
     → Is reply → Unwrote (written_in reply) events result → Follow events old new → HasFailed Is events result old new
 has_failed Is reply events result old new is unwrote follow =
-    let on = decide_after_turn unwrote.handed (OutputFailed unwrote.failed ∷ []) old new (subst (λ e. Follow e old new) unwrote.events_are follow) in
+    let on = further unwrote.handed (OutputFailed unwrote.failed ∷ []) old new (subst (λ e. Follow e old new) unwrote.events_are follow) in
     record { reply = reply; is = is; unwrote = unwrote; input = last_failed unwrote.failed on.between new on.follow ∙ on.input }
 
 went_on :
@@ -234,7 +234,7 @@ went_on Is on written kept s m events result old new is follow (inl all) = inl (
   more = all.more;
   events_are = all.is;
   goes = all.goes;
-  decide_after_turn = decide_after_turn written all.more old new (subst (λ e. Follow e old new) all.is follow);
+  further = further written all.more old new (subst (λ e. Follow e old new) all.is follow);
 })
 went_on Is on written kept s m events result old new is follow (inr part) =
     inr (inr (inr (has_failed Is (All written kept s m) events result old new is part follow)))
@@ -249,7 +249,7 @@ ends_after :
     (pieces : List (List ℕ)) (value : Result (Unit {0}) Status) (more events : List Event) (result : Result (Unit {0}) Status) (old new : Seen)
     → events ≡ outputs pieces ++ more → more ≡ [] → result ≡ value → Follow events old new → EndsAfter pieces value events result old new
 ends_after pieces value more events result old new is none result_is follow =
-    let on = decide_after_turn pieces more old new (subst (λ e. Follow e old new) is follow) in record {
+    let on = further pieces more old new (subst (λ e. Follow e old new) is follow) in record {
       events_are = is ∙ ap (λ e. outputs pieces ++ e) none;
       result_is = result_is;
       input = nothing_more more on.between new none on.follow ∙ on.input;

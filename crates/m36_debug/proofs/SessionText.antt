@@ -244,14 +244,14 @@ session_first o Plain Alike stay ended ended' m n m1 m2 before after before' aft
     let others_taken = lines_in second.events in
     let opened = took_open ended first.pieces taken first.stands.doing bytes after first.took k in
     let opened' = took_open ended' second.pieces others_taken second.stands.doing bytes after' second.took k' in
-    let decide_after_turn = took_further ended' second.pieces taken others_taken second.stands.doing bytes after' is_end
+    let further = took_further ended' second.pieces taken others_taken second.stands.doing bytes after' is_end
     second.took k' second.count opened
     (λ more. took_within ended first.pieces taken first.stands.doing bytes after first.took k first.count more) in
     subst (λ l. IsFirstPart l others) (sym first.said)
     (subst (IsFirstPart (texts_of o (standing initial_session_state Waiting) first.events)) (sym second.said)
     (first_texts o Plain Alike stay initial_session_state Waiting m n first.events second.events first.stands m1 second.stands m2
     alike plain first.follow second.follow
-    (first_agree taken others_taken (open_lines_of bytes) opened opened') decide_after_turn))
+    (first_agree taken others_taken (open_lines_of bytes) opened opened') further))
 
 -- an end says whether the input is too long
 abbrev EndSays : Result (Unit {0}) SessionFault → List ℕ → Type 0

@@ -149,10 +149,10 @@ second_starved :
     (s2 : SessionPoint) (m2 : M) (lines taken : List (List ℕ))
     → (state_after (o.regs a) s h).doing ≡ Starved → Follow o (state_after (o.regs a) s h) a others s2 m2 → IsFurther
     s2.doing lines taken → P
-second_starved o s h a others s2 m2 lines taken starved follow decide_after_turn =
+second_starved o s h a others s2 m2 lines taken starved follow further =
     let after : SessionPoint = state_after (o.regs a) s h in
     let none = starved_stays o after.sitting after.doing a others s2 m2 starved follow in
-    absurd (not_further s2.doing lines taken none.doing decide_after_turn)
+    absurd (not_further s2.doing lines taken none.doing further)
 
 -- What is shown of the events after the first of each.
 abbrev Later : {M : Type 0} → MachineRelations M → (M → M → Type 0) → List (SessionEvent M) → List (SessionEvent M)
@@ -172,7 +172,7 @@ same_event :
     → SameInput (lines_in events) (lines_in others) → IsFurther s2.doing (lines_in events) (lines_in others)
     → Later o Alike events others s1 m1 s2 m2
     → IsFirstPart (after_event o s h a events) (after_event o s h' a' others)
-same_event o Plain Alike stay s h h' a a' events others s1 m1 s2 m2 same_kind alike follow follow' same decide_after_turn later =
+same_event o Plain Alike stay s h h' a a' events others s1 m1 s2 m2 same_kind alike follow follow' same further later =
     let regs : o.regs a ≡ o.regs a' = stay.regs a a' alike in
     let content : o.content a ≡ o.content a' = stay.content a a' alike in
     let point : state_after (o.regs a) s h ≡ state_after (o.regs a') s h' = λ i. state_after (regs i) s (same_kind i) in
@@ -183,7 +183,7 @@ same_event o Plain Alike stay s h h' a a' events others s1 m1 s2 m2 same_kind al
     (first_on (event_lines (o.regs a) (o.content a) s h) (texts_of o (state_after (o.regs a) s h) events)
     (texts_of o (state_after (o.regs a) s h) others)
     (later (state_after (o.regs a) s h) a a' alike follow
-    (subst (λ (p : SessionPoint). Follow o p a' others s2 m2) (sym point) follow') same decide_after_turn))
+    (subst (λ (p : SessionPoint). Follow o p a' others s2 m2) (sym point) follow') same further))
 
 further_tail : (doing : Activity) (line other : List ℕ) (lines others : List (List ℕ))
     → IsFurther doing (line ∷ lines) (other ∷ others) → IsFurther doing lines others
@@ -205,21 +205,21 @@ both_turned :
     → Later o Alike events others s1 m1 s2 m2
     → IsFirstPart (after_event o (standing s (Running run)) (Turned turn) a events)
     (after_event o (standing s (Running run)) (Turned turn') a' others)
-both_turned o Plain Alike stay s run turn turn' a a' events others s1 m1 s2 m2 (inl memory) follow follow' same decide_after_turn
+both_turned o Plain Alike stay s run turn turn' a a' events others s1 m1 s2 m2 (inl memory) follow follow' same further
     later =
     let p : SessionPoint = standing s (Running run) in
     first_starved o p (Turned turn) a events s1 m1 (after_event o p (Turned turn') a' others)
     (ap (λ t. event_lines (o.regs a) (o.content a) p (Turned t)) memory ∙ turn_silent (o.regs a) (o.content a) s run)
     (ap (λ t. (state_after (o.regs a) p (Turned t)).doing) memory ∙ turn_starves (o.regs a) s run) follow
 both_turned o Plain Alike stay s run turn turn' a a' events others s1 m1 s2 m2 (inr (inl memory)) follow follow' same
-    decide_after_turn later =
+    further later =
     let p : SessionPoint = standing s (Running run) in
     second_starved o p (Turned turn') a' others s2 m2 (lines_in events) (lines_in others)
-    (ap (λ t. (state_after (o.regs a') p (Turned t)).doing) memory ∙ turn_starves (o.regs a') s run) follow' decide_after_turn
+    (ap (λ t. (state_after (o.regs a') p (Turned t)).doing) memory ∙ turn_starves (o.regs a') s run) follow' further
 both_turned o Plain Alike stay s run turn turn' a a' events others s1 m1 s2 m2 (inr (inr equal)) follow follow' same
-    decide_after_turn later =
+    further later =
     same_event o Plain Alike stay (standing s (Running run)) (Turned turn) (Turned turn') a a' events others s1 m1 s2 m2
-    (ap (λ t. Turned t) equal.0) equal.1 follow follow' same decide_after_turn later
+    (ap (λ t. Turned t) equal.0) equal.1 follow follow' same further later
 
 -- both went back
 both_went :
@@ -235,21 +235,21 @@ both_went :
     → IsFirstPart (after_event o (standing s (Backing n line)) (Went answer) a events)
     (after_event o (standing s (Backing n line)) (Went answer') a' others)
 both_went o Plain Alike stay s n line answer answer' a a' events others s1 m1 s2 m2 (inl memory) follow follow' same
-    decide_after_turn later =
+    further later =
     let p : SessionPoint = standing s (Backing n line) in
     first_starved o p (Went answer) a events s1 m1 (after_event o p (Went answer') a' others)
     (ap (λ t. event_lines (o.regs a) (o.content a) p (Went t)) memory ∙ back_silent (o.regs a) (o.content a) s n line)
     (ap (λ t. (state_after (o.regs a) p (Went t)).doing) memory ∙ back_starves (o.regs a) s n line) follow
 both_went o Plain Alike stay s n line answer answer' a a' events others s1 m1 s2 m2 (inr (inl memory)) follow follow'
-    same decide_after_turn later =
+    same further later =
     let p : SessionPoint = standing s (Backing n line) in
     second_starved o p (Went answer') a' others s2 m2 (lines_in events) (lines_in others)
-    (ap (λ t. (state_after (o.regs a') p (Went t)).doing) memory ∙ back_starves (o.regs a') s n line) follow' decide_after_turn
+    (ap (λ t. (state_after (o.regs a') p (Went t)).doing) memory ∙ back_starves (o.regs a') s n line) follow' further
 both_went o Plain Alike stay s n line answer answer' a a' events others s1 m1 s2 m2 (inr (inr equal)) follow follow'
-    same decide_after_turn later =
+    same further later =
     same_event o Plain Alike stay (standing s (Backing n line)) (Went answer) (Went answer') a a' events others s1 m1 s2
     m2
-    (ap (λ t. Went t) equal.0) equal.1 follow follow' same decide_after_turn later
+    (ap (λ t. Went t) equal.0) equal.1 follow follow' same further later
 
 -- both took a line
 both_took :
@@ -265,11 +265,11 @@ both_took :
     → IsFirstPart (after_event o (standing s Waiting) (Took line) a events)
     (after_event o (standing s Waiting) (Took other) a' others)
 both_took {M} o Plain Alike stay s m n line other a a' events others s1 m1 s2 m2 alike here there follow follow' same
-    decide_after_turn later =
+    further later =
     same_event o Plain Alike stay (standing s Waiting) (Took line) (Took other) a a' events others s1 m1 s2 m2
     (ap (λ l. Took l) same.0) (subst (λ (k : M). Alike k a') (sym here)
     (subst (λ (k : M). Alike m k) (sym there) alike)) follow follow' same.1
-    (further_tail s2.doing line other (lines_in events) (lines_in others) decide_after_turn) later
+    (further_tail s2.doing line other (lines_in events) (lines_in others) further) later
 
 both_happened :
     {M : Type 0} (o : MachineRelations M) (Plain : Turn → Type 0) (Alike : M → M → Type 0) → StayAlike o Plain Alike
@@ -284,31 +284,31 @@ both_happened :
     → Later o Alike events others s1 m1 s2 m2
     → IsFirstPart (after_event o (standing s doing) h a events) (after_event o (standing s doing) h' a' others)
 both_happened o Plain Alike stay s Waiting m n (Took line) (Took other) a a' events others s1 m1 s2 m2 alike plain may
-    may' follow follow' same decide_after_turn later =
+    may' follow follow' same further later =
     both_took o Plain Alike stay s m n line other a a' events others s1 m1 s2 m2 alike may may' follow follow' same
-    decide_after_turn later
+    further later
 both_happened o Plain Alike stay s (Running run) m n (Turned turn) (Turned turn') a a' events others s1 m1 s2 m2 alike
-    plain may may' follow follow' same decide_after_turn later =
+    plain may may' follow follow' same further later =
     both_turned o Plain Alike stay s run turn turn' a a' events others s1 m1 s2 m2
-    (stay.turns m n a a' turn turn' alike may may' plain) follow follow' same decide_after_turn later
+    (stay.turns m n a a' turn turn' alike may may' plain) follow follow' same further later
 both_happened o Plain Alike stay s (Backing k line) m n (Went answer) (Went answer') a a' events others s1 m1 s2 m2
-    alike plain may may' follow follow' same decide_after_turn later =
+    alike plain may may' follow follow' same further later =
     both_went o Plain Alike stay s k line answer answer' a a' events others s1 m1 s2 m2
-    (stay.goes_back m n a a' k answer answer' alike may may') follow follow' same decide_after_turn later
+    (stay.goes_back m n a a' k answer answer' alike may may') follow follow' same further later
 both_happened o Plain Alike stay s Waiting m n (Took line) (Turned turn') a a' events others s1 m1 s2 m2 alike plain may
-    may' follow follow' same decide_after_turn later = absurd may'
+    may' follow follow' same further later = absurd may'
 both_happened o Plain Alike stay s Waiting m n (Took line) (Went answer') a a' events others s1 m1 s2 m2 alike plain may
-    may' follow follow' same decide_after_turn later = absurd may'
+    may' follow follow' same further later = absurd may'
 both_happened o Plain Alike stay s (Running run) m n (Turned turn) (Took other) a a' events others s1 m1 s2 m2 alike
-    plain may may' follow follow' same decide_after_turn later = absurd may'
+    plain may may' follow follow' same further later = absurd may'
 both_happened o Plain Alike stay s (Running run) m n (Turned turn) (Went answer') a a' events others s1 m1 s2 m2 alike
-    plain may may' follow follow' same decide_after_turn later = absurd may'
+    plain may may' follow follow' same further later = absurd may'
 both_happened o Plain Alike stay s (Backing k line) m n (Went answer) (Took other) a a' events others s1 m1 s2 m2 alike
-    plain may may' follow follow' same decide_after_turn later = absurd may'
+    plain may may' follow follow' same further later = absurd may'
 both_happened o Plain Alike stay s (Backing k line) m n (Went answer) (Turned turn') a a' events others s1 m1 s2 m2
-    alike plain may may' follow follow' same decide_after_turn later = absurd may'
+    alike plain may may' follow follow' same further later = absurd may'
 both_happened o Plain Alike stay s doing m n h h' a a' events others s1 m1 s2 m2 alike plain may may' follow follow'
-    same decide_after_turn later = absurd may
+    same further later = absurd may
 
 -- the second has ended
 no_line : (line : List ℕ) (lines rest : List (List ℕ)) → [] ≡ line ∷ (lines ++ rest) → ⊥
@@ -323,7 +323,7 @@ none_further o (Running run) m (Turned turn) a lines may (inl over) = let is = o
 none_further o (Running run) m (Turned turn) a lines may (inr waits) = let is = waits.0 in cc
 none_further o (Backing n line) m (Went answer) a lines may (inl over) = let is = over in cc
 none_further o (Backing n line) m (Went answer) a lines may (inr waits) = let is = waits.0 in cc
-none_further o doing m h a lines may decide_after_turn = absurd may
+none_further o doing m h a lines may further = absurd may
 
 -- If the second session is over, or waits and has taken all lines of the first, the first wrote a prefix of what the
 -- second wrote.
@@ -336,15 +336,15 @@ pub first_texts :
     → SameInput (lines_in events) (lines_in others) → IsFurther s2.doing (lines_in events) (lines_in others)
     → IsFirstPart (texts_of o (standing sitting doing) events) (texts_of o (standing sitting doing) others)
 unfolding Follow texts_of lines_in
-first_texts o Plain Alike stay sitting doing m n [] others s1 m1 s2 m2 alike plain follow follow' same decide_after_turn =
+first_texts o Plain Alike stay sitting doing m n [] others s1 m1 s2 m2 alike plain follow follow' same further =
     first_none (texts_of o (standing sitting doing) others)
-first_texts o Plain Alike stay sitting doing m n (e ∷ events) [] s1 m1 s2 m2 alike plain follow follow' same decide_after_turn =
+first_texts o Plain Alike stay sitting doing m n (e ∷ events) [] s1 m1 s2 m2 alike plain follow follow' same further =
     absurd (none_further o doing m e.happened e.after (lines_in events) follow.0
     (subst (λ d. IsFurther d (line_in e.happened ++ lines_in events) []) (ap (λ (s : SessionPoint). s.doing) follow'.0)
-    decide_after_turn))
+    further))
 first_texts o Plain Alike stay sitting doing m n (e ∷ events) (e' ∷ others) s1 m1 s2 m2 alike plain follow follow' same
-    decide_after_turn =
+    further =
     both_happened o Plain Alike stay sitting doing m n e.happened e'.happened e.after e'.after events others s1 m1 s2 m2
-    alike plain.0 follow.0 follow'.0 follow.1 follow'.1 same decide_after_turn
-    (λ s k l alike' on on' agree decide_after_turn'.
-    first_texts o Plain Alike stay s.sitting s.doing k l events others s1 m1 s2 m2 alike' plain.1 on on' agree decide_after_turn')
+    alike plain.0 follow.0 follow'.0 follow.1 follow'.1 same further
+    (λ s k l alike' on on' agree further'.
+    first_texts o Plain Alike stay s.sitting s.doing k l events others s1 m1 s2 m2 alike' plain.1 on on' agree further')

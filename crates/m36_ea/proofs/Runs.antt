@@ -53,7 +53,7 @@ module _ (g : RegsFields) (p : Point) (word : ℕ) (held : Option ℕ) (m m' : M
   one_more = refs ++ indirect_reference p word 1 ∷ []
 
   abbrev even : ℕ → Answer
-  even w = record { sdw = sdw_in m p.seg; words = w ∷ []; initial_point = 0; place = 0 }
+  even w = record { sdw = sdw_in m p.seg; words = w ∷ []; first = 0; place = 0 }
 
   -- the indirect word is refused
   pub follows_refused : (f : Fault) → ServesIndirect g p word m m'.core (Err f) → reading ≡ after m'.core refs (Err f)
@@ -94,7 +94,7 @@ module _ (g : RegsFields) (p : Point) (m m' : Memory) (refs : List Reference) (n
   one_tally = refs ++ indirect_reference p p.y 1 ∷ []
 
   abbrev tally_read : ℕ → Answer
-  tally_read w = record { sdw = sdw_in m p.seg; words = w ∷ []; initial_point = 0; place = 0 }
+  tally_read w = record { sdw = sdw_in m p.seg; words = w ∷ []; first = 0; place = 0 }
 
   pub counts_refused : (f : Fault) → ServesIndirect g p p.y m m'.core (Err f) → counting ≡ counted_end m'.core refs (Err f)
   counts_refused f h =
@@ -134,7 +134,7 @@ module _ (g : RegsFields) (p : Point) (m : Midstep (List ℕ)) where
   turn_of (suc k) v r e last more =
       ap (λ (x : Move). run core_store g (chain_by (chain k g) g p x) m) (sym e) ∙ more k
 
-  pub chain_ends : (n : ℕ) (last : FinalFields) → Ends last ≡ move_of_point g p → run core_store g (chain n g p) m ≡ record { value = Ok (record { last = last; pending_tally = []; runout = None }); mid = m }
+  pub chain_ends : (n : ℕ) (last : FinalFields) → Ends last ≡ move_of_point g p → run core_store g (chain n g p) m ≡ record { value = Ok (record { last = last; pending = []; runout = None }); mid = m }
   chain_ends n last e = turn_of n (Ends last) _ e (run_done g _ m) (λ k. run_done g _ m)
 
   pub chain_fails : (n : ℕ) (h : Halt) → Fails h ≡ move_of_point g p → run core_store g (chain n g p) m ≡ record { value = Err h; mid = m }

@@ -20,7 +20,7 @@ pub fn link_laws()
     ensures fault { UnsnappedLinksFault }
     ensures links { LinksFound }
     ensures numbers { NumbersAgree }
-    ensures known_after { MayBeAccepted }
+    ensures accepted { MayBeAccepted }
     ensures accepted_from { MayBeAcceptedFrom }
     ensures made { KeepsConsistent }
     ensures made_from { KeepsConsistentFrom }

@@ -106,7 +106,7 @@ pub taken_from : (p : PagerFields) (core : List ℕ) (new : PagerFields) (mid no
     → IsCopied (get_or p.tables i d).words (1024 * page) core (1024 * (p.first + k)) mid
     → now ≡ set mid (spot_of p seg page) (resident_ptw (p.first + k))
     → IsTakenIn p core new now k seg page
-taken_from p core new mid now k seg page i d s has out empty_frame inside at first tables holders copied e =
+taken_from p core new mid now k seg page i d s has out empty inside at first tables holders copied e =
     let below = s.pager.below seg page has in
     let room = s.frames in
     let size = copied.size in
@@ -128,7 +128,7 @@ taken_from p core new mid now k seg page i d s has out empty_frame inside at fir
     record {
       has = has;
       out = out;
-      empty_frame = empty_frame;
+      empty = empty;
       inside = inside;
       shape = record {
         first = first;
@@ -218,7 +218,7 @@ pub emptied : (p : PagerFields) (core : List ℕ) (new : PagerFields) (now : Lis
 emptied p core new now k seg page s away = record {
   kept = away_kept p core new now k seg page s away;
   settled = away_settled p core new now k seg page s away;
-  empty_frame = holder_gone new k seg page p (λ x q h. (away.left k x q h).1 refl) (get_or new.holders k None) refl;
+  empty = holder_gone new k seg page p (λ x q h. (away.left k x q h).1 refl) (get_or new.holders k None) refl;
   spot = λ x q h.
       let both : (x, q) ≡ (seg, page) = same_some (x, q) (seg, page) (sym h ∙ away.held) in
       ap (λ (y : ℕ × ℕ). get_or now (spot_of p y.0 y.1) 0) both ∙ away.spot;

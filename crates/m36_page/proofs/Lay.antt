@@ -77,11 +77,11 @@ laid_page p core now s q i at has laid =
 
 -- after laying, the page table words are those of pages in no frame
 pub laid_reads : (p : PagerFields) (core now : List ℕ) → AllEmpty p → AreAbsent p.tables (length p.tables) core now → AgreesWithCore p now
-laid_reads p core now empty_frame laid = record {
+laid_reads p core now empty laid = record {
   pages = λ s q has.
       let at = position_some p.tables s (position (is_table_of s) p.tables) refl (placed p.tables s (has_table p s q has)) in
       inl (laid_page p core now s q at.0 at.1 has laid);
-  frames = λ k s q h. absurd (empty_frame k s q h);
+  frames = λ k s q h. absurd (empty k s q h);
 }
 
 -- ---- a pager that was given

@@ -368,7 +368,7 @@ taken_apart : (p : PagerFields) (core : List ℕ) (new : PagerFields) (now : Lis
 taken_apart p core new now k seg page j s q taken h = λ same.
     let P : ℕ → Type 0 = λ x. get_or p.holders x None ≡ Some (s, q) in
     let at : get_or p.holders k None ≡ Some (s, q) = subst P same h in
-    let empty_frame = taken.empty_frame in
+    let empty = taken.empty in
     absurd (cc)
 
 pub taken_kept : (p : PagerFields) (core : List ℕ) (new : PagerFields) (now : List ℕ) (k seg page : ℕ)

@@ -127,7 +127,7 @@ inside_taken p core new now k seg page spots spot inside taken is = record {
             let other : j ≢ k = λ equal.
             let P : ℕ → Type 0 = λ n. get_or p.holders n None ≡ Some (s, q) in
             let at : get_or p.holders k None ≡ Some (s, q) = subst P equal from in
-            let empty_frame = taken.empty_frame in
+            let empty = taken.empty in
             absurd (cc) in
             get_or-set_other spots k j spot 0 other ∙ inside.spots j s q from ∙ sym (taken.shape.spots s q)
       ];
@@ -320,7 +320,7 @@ pub taken_parts : (first : ℕ) (holders : List (Option (ℕ × ℕ))) (tables t
     → IsCopied t.words (1024 * page) core (1024 * (first + k)) mid
     → spot ≡ spot_of p seg page → now ≡ set mid spot (resident_ptw (first + k))
     → IsTakenIn p core (parts first (set holders k (Some (seg, page))) tables) now k seg page
-taken_parts first holders tables ts p core mid now k seg page i spot t e s has out empty_frame inside same place item copied at written =
+taken_parts first holders tables ts p core mid now k seg page i spot t e s has out empty inside same place item copied at written =
     let q : PagerFields = parts first holders tables in
     let new : PagerFields = parts first (set holders k (Some (seg, page))) tables in
     let settled : IsConsistent q core = settled_parts p q core e s in
@@ -330,7 +330,7 @@ taken_parts first holders tables ts p core mid now k seg page i spot t e s has o
     let A : PagerFields → Type 0 = λ x. IsTakenIn x core new now k seg page in
     subst A e
     (taken_from q core new mid now k seg page i t settled (ap (λ x. has_page x seg page) e ∙ has)
-    (ap (λ x. frame_of x core seg page) e ∙ out) (ap (λ hs. get_or hs k None) holders' ∙ empty_frame) (omega (arith, inside, count))
+    (ap (λ x. frame_of x core seg page) e ∙ out) (ap (λ hs. get_or hs k None) holders' ∙ empty) (omega (arith, inside, count))
     (sym (ap (position (is_table_of seg)) same) ∙ place) refl refl refl (subst C item copied)
     (written ∙ ap (λ a. set mid a (resident_ptw (first + k))) (at ∙ sym (ap (λ x. spot_of x seg page) e))))
 

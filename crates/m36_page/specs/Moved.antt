@@ -37,7 +37,7 @@ pub record IsTakenIn (p : PagerFields) (core : List ℕ) (new : PagerFields) (no
     (k seg page : ℕ) : Type 0 where
   pub has : has_page p seg page ≡ true
   pub out : frame_of p core seg page ≡ None
-  pub empty_frame : slice_index_or p.holders k None ≡ None
+  pub empty : slice_index_or p.holders k None ≡ None
   pub inside : k < length p.holders
   pub shape : IsSameShape p new
   pub words : IsPager new
@@ -57,7 +57,7 @@ pub record IsEmptied (p : PagerFields) (core : List ℕ) (new : PagerFields) (no
     (k : ℕ) : Type 0 where
   pub kept : KeepsContents p core new now
   pub settled : IsConsistent new now
-  pub empty_frame : slice_index_or new.holders k None ≡ None
+  pub empty : slice_index_or new.holders k None ≡ None
   pub spot : (s q : ℕ) → Holds p k s q → slice_index now (spot_of p s q) ≡ absent_ptw
   pub same : slice_index_or p.holders k None ≡ None → (new ≡ p) × (now ≡ core)
   pub others : OthersStay p core new now k

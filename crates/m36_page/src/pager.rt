@@ -104,7 +104,7 @@ impl Pager {
     ) -> Result<Pager, NoMemory>
         requires { are_placed first tables.now ≡ true }
         ensures given { IfOk result (λ p. p ≡ initial_pager first frames tables.now) }
-        ensures empty_frame { IfOk result AllEmpty }
+        ensures empty { IfOk result AllEmpty }
         ensures room { IfOk result (λ p. AllEndBelow first p.tables) }
     {
         Ok(Pager {
@@ -120,7 +120,7 @@ impl Pager {
     /// a page yet. No other core word changes.
     pub fn lay(&self, core: &mut Core)
         requires frames { HasFrames self.now core.old }
-        requires empty_frame { AllEmpty self.now }
+        requires empty { AllEmpty self.now }
         requires room { AllEndBelow self.now.first self.now.tables }
         ensures reads { AgreesWithCore self.now core.new }
         ensures others { AreAbsent self.now.tables (length self.now.tables) core.old core.new }
@@ -170,7 +170,7 @@ impl Pager {
     fn take_in(&mut self, core: &mut Core, k: usize, seg: u16, page: u16)
         requires settled { IsConsistent self.old core.old }
         requires inside { k < length self.old.holders }
-        requires empty_frame { slice_index_or self.old.holders k None ≡ None }
+        requires empty { slice_index_or self.old.holders k None ≡ None }
         requires page { has_page self.old seg page ≡ true }
         requires out { frame_of self.old core.old seg page ≡ None }
         ensures { IsTakenIn self.old core.old self.new core.new k seg page }

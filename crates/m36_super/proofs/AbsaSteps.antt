@@ -68,7 +68,7 @@ module _ (frames : ℕ) (kept : ℕ → ℕ → ℕ) (g : RegsFields) (core : Li
         next = sym (ap (λ (e : Ending). e.outcome) value) ∙ k.next;
       }
   absa_by (lacked fault number lacks stop m) k =
-      let end_run : Faulted fault ≡ Next = sym stop.outcome ∙ k.next in
+      let ends : Faulted fault ≡ Next = sym stop.outcome ∙ k.next in
       absurd (cc)
   absa_by (placed_apart two mids) k =
       record { word = two.1.word; fetched = two.1.fetched; number = two.1.number; does = two.1.locates; next = two.1.next }

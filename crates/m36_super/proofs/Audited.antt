@@ -49,7 +49,7 @@ link_low : (frames : ℕ) (at : AtFields) (answer : Result SnapFields RefusedFie
 link_low frames at (Ok s) before NoMemory after h = ap (λ (r : Booted). take descriptor_words r.state.memory.core) h
 link_low frames at (Err why) before NoMemory after h = ap (λ (r : Booted). take descriptor_words r.state.memory.core) h
 link_low frames at (Ok s) before turn after h =
-    flat_low before.state.memory after.state.memory _ h.console_byte.flat (put_descriptors (flat_of before.state.memory) (link_changes at s) ∙ old_low before.state.memory)
+    flat_low before.state.memory after.state.memory _ h.written.flat (put_descriptors (flat_of before.state.memory) (link_changes at s) ∙ old_low before.state.memory)
 link_low frames at (Err why) before turn after h = ap (λ (r : Booted). take descriptor_words r.state.memory.core) h.1
 
 console_low : (b : Bool) (text : Result (List ℕ) Fault) (before : Booted) (turn : Turn) (after : Booted) → IsConsoleTurn b text before turn after → IsLow before after

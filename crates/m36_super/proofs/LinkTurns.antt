@@ -36,13 +36,13 @@ drop_past (suc i) (x ∷ xs) h = drop_past i xs (omega arith)
 pub record IsWriting (core : List ℕ) (p : PagerFields) (now : List ℕ) (q : PagerFields) (ring at : ℕ) (rest : List ℕ) (word : ℕ) (words : List ℕ) : Type 0 where
   pub fits : at + length rest ≤ 2 ^ 18
   pub put : paged_put (memory_by now q) (written_from (linkage_segment ring) at rest) ≡ paged_put (memory_by core p) (written_from (linkage_segment ring) word words)
-  pub console_byte : flat_put (flat_by now q) (written_from (linkage_segment ring) at rest) ≡ flat_put (flat_by core p) (written_from (linkage_segment ring) word words)
+  pub written : flat_put (flat_by now q) (written_from (linkage_segment ring) at rest) ≡ flat_put (flat_by core p) (written_from (linkage_segment ring) word words)
   pub frames : length q.holders ≡ length p.holders
   pub managed : IsManaged (length q.holders) now q
 
 pub writing_first : (core : List ℕ) (p : PagerFields) (ring word : ℕ) (words : List ℕ) → IsManaged (length p.holders) core p → word + length words ≤ 2 ^ 18 → IsWriting core p core p ring word words word words
 writing_first core p ring word words m fits =
-    record { fits = fits; put = refl; console_byte = refl; frames = refl; managed = m }
+    record { fits = fits; put = refl; written = refl; frames = refl; managed = m }
 
 next_written : (f g : Flat) (seg at w : ℕ) (rest : List ℕ) → g ≡ flat_put f (written_from seg at (w ∷ [])) → flat_put g (written_from seg (at + 1) rest) ≡ flat_put f (written_from seg at (w ∷ rest))
 unfolding flat_put written_from
@@ -58,7 +58,7 @@ writing_next core mid now p r q ring at w word rest words h put =
     record {
       fits = omega arith;
       put = next_put (memory_by mid r) (memory_by now q) (linkage_segment ring) at w rest put.put ∙ h.put;
-      console_byte = next_written (flat_by mid r) (flat_by now q) (linkage_segment ring) at w rest put.flat ∙ h.console_byte;
+      written = next_written (flat_by mid r) (flat_by now q) (linkage_segment ring) at w rest put.flat ∙ h.written;
       frames = put.frames ∙ h.frames;
       managed = put.managed;
     }
@@ -72,7 +72,7 @@ writing_more core mid now p r q ring at word i w words inside is h put =
 writing_end : (core now : List ℕ) (p q : PagerFields) (ring at word : ℕ) (words : List ℕ) → IsWriting core p now q ring at [] word words → ArePut core p now q (written_from (linkage_segment ring) word words)
 unfolding flat_put paged_put written_from
 writing_end core now p q ring at word words h =
-    record { put = h.put; flat = h.console_byte; frames = h.frames; managed = h.managed }
+    record { put = h.put; flat = h.written; frames = h.frames; managed = h.managed }
 
 pub writing_done : (core now : List ℕ) (p q : PagerFields) (ring at word i : ℕ) (words : List ℕ) → length words ≤ i → IsWriting core p now q ring at (drop i words) word words → ArePut core p now q (written_from (linkage_segment ring) word words)
 writing_done core now p q ring at word i words past h =
@@ -122,7 +122,7 @@ linked old new p q known later next_event next loaded at s turn put regs accepts
     subst (λ (t : Turn). IsLinkTurn (Ok s) (length p.holders) at (run_of old p known next_event loaded) t (run_of new q later next loaded)) (sym told) (record {
       told = refl;
       regs = regs;
-      console_byte = record { put = put.put; laid = subst (IsLaid new.store) put.frames put.managed.pages.laid; flat = put.flat };
+      written = record { put = put.put; laid = subst (IsLaid new.store) put.frames put.managed.pages.laid; flat = put.flat };
       known = accepts;
       next_event = step;
       loaded = refl;

@@ -151,11 +151,11 @@ module _ (lib : Library) (state : PagedState) (known : KnownFields) where
   link_cases at (Err why) NoMemory after stands h = inl (refl, h)
   link_cases at (Ok s) turn after stands h =
       let regs = h.regs in
-      let flat = h.console_byte.flat in
+      let flat = h.written.flat in
       let known = h.known in
       let next_event = h.next_event in
       let loaded = h.loaded in
-      inr ((h.told, λ i. record { state = record { regs = regs i; store = flat i }; known = known i; next_event = next_event i; loaded = loaded i }), stands_as after loaded (record { dbr = ap (λ (r : RegsFields). r.dbr) regs ∙ stands.dbr; laid = h.console_byte.laid }))
+      inr ((h.told, λ i. record { state = record { regs = regs i; store = flat i }; known = known i; next_event = next_event i; loaded = loaded i }), stands_as after loaded (record { dbr = ap (λ (r : RegsFields). r.dbr) regs ∙ stands.dbr; laid = h.written.laid }))
   link_cases at (Err why) turn after stands h =
       inr ((h.0, ap flat_run_of h.1), subst (λ (r : Booted). LaidOutUntilLdbr r.loaded frames r.state) (sym h.1) stands)
 

@@ -98,7 +98,7 @@ pub record IsLinked
     : Type 0 where
   pub told : turn ≡ Linked (note_snapped at s)
   pub regs : after.state.regs ≡ before.state.regs
-  pub console_byte : IsWrittenBy frames before.state.memory after.state.memory (link_changes at s)
+  pub written : IsWrittenBy frames before.state.memory after.state.memory (link_changes at s)
   pub known : after.known ≡ known_after before.known s
   pub next_event : after.next_event ≡ Step
   pub loaded : after.loaded ≡ before.loaded

@@ -56,7 +56,7 @@ pub use next_event::NextEvent;
 /// executes ABSA or LDBR, or runs out of memory, are those of the flat run, which has no frames. A
 /// step counts as loading the descriptor segment base register exactly if it executes an LDBR.
 pub fn law_turn()
-    ensures executed_ldbr { LoadsLaw }
+    ensures loads { LoadsLaw }
     ensures turn { TurnLaw }
     ensures audit { TurnAuditLaw }
     ensures function { PlainTurnsLaw }

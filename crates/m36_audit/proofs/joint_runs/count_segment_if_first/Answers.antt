@@ -32,5 +32,5 @@ returns-else-has_ordered_brackets c =
 pub returns-in-None : goal.returns-in-None
 returns-in-None c =
     no_words c.args.core.now c.args.dbrs.now c.args.firsts.now.items c.args.k c.index-dbrs-k.result (dbr_at c.args.dbrs.now c.args.k c.index-dbrs-k.result c.requires.process c.index-dbrs-k.is) c.args.seg c.requires.seg
-    (λ d live_descriptor. absurd (c.in-None.ensures d live_descriptor))
+    (λ d live. absurd (c.in-None.ensures d live))
     (length c.args.core.now) c.args.counts.now.starts c.args.counts.now.stops c.requires.before

@@ -14,9 +14,9 @@ add-requires-clause-room_at_end c =
 pub returns-in-Some : goal.returns-in-Some
 returns-in-Some c =
     counted_by (run c.args.core.now c.args.dbr) (256 * c.args.seg + c.args.page) (length c.args.core.now) c.args.counts.now.starts c.args.counts.now.stops c.in-Some.run' c.add.new.self.starts c.add.new.self.stops
-    (page_at_number c.args.core.now c.args.dbr c.args.seg c.args.sdw.now c.requires.live_descriptor c.requires.order c.requires.paged c.args.page c.requires.page ∙ sym c.page_run.ensures ∙ c.in-Some.is)
+    (page_at_number c.args.core.now c.args.dbr c.args.seg c.args.sdw.now c.requires.live c.requires.order c.requires.paged c.args.page c.requires.page ∙ sym c.page_run.ensures ∙ c.in-Some.is)
     c.add.ensures.starts c.add.ensures.stops c.requires.before
 
 pub returns-in-None : goal.returns-in-None
 returns-in-None c =
-    page_absent c.args.core.now c.args.dbr c.args.seg c.args.sdw.now c.requires.live_descriptor c.requires.order c.requires.paged c.args.page c.requires.page (sym c.in-None.is ∙ c.page_run.ensures) (length c.args.core.now) c.args.counts.now.starts c.args.counts.now.stops c.requires.before
+    page_absent c.args.core.now c.args.dbr c.args.seg c.args.sdw.now c.requires.live c.requires.order c.requires.paged c.args.page c.requires.page (sym c.in-None.is ∙ c.page_run.ensures) (length c.args.core.now) c.args.counts.now.starts c.args.counts.now.stops c.requires.before

@@ -11,5 +11,5 @@ returns-else-has_ordered_brackets c =
 pub returns-in-None : goal.returns-in-None
 returns-in-None c =
     no_runs c.args.core.now c.args.dbr c.args.seg
-    (λ d live_descriptor. absurd (c.in-None.ensures d live_descriptor))
+    (λ d live. absurd (c.in-None.ensures d live))
     (length c.args.core.now) c.args.counts.now.starts c.args.counts.now.stops c.requires.before

@@ -40,7 +40,7 @@ returns c =
     c.self.view_is c.deref.ensures.value c.table_index-i.ensures.place c.index-table.ensures (ap (λ (t : TableFields). t.at) c.table.view_is) in
     taken_parts c.self.inside.first c.self.inside.holders.items c.self.inside.tables.items c.deref.result.now c.args.self.now c.args.core.now c.copy_page_in.new.core c.put_resident.new.core
     c.args.k c.args.seg c.args.page c.table_index-i.result (c.table.inside.at + c.args.page) c.index-table.result.now
-    c.self.view_is c.requires.settled c.requires.page c.requires.out c.requires.empty_frame c.requires.inside
+    c.self.view_is c.requires.settled c.requires.page c.requires.out c.requires.empty c.requires.inside
     c.deref.ensures.value c.table_index-i.ensures.place c.index-table.ensures c.copy_page_in.ensures is c.put_resident.ensures
 
 pub invariant_of-self : goal.invariant_of-self
