@@ -86,10 +86,10 @@ took_is_told :
     → line_answer (o.regs m) (o.content m) s text kind ≡ lines
     → IsTold end lines s m sitting m' old new
     → LineContract o end (standing s Waiting) m (text ∷ []) sitting m' old new
-took_is_told o end s m text kind lines sitting m' old new is waits remembers says result_of_put =
-    subst (λ r. LineContract o end (standing s Waiting) m (text ∷ []) r m' old new) (sym result_of_put.sitting_stays)
-    (subst (λ n. LineContract o end (standing s Waiting) m (text ∷ []) s n old new) (sym result_of_put.machine_stays)
-    (took_end o end s m text kind old new is waits remembers (subst (PutsAnswer end old new) (sym says) result_of_put.puts)))
+took_is_told o end s m text kind lines sitting m' old new is waits remembers says told =
+    subst (λ r. LineContract o end (standing s Waiting) m (text ∷ []) r m' old new) (sym told.sitting_stays)
+    (subst (λ n. LineContract o end (standing s Waiting) m (text ∷ []) s n old new) (sym told.machine_stays)
+    (took_end o end s m text kind old new is waits remembers (subst (PutsAnswer end old new) (sym says) told.puts)))
 
 -- a line for which nothing is written
 pub took_quit :

@@ -96,9 +96,9 @@ some_put lines old new some = record {
 -- ---- a session so far
 
 -- All whole lines so far were answered, and all that they say was put.
-pub record HeldSoFar {M : Type 0} (o : MachineRelations M) (m m' : M) (old now : Seen) (left : ℕ) (activity_after_line : List ℕ) (sitting : SessionStateFields) : Type 0 where
+pub record HeldSoFar {M : Type 0} (o : MachineRelations M) (m m' : M) (old now : Seen) (left : ℕ) (begun : List ℕ) (sitting : SessionStateFields) : Type 0 where
   pub written : List (List ℕ)
-  pub going : Going o m m' (input_by old) (input_by now) left activity_after_line sitting written
+  pub going : Going o m m' (input_by old) (input_by now) left begun sitting written
   pub puts : PutsPieces Done written (output_of old) (output_of now)
 
 held_nothing : {M : Type 0} (o : MachineRelations M) (m : M) (now : Seen) → HeldSoFar o m m now now bytes_limit [] initial_session_state
@@ -109,10 +109,10 @@ held_nothing o m now = record {
 }
 
 pub held_start :
-    {M : Type 0} (o : MachineRelations M) (left : ℕ) (activity_after_line : List ℕ) (s : SessionStateFields) (m : M) (now : Seen)
-    → left ≡ bytes_limit → activity_after_line ≡ [] → s ≡ initial_session_state → HeldSoFar o m m now now left activity_after_line s
-held_start o left activity_after_line s m now all none new =
-    subst (λ n. HeldSoFar o m m now now n activity_after_line s) (sym all)
+    {M : Type 0} (o : MachineRelations M) (left : ℕ) (begun : List ℕ) (s : SessionStateFields) (m : M) (now : Seen)
+    → left ≡ bytes_limit → begun ≡ [] → s ≡ initial_session_state → HeldSoFar o m m now now left begun s
+held_start o left begun s m now all none new =
+    subst (λ n. HeldSoFar o m m now now n begun s) (sym all)
     (subst (λ b. HeldSoFar o m m now now bytes_limit b s) (sym none)
     (subst (λ (t : SessionStateFields). HeldSoFar o m m now now bytes_limit [] t) (sym new) (held_nothing o m now)))
 
@@ -132,26 +132,26 @@ held_all o result m m' written more old now mid new puts same last session = rec
 -- ---- nothing more is answered
 
 pub held_unread :
-    {M : Type 0} (o : MachineRelations M) (m m' : M) (left : ℕ) (activity_after_line : List ℕ) (sitting : SessionStateFields) (old now new : Seen)
-    → HeldSoFar o m m' old now left activity_after_line sitting → IsInputFailed now new
+    {M : Type 0} (o : MachineRelations M) (m m' : M) (left : ℕ) (begun : List ℕ) (sitting : SessionStateFields) (old now new : Seen)
+    → HeldSoFar o m m' old now left begun sitting → IsInputFailed now new
     → SessionContractInWorld o (Err fault.ReadFault) m m' old new
-held_unread o m m' left activity_after_line sitting old now new held did = record {
+held_unread o m m' left begun sitting old now new held did = record {
   lines = held.written;
-  session = going_unread o m m' (input_by old) (input_by now) (input_by new) left activity_after_line sitting held.written held.going (got_nothing now new did);
+  session = going_unread o m m' (input_by old) (input_by now) (input_by new) left begun sitting held.written held.going (got_nothing now new did);
   wrote = subst (λ s. PutsPieces Done held.written (output_of old) s) (sym (ap output_of did.rest)) held.puts;
 }
 
 pub held_too_long :
-    {M : Type 0} (o : MachineRelations M) (m m' : M) (left count : ℕ) (activity_after_line buffer : List ℕ) (sitting : SessionStateFields) (old now new : Seen)
-    → HeldSoFar o m m' old now left activity_after_line sitting → left ≡ 0 → IsPieceTaken count 1 buffer now new
+    {M : Type 0} (o : MachineRelations M) (m m' : M) (left count : ℕ) (begun buffer : List ℕ) (sitting : SessionStateFields) (old now new : Seen)
+    → HeldSoFar o m m' old now left begun sitting → left ≡ 0 → IsPieceTaken count 1 buffer now new
     → SessionContractInWorld o (Err fault.TooLong) m m' old new
-held_too_long o m m' left count activity_after_line buffer sitting old now new held none taken =
+held_too_long o m m' left count begun buffer sitting old now new held none taken =
     let piece : List ℕ = take count buffer in
     let size : length piece ≡ count = taken_length count 1 buffer now new taken in
     record {
       lines = held.written;
-      session = going_too_long o m m' (input_by old) (input_by now) (input_by new) activity_after_line piece sitting held.written
-          (subst (λ n. Going o m m' (input_by old) (input_by now) n activity_after_line sitting held.written) none held.going)
+      session = going_too_long o m m' (input_by old) (input_by now) (input_by new) begun piece sitting held.written
+          (subst (λ n. Going o m m' (input_by old) (input_by now) n begun sitting held.written) none held.going)
           (got_piece piece 1 now new taken.input (omega (arith, size, taken.some)) (omega (arith, size, taken.within)));
       wrote = subst (λ s. PutsPieces Done held.written (output_of old) s) (sym (ap output_of taken.input.rest)) held.puts;
     }
@@ -159,37 +159,37 @@ held_too_long o m m' left count activity_after_line buffer sitting old now new h
 -- ---- the input has ended
 
 pub held_end :
-    {M : Type 0} (o : MachineRelations M) (end : LineResult) (m m1 m2 : M) (left : ℕ) (activity_after_line : List ℕ) (s sitting : SessionStateFields) (old now mid new : Seen)
-    → HeldSoFar o m m1 old now left activity_after_line s → IsInput [] now mid
-    → LineContract o end (standing s Waiting) m1 (open_last_line activity_after_line) sitting m2 (pending [] mid) (pending [] new)
+    {M : Type 0} (o : MachineRelations M) (end : LineResult) (m m1 m2 : M) (left : ℕ) (begun : List ℕ) (s sitting : SessionStateFields) (old now mid new : Seen)
+    → HeldSoFar o m m1 old now left begun s → IsInput [] now mid
+    → LineContract o end (standing s Waiting) m1 (open_last_line begun) sitting m2 (pending [] mid) (pending [] new)
     → SessionContractInWorld o (session_result end) m m2 old new
-held_end o ends.Line m m1 m2 left activity_after_line s sitting old now mid new held did said =
+held_end o ends.Line m m1 m2 left begun s sitting old now mid new held did said =
     let more = texts_of o (standing s Waiting) said.events in
     held_all o (Ok tt) m m2 held.written more old now mid new held.puts (ap output_of did.rest) (all_put more mid new said.wrote)
-    (going_end o m m1 m2 (input_by old) (input_by now) (input_by mid) left activity_after_line s sitting held.written more held.going (got_end now mid did)
+    (going_end o m m1 m2 (input_by old) (input_by now) (input_by mid) left begun s sitting held.written more held.going (got_end now mid did)
     (record { events = said.events; follow = said.follow; took = said.took; said = refl }))
-held_end o ends.Quit m m1 m2 left activity_after_line s sitting old now mid new held did said =
+held_end o ends.Quit m m1 m2 left begun s sitting old now mid new held did said =
     let more = texts_of o (standing s Waiting) said.events in
     held_all o (Ok tt) m m2 held.written more old now mid new held.puts (ap output_of did.rest) (all_put more mid new said.wrote)
-    (going_last_quit o m m1 (input_by old) (input_by now) (input_by mid) left activity_after_line s held.written more held.going (got_end now mid did)
+    (going_last_quit o m m1 (input_by old) (input_by now) (input_by mid) left begun s held.written more held.going (got_end now mid did)
     (record {
       sitting = sitting;
       machine = m2;
       happens = record { events = said.events; follow = said.follow; took = said.took; said = refl };
     }))
-held_end o ends.Starved m m1 m2 left activity_after_line s sitting old now mid new held did said =
+held_end o ends.Starved m m1 m2 left begun s sitting old now mid new held did said =
     let more = texts_of o (standing s Waiting) said.events in
     held_all o (Err fault.NoMemory) m m2 held.written more old now mid new held.puts (ap output_of did.rest) (all_put more mid new said.wrote)
-    (going_last_breaks Starving o m m1 (input_by old) (input_by now) (input_by mid) left activity_after_line s held.written more held.going (got_end now mid did)
+    (going_last_breaks Starving o m m1 (input_by old) (input_by now) (input_by mid) left begun s held.written more held.going (got_end now mid did)
     (record {
       stands = standing sitting Starved;
       machine = m2;
       happens = record { events = said.events; follow = said.follow; took = said.took; said = refl };
     }))
-held_end o ends.Cut m m1 m2 left activity_after_line s sitting old now mid new held did said =
+held_end o ends.Cut m m1 m2 left begun s sitting old now mid new held did said =
     let more = texts_of o (standing s Waiting) said.part.events in
     held_all o (Err fault.WriteFault) m m2 held.written more old now mid new held.puts (ap output_of did.rest) (some_put more mid new said.part.wrote)
-    (going_last_breaks Unwritten o m m1 (input_by old) (input_by now) (input_by mid) left activity_after_line s held.written more held.going (got_end now mid did)
+    (going_last_breaks Unwritten o m m1 (input_by old) (input_by now) (input_by mid) left begun s held.written more held.going (got_end now mid did)
     (record {
       stands = said.stands;
       machine = m2;
@@ -199,39 +199,39 @@ held_end o ends.Cut m m1 m2 left activity_after_line s sitting old now mid new h
 -- ---- a piece was taken
 
 -- The piece is the next one, and it has `count` bytes.
-record NextPiece {M : Type 0} (o : MachineRelations M) (m m1 : M) (left count : ℕ) (activity_after_line buffer : List ℕ) (s : SessionStateFields) (written : List (List ℕ)) (old now mid : Seen)
+record NextPiece {M : Type 0} (o : MachineRelations M) (m m1 : M) (left count : ℕ) (begun buffer : List ℕ) (s : SessionStateFields) (written : List (List ℕ)) (old now mid : Seen)
     : Type 0 where
-  going : Going o m m1 (input_by old) (input_by now) ((left - count) + length (take count buffer)) activity_after_line s written
+  going : Going o m m1 (input_by old) (input_by now) ((left - count) + length (take count buffer)) begun s written
   got : GotPiece (take count buffer) ((left - count) + length (take count buffer)) (input_by now) (input_by mid)
   same : output_of mid ≡ output_of now
 
 next_piece :
-    {M : Type 0} (o : MachineRelations M) (m m1 : M) (left count : ℕ) (activity_after_line buffer : List ℕ) (s : SessionStateFields) (written : List (List ℕ)) (old now mid : Seen)
-    → Going o m m1 (input_by old) (input_by now) left activity_after_line s written → IsPieceTaken count left buffer now mid
-    → NextPiece o m m1 left count activity_after_line buffer s written old now mid
-next_piece o m m1 left count activity_after_line buffer s written old now mid going taken =
+    {M : Type 0} (o : MachineRelations M) (m m1 : M) (left count : ℕ) (begun buffer : List ℕ) (s : SessionStateFields) (written : List (List ℕ)) (old now mid : Seen)
+    → Going o m m1 (input_by old) (input_by now) left begun s written → IsPieceTaken count left buffer now mid
+    → NextPiece o m m1 left count begun buffer s written old now mid
+next_piece o m m1 left count begun buffer s written old now mid going taken =
     let piece : List ℕ = take count buffer in
     let size : length piece ≡ count = taken_length count left buffer now mid taken in
     let all : left ≡ (left - count) + length piece = omega (arith, size, taken.within) in
     record {
-      going = subst (λ n. Going o m m1 (input_by old) (input_by now) n activity_after_line s written) all going;
+      going = subst (λ n. Going o m m1 (input_by old) (input_by now) n begun s written) all going;
       got = got_piece piece ((left - count) + length piece) now mid taken.input (omega (arith, size, taken.some)) (omega arith);
       same = ap output_of taken.input.rest;
     }
 
 pub held_on :
-    {M : Type 0} (o : MachineRelations M) (m m1 m2 : M) (left count : ℕ) (activity_after_line kept buffer : List ℕ) (s sitting : SessionStateFields) (old now mid new : Seen)
-    → HeldSoFar o m m1 old now left activity_after_line s → IsPieceTaken count left buffer now mid
-    → AnsweredAll o (standing s Waiting) m1 (activity_after_line ++ take count buffer) kept sitting m2 (pending [] mid) (pending [] new)
+    {M : Type 0} (o : MachineRelations M) (m m1 m2 : M) (left count : ℕ) (begun kept buffer : List ℕ) (s sitting : SessionStateFields) (old now mid new : Seen)
+    → HeldSoFar o m m1 old now left begun s → IsPieceTaken count left buffer now mid
+    → AnsweredAll o (standing s Waiting) m1 (begun ++ take count buffer) kept sitting m2 (pending [] mid) (pending [] new)
     → HeldSoFar o m m2 old new (left - count) kept sitting
-held_on o m m1 m2 left count activity_after_line kept buffer s sitting old now mid new held taken said =
+held_on o m m1 m2 left count begun kept buffer s sitting old now mid new held taken said =
     let more = texts_of o (standing s Waiting) said.part.events in
-    let next = next_piece o m m1 left count activity_after_line buffer s held.written old now mid held.going taken in
+    let next = next_piece o m m1 left count begun buffer s held.written old now mid held.going taken in
     let last = all_put more mid new said.part.wrote in
     record {
       written = held.written ++ more;
       going = subst (λ (i : LinesSeen). Going o m m2 (input_by old) i (left - count) kept sitting (held.written ++ more)) (sym last.input)
-          (going_on o m m1 m2 (input_by old) (input_by now) (input_by mid) (left - count) activity_after_line kept (take count buffer) s sitting held.written more next.going next.got
+          (going_on o m m1 m2 (input_by old) (input_by now) (input_by mid) (left - count) begun kept (take count buffer) s sitting held.written more next.going next.got
           (record {
             lines = said.lines;
             is = said.is;
@@ -243,15 +243,15 @@ held_on o m m1 m2 left count activity_after_line kept buffer s sitting old now m
     }
 
 pub held_quit :
-    {M : Type 0} (o : MachineRelations M) (m m1 m2 : M) (left count : ℕ) (activity_after_line buffer : List ℕ) (s sitting : SessionStateFields) (old now mid new : Seen)
-    → HeldSoFar o m m1 old now left activity_after_line s → IsPieceTaken count left buffer now mid
-    → AnsweredQuit o (standing s Waiting) m1 (activity_after_line ++ take count buffer) sitting m2 (pending [] mid) (pending [] new)
+    {M : Type 0} (o : MachineRelations M) (m m1 m2 : M) (left count : ℕ) (begun buffer : List ℕ) (s sitting : SessionStateFields) (old now mid new : Seen)
+    → HeldSoFar o m m1 old now left begun s → IsPieceTaken count left buffer now mid
+    → AnsweredQuit o (standing s Waiting) m1 (begun ++ take count buffer) sitting m2 (pending [] mid) (pending [] new)
     → SessionContractInWorld o (Ok tt) m m2 old new
-held_quit o m m1 m2 left count activity_after_line buffer s sitting old now mid new held taken said =
+held_quit o m m1 m2 left count begun buffer s sitting old now mid new held taken said =
     let more = texts_of o (standing s Waiting) said.part.events in
-    let next = next_piece o m m1 left count activity_after_line buffer s held.written old now mid held.going taken in
+    let next = next_piece o m m1 left count begun buffer s held.written old now mid held.going taken in
     held_all o (Ok tt) m m2 held.written more old now mid new held.puts next.same (all_put more mid new said.part.wrote)
-    (going_quit o m m1 (input_by old) (input_by now) (input_by mid) (left - count) activity_after_line (take count buffer) s held.written more next.going next.got
+    (going_quit o m m1 (input_by old) (input_by now) (input_by mid) (left - count) begun (take count buffer) s held.written more next.going next.got
     (record {
       lines = said.lines;
       rest = said.rest;
@@ -262,15 +262,15 @@ held_quit o m m1 m2 left count activity_after_line buffer s sitting old now mid 
     }))
 
 pub held_starved :
-    {M : Type 0} (o : MachineRelations M) (m m1 m2 : M) (left count : ℕ) (activity_after_line buffer : List ℕ) (s : SessionStateFields) (old now mid new : Seen)
-    → HeldSoFar o m m1 old now left activity_after_line s → IsPieceTaken count left buffer now mid
-    → AnsweredSome o (standing s Waiting) m1 (activity_after_line ++ take count buffer) m2 (pending [] mid) (pending [] new)
+    {M : Type 0} (o : MachineRelations M) (m m1 m2 : M) (left count : ℕ) (begun buffer : List ℕ) (s : SessionStateFields) (old now mid new : Seen)
+    → HeldSoFar o m m1 old now left begun s → IsPieceTaken count left buffer now mid
+    → AnsweredSome o (standing s Waiting) m1 (begun ++ take count buffer) m2 (pending [] mid) (pending [] new)
     → SessionContractInWorld o (Err fault.NoMemory) m m2 old new
-held_starved o m m1 m2 left count activity_after_line buffer s old now mid new held taken said =
+held_starved o m m1 m2 left count begun buffer s old now mid new held taken said =
     let more = texts_of o (standing s Waiting) said.part.events in
-    let next = next_piece o m m1 left count activity_after_line buffer s held.written old now mid held.going taken in
+    let next = next_piece o m m1 left count begun buffer s held.written old now mid held.going taken in
     held_all o (Err fault.NoMemory) m m2 held.written more old now mid new held.puts next.same (all_put more mid new said.part.wrote)
-    (going_breaks Starving o m m1 (input_by old) (input_by now) (input_by mid) (left - count) activity_after_line (take count buffer) s held.written more next.going next.got
+    (going_breaks Starving o m m1 (input_by old) (input_by now) (input_by mid) (left - count) begun (take count buffer) s held.written more next.going next.got
     (record {
       lines = said.lines;
       rest = said.rest;
@@ -281,16 +281,16 @@ held_starved o m m1 m2 left count activity_after_line buffer s old now mid new h
     }))
 
 pub held_cut :
-    {M : Type 0} (o : MachineRelations M) (m m1 m2 : M) (left count : ℕ) (activity_after_line buffer : List ℕ) (s : SessionStateFields) (old now mid new : Seen)
-    → HeldSoFar o m m1 old now left activity_after_line s → IsPieceTaken count left buffer now mid
-    → AnsweredCut o (standing s Waiting) m1 (activity_after_line ++ take count buffer) m2 (pending [] mid) (pending [] new)
+    {M : Type 0} (o : MachineRelations M) (m m1 m2 : M) (left count : ℕ) (begun buffer : List ℕ) (s : SessionStateFields) (old now mid new : Seen)
+    → HeldSoFar o m m1 old now left begun s → IsPieceTaken count left buffer now mid
+    → AnsweredCut o (standing s Waiting) m1 (begun ++ take count buffer) m2 (pending [] mid) (pending [] new)
     → SessionContractInWorld o (Err fault.WriteFault) m m2 old new
-held_cut o m m1 m2 left count activity_after_line buffer s old now mid new held taken said =
+held_cut o m m1 m2 left count begun buffer s old now mid new held taken said =
     let part = said.part.part in
     let more = texts_of o (standing s Waiting) part.events in
-    let next = next_piece o m m1 left count activity_after_line buffer s held.written old now mid held.going taken in
+    let next = next_piece o m m1 left count begun buffer s held.written old now mid held.going taken in
     held_all o (Err fault.WriteFault) m m2 held.written more old now mid new held.puts next.same (some_put more mid new part.wrote)
-    (going_breaks Unwritten o m m1 (input_by old) (input_by now) (input_by mid) (left - count) activity_after_line (take count buffer) s held.written more next.going next.got
+    (going_breaks Unwritten o m m1 (input_by old) (input_by now) (input_by mid) (left - count) begun (take count buffer) s held.written more next.going next.got
     (record {
       lines = said.lines;
       rest = said.rest;

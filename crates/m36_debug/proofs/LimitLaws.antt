@@ -73,7 +73,7 @@ FurtherWithin o Starves m n = n ≡ 0
 
 counted_first : (turn : Turn) → (session_state_after initial_session_state turn).taken ≡ step_count_after 0 turn
 unfolding session_state_after
-counted_first (turns.Stepped result_of_put) = refl
+counted_first (turns.Stepped told) = refl
 counted_first (turns.Linked note) = refl
 counted_first (turns.Console text) = refl
 counted_first (turns.Ended end) = refl

@@ -87,19 +87,19 @@ lines_one text line rest is unbroken = record {
 
 -- A line that has begun is complete.
 pub lines_line :
-    (text activity_after_line end behind rest : List ℕ) (lines : List (List ℕ))
-    → IsLines text lines (activity_after_line ++ rest) → IsUnbroken activity_after_line → IsUnbroken end → rest ≡ as_line end ++ behind
-    → IsLines text (lines ++ (activity_after_line ++ end) ∷ []) behind
-lines_line text activity_after_line end behind rest lines before begun_unbroken end_unbroken cut =
-    let whole_line : IsUnbroken (activity_after_line ++ end) = All-append (λ b. (b == 10) ≡ false) activity_after_line end begun_unbroken end_unbroken in
-    let starts : activity_after_line ++ rest ≡ as_line (activity_after_line ++ end) ++ behind =
-    ap (λ t. activity_after_line ++ t) cut
-    ∙ sym (append_assoc activity_after_line (as_line end) behind)
-    ∙ ap (λ t. t ++ behind) (sym (append_assoc activity_after_line end (10 ∷ []))) in
-    let more : IsLines ((activity_after_line ++ rest) ++ []) ((activity_after_line ++ end) ∷ []) behind =
-    lines_one ((activity_after_line ++ rest) ++ []) (activity_after_line ++ end) behind (append-nil (activity_after_line ++ rest) ∙ starts) whole_line in
-    subst (λ t. IsLines t (lines ++ (activity_after_line ++ end) ∷ []) behind) (append-nil text)
-    (lines_on text (activity_after_line ++ rest) [] behind lines ((activity_after_line ++ end) ∷ []) before more)
+    (text begun end behind rest : List ℕ) (lines : List (List ℕ))
+    → IsLines text lines (begun ++ rest) → IsUnbroken begun → IsUnbroken end → rest ≡ as_line end ++ behind
+    → IsLines text (lines ++ (begun ++ end) ∷ []) behind
+lines_line text begun end behind rest lines before begun_unbroken end_unbroken cut =
+    let whole_line : IsUnbroken (begun ++ end) = All-append (λ b. (b == 10) ≡ false) begun end begun_unbroken end_unbroken in
+    let starts : begun ++ rest ≡ as_line (begun ++ end) ++ behind =
+    ap (λ t. begun ++ t) cut
+    ∙ sym (append_assoc begun (as_line end) behind)
+    ∙ ap (λ t. t ++ behind) (sym (append_assoc begun end (10 ∷ []))) in
+    let more : IsLines ((begun ++ rest) ++ []) ((begun ++ end) ∷ []) behind =
+    lines_one ((begun ++ rest) ++ []) (begun ++ end) behind (append-nil (begun ++ rest) ∙ starts) whole_line in
+    subst (λ t. IsLines t (lines ++ (begun ++ end) ∷ []) behind) (append-nil text)
+    (lines_on text (begun ++ rest) [] behind lines ((begun ++ end) ∷ []) before more)
 
 -- ---- the lines of a text
 

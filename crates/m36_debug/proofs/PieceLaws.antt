@@ -27,67 +27,67 @@ so_far_start o sitting m text now =
 
 -- the lines with one more
 more_lines :
-    {M : Type 0} (o : MachineRelations M) (s : SessionPoint) (m : M) (text activity_after_line end behind rest line : List ℕ) (sitting : SessionStateFields) (m1 : M) (old now : Pending)
-    → (f : SoFar o s m text (activity_after_line ++ rest) sitting m1 old now)
-    → IsUnbroken activity_after_line → IsUnbroken end → rest ≡ as_line end ++ behind → line ≡ activity_after_line ++ end
+    {M : Type 0} (o : MachineRelations M) (s : SessionPoint) (m : M) (text begun end behind rest line : List ℕ) (sitting : SessionStateFields) (m1 : M) (old now : Pending)
+    → (f : SoFar o s m text (begun ++ rest) sitting m1 old now)
+    → IsUnbroken begun → IsUnbroken end → rest ≡ as_line end ++ behind → line ≡ begun ++ end
     → IsLines text (f.lines ++ line ∷ []) behind
-more_lines o s m text activity_after_line end behind rest line sitting m1 old now f begun_unbroken end_unbroken cut is =
+more_lines o s m text begun end behind rest line sitting m1 old now f begun_unbroken end_unbroken cut is =
     subst (λ l. IsLines text (f.lines ++ l ∷ []) behind) (sym is)
-    (lines_line text activity_after_line end behind rest f.lines f.is begun_unbroken end_unbroken cut)
+    (lines_line text begun end behind rest f.lines f.is begun_unbroken end_unbroken cut)
 
 -- one more line was answered, and the session waits for the next
 pub so_far_line :
-    {M : Type 0} (o : MachineRelations M) (s : SessionPoint) (m : M) (text activity_after_line end behind rest line : List ℕ) (sitting sitting' : SessionStateFields) (m1 m2 : M) (old now new : Pending)
-    → SoFar o s m text (activity_after_line ++ rest) sitting m1 old now
-    → IsUnbroken activity_after_line → IsUnbroken end → rest ≡ as_line end ++ behind → line ≡ activity_after_line ++ end
+    {M : Type 0} (o : MachineRelations M) (s : SessionPoint) (m : M) (text begun end behind rest line : List ℕ) (sitting sitting' : SessionStateFields) (m1 m2 : M) (old now new : Pending)
+    → SoFar o s m text (begun ++ rest) sitting m1 old now
+    → IsUnbroken begun → IsUnbroken end → rest ≡ as_line end ++ behind → line ≡ begun ++ end
     → LineContract o ends.Line (standing sitting Waiting) m1 (line ∷ []) sitting' m2 now new
     → SoFar o s m text behind sitting' m2 old new
-so_far_line o s m text activity_after_line end behind rest line sitting sitting' m1 m2 old now new f begun_unbroken end_unbroken cut is said = record {
+so_far_line o s m text begun end behind rest line sitting sitting' m1 m2 old now new f begun_unbroken end_unbroken cut is said = record {
   lines = f.lines ++ line ∷ [];
-  is = more_lines o s m text activity_after_line end behind rest line sitting m1 old now f begun_unbroken end_unbroken cut is;
+  is = more_lines o s m text begun end behind rest line sitting m1 old now f begun_unbroken end_unbroken cut is;
   part = part_on o s m f.lines (line ∷ []) (standing sitting Waiting) m1 (standing sitting' Waiting) m2 old now new f.part said;
 }
 
 -- the line was `quit`
 pub so_far_quit :
-    {M : Type 0} (o : MachineRelations M) (s : SessionPoint) (m : M) (text activity_after_line end behind rest line : List ℕ) (sitting sitting' : SessionStateFields) (m1 m2 : M) (old now new : Pending)
-    → SoFar o s m text (activity_after_line ++ rest) sitting m1 old now
-    → IsUnbroken activity_after_line → IsUnbroken end → rest ≡ as_line end ++ behind → line ≡ activity_after_line ++ end
+    {M : Type 0} (o : MachineRelations M) (s : SessionPoint) (m : M) (text begun end behind rest line : List ℕ) (sitting sitting' : SessionStateFields) (m1 m2 : M) (old now new : Pending)
+    → SoFar o s m text (begun ++ rest) sitting m1 old now
+    → IsUnbroken begun → IsUnbroken end → rest ≡ as_line end ++ behind → line ≡ begun ++ end
     → LineContract o ends.Quit (standing sitting Waiting) m1 (line ∷ []) sitting' m2 now new
     → AnsweredQuit o s m text sitting' m2 old new
-so_far_quit o s m text activity_after_line end behind rest line sitting sitting' m1 m2 old now new f begun_unbroken end_unbroken cut is said = record {
+so_far_quit o s m text begun end behind rest line sitting sitting' m1 m2 old now new f begun_unbroken end_unbroken cut is said = record {
   lines = f.lines ++ line ∷ [];
   rest = behind;
-  is = more_lines o s m text activity_after_line end behind rest line sitting m1 old now f begun_unbroken end_unbroken cut is;
+  is = more_lines o s m text begun end behind rest line sitting m1 old now f begun_unbroken end_unbroken cut is;
   part = part_on o s m f.lines (line ∷ []) (standing sitting Waiting) m1 (standing sitting' Over) m2 old now new f.part said;
 }
 
 -- the line ran out of memory
 pub so_far_starved :
-    {M : Type 0} (o : MachineRelations M) (s : SessionPoint) (m : M) (text activity_after_line end behind rest line : List ℕ) (sitting sitting' : SessionStateFields) (m1 m2 : M) (old now new : Pending)
-    → SoFar o s m text (activity_after_line ++ rest) sitting m1 old now
-    → IsUnbroken activity_after_line → IsUnbroken end → rest ≡ as_line end ++ behind → line ≡ activity_after_line ++ end
+    {M : Type 0} (o : MachineRelations M) (s : SessionPoint) (m : M) (text begun end behind rest line : List ℕ) (sitting sitting' : SessionStateFields) (m1 m2 : M) (old now new : Pending)
+    → SoFar o s m text (begun ++ rest) sitting m1 old now
+    → IsUnbroken begun → IsUnbroken end → rest ≡ as_line end ++ behind → line ≡ begun ++ end
     → LineContract o ends.Starved (standing sitting Waiting) m1 (line ∷ []) sitting' m2 now new
     → AnsweredSome o s m text m2 old new
-so_far_starved o s m text activity_after_line end behind rest line sitting sitting' m1 m2 old now new f begun_unbroken end_unbroken cut is said = record {
+so_far_starved o s m text begun end behind rest line sitting sitting' m1 m2 old now new f begun_unbroken end_unbroken cut is said = record {
   lines = f.lines ++ line ∷ [];
   rest = behind;
-  is = more_lines o s m text activity_after_line end behind rest line sitting m1 old now f begun_unbroken end_unbroken cut is;
+  is = more_lines o s m text begun end behind rest line sitting m1 old now f begun_unbroken end_unbroken cut is;
   stands = standing sitting' Starved;
   part = part_on o s m f.lines (line ∷ []) (standing sitting Waiting) m1 (standing sitting' Starved) m2 old now new f.part said;
 }
 
 -- what the line says could not be written
 pub so_far_cut :
-    {M : Type 0} (o : MachineRelations M) (s : SessionPoint) (m : M) (text activity_after_line end behind rest line : List ℕ) (sitting sitting' : SessionStateFields) (m1 m2 : M) (old now new : Pending)
-    → SoFar o s m text (activity_after_line ++ rest) sitting m1 old now
-    → IsUnbroken activity_after_line → IsUnbroken end → rest ≡ as_line end ++ behind → line ≡ activity_after_line ++ end
+    {M : Type 0} (o : MachineRelations M) (s : SessionPoint) (m : M) (text begun end behind rest line : List ℕ) (sitting sitting' : SessionStateFields) (m1 m2 : M) (old now new : Pending)
+    → SoFar o s m text (begun ++ rest) sitting m1 old now
+    → IsUnbroken begun → IsUnbroken end → rest ≡ as_line end ++ behind → line ≡ begun ++ end
     → LineContract o ends.Cut (standing sitting Waiting) m1 (line ∷ []) sitting' m2 now new
     → AnsweredCut o s m text m2 old new
-so_far_cut o s m text activity_after_line end behind rest line sitting sitting' m1 m2 old now new f begun_unbroken end_unbroken cut is said = record {
+so_far_cut o s m text begun end behind rest line sitting sitting' m1 m2 old now new f begun_unbroken end_unbroken cut is said = record {
   lines = f.lines ++ line ∷ [];
   rest = behind;
-  is = more_lines o s m text activity_after_line end behind rest line sitting m1 old now f begun_unbroken end_unbroken cut is;
+  is = more_lines o s m text begun end behind rest line sitting m1 old now f begun_unbroken end_unbroken cut is;
   part = part_cut o s m f.lines (line ∷ []) (standing sitting Waiting) m1 m2 old now new f.part said;
 }
 

@@ -158,12 +158,12 @@ takes_puts_none most go pieces result (inl goes) = let is = goes.first in cc
 takes_puts_none most go pieces result (inr fails) = let is = fails.only in cc
 
 pub session_puts_none :
-    {M : Type 0} (o : MachineRelations M) (left taken : ℕ) (activity_after_line : List ℕ) (s : SessionStateFields) (m : M) → PutsNone (session_from o left taken activity_after_line s m)
+    {M : Type 0} (o : MachineRelations M) (left taken : ℕ) (begun : List ℕ) (s : SessionStateFields) (m : M) → PutsNone (session_from o left taken begun s m)
 unfolding session_from
-session_puts_none o zero zero activity_after_line s m = takes_puts_none 1 _
-session_puts_none o zero (suc taken) activity_after_line s m = too_long_puts_none
-session_puts_none o (suc left) zero activity_after_line s m = takes_puts_none (suc left) _
-session_puts_none o (suc left) (suc taken) activity_after_line s m = session_puts_none o left taken activity_after_line s m
+session_puts_none o zero zero begun s m = takes_puts_none 1 _
+session_puts_none o zero (suc taken) begun s m = too_long_puts_none
+session_puts_none o (suc left) zero begun s m = takes_puts_none (suc left) _
+session_puts_none o (suc left) (suc taken) begun s m = session_puts_none o left taken begun s m
 
 -- ---- a reply
 

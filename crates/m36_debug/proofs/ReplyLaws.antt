@@ -129,34 +129,34 @@ goes_done = record { none = refl; result_is = refl }
 
 -- the last line was answered, if there was one
 pub ended_so :
-    {M : Type 0} (o : MachineRelations M) (end : LineResult) (activity_after_line : List ℕ) (s sitting : SessionStateFields) (m m' : M) (first : Talk) (old between new : Seen)
-    → Leads (answer_at_end o activity_after_line s m) first old between
-    → LineContract o end (standing s Waiting) m (open_last_line activity_after_line) sitting m' (pending [] between) (pending [] new)
+    {M : Type 0} (o : MachineRelations M) (end : LineResult) (begun : List ℕ) (s sitting : SessionStateFields) (m m' : M) (first : Talk) (old between new : Seen)
+    → Leads (answer_at_end o begun s m) first old between
+    → LineContract o end (standing s Waiting) m (open_last_line begun) sitting m' (pending [] between) (pending [] new)
     → Performs first (ended_by (session_result end)) old new
-ended_so o ends.Line activity_after_line s sitting m m' first old between new left said =
+ended_so o ends.Line begun s sitting m m' first old between new left said =
     let written = texts_of o (standing s Waiting) said.events in
     leads_ends (done tt) first (Ok tt) old new new
-    (replied_all (IsLastReply o (standing s Waiting) m activity_after_line) (λ kept sitting later. done tt) written [] sitting m' first old between new
+    (replied_all (IsLastReply o (standing s Waiting) m begun) (λ kept sitting later. done tt) written [] sitting m' first old between new
     (record { events = said.events; follow = said.follow; took = said.took; said = refl }) left said.wrote)
     (record { events = []; follow = follow_none new; goes = goes_done })
-ended_so o ends.Quit activity_after_line s sitting m m' first old between new left said =
-    replied_quit (IsLastReply o (standing s Waiting) m activity_after_line) (λ kept sitting later. done tt) (texts_of o (standing s Waiting) said.events) first old between new
+ended_so o ends.Quit begun s sitting m m' first old between new left said =
+    replied_quit (IsLastReply o (standing s Waiting) m begun) (λ kept sitting later. done tt) (texts_of o (standing s Waiting) said.events) first old between new
     (record {
       sitting = sitting;
       machine = m';
       happens = record { events = said.events; follow = said.follow; took = said.took; said = refl };
     })
     left said.wrote
-ended_so o ends.Starved activity_after_line s sitting m m' first old between new left said =
-    replied_starved (IsLastReply o (standing s Waiting) m activity_after_line) (λ kept sitting later. done tt) (texts_of o (standing s Waiting) said.events) first old between new
+ended_so o ends.Starved begun s sitting m m' first old between new left said =
+    replied_starved (IsLastReply o (standing s Waiting) m begun) (λ kept sitting later. done tt) (texts_of o (standing s Waiting) said.events) first old between new
     (record {
       stands = standing sitting Starved;
       machine = m';
       happens = record { events = said.events; follow = said.follow; took = said.took; said = refl };
     })
     left said.wrote
-ended_so o ends.Cut activity_after_line s sitting m m' first old between new left said =
-    replied_cut (IsLastReply o (standing s Waiting) m activity_after_line) (λ kept sitting later. done tt) (texts_of o (standing s Waiting) said.part.events) first old between new
+ended_so o ends.Cut begun s sitting m m' first old between new left said =
+    replied_cut (IsLastReply o (standing s Waiting) m begun) (λ kept sitting later. done tt) (texts_of o (standing s Waiting) said.part.events) first old between new
     (record {
       stands = said.stands;
       machine = m';

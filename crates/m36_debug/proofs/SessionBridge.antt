@@ -148,13 +148,13 @@ reply_some o s m text (Quits written) is =
 reply_some o s m text (Breaks written) is = is
 
 last_some :
-    {M : Type 0} (o : MachineRelations M) (s : SessionStateFields) (m : M) (activity_after_line : List ℕ) (reply : Reply M)
-    → IsLastReply o (standing s Waiting) m activity_after_line reply → LastBreaks o (standing s Waiting) m activity_after_line (written_in reply)
-last_some o s m activity_after_line (All written kept sitting m') is =
+    {M : Type 0} (o : MachineRelations M) (s : SessionStateFields) (m : M) (begun : List ℕ) (reply : Reply M)
+    → IsLastReply o (standing s Waiting) m begun reply → LastBreaks o (standing s Waiting) m begun (written_in reply)
+last_some o s m begun (All written kept sitting m') is =
     record { stands = standing sitting Waiting; machine = m'; happens = is }
-last_some o s m activity_after_line (Quits written) is =
+last_some o s m begun (Quits written) is =
     record { stands = standing is.sitting Over; machine = is.machine; happens = is.happens }
-last_some o s m activity_after_line (Breaks written) is = is
+last_some o s m begun (Breaks written) is = is
 
 -- ---- the end of the input
 
@@ -166,12 +166,12 @@ unfolding Goes
 done_after more result goes = (goes.none, goes.result_is)
 
 at_last :
-    {M : Type 0} (o : MachineRelations M) (m m1 : M) (before : LinesSeen) (left : ℕ) (activity_after_line : List ℕ) (sitting : SessionStateFields) (written : List (List ℕ))
+    {M : Type 0} (o : MachineRelations M) (m m1 : M) (before : LinesSeen) (left : ℕ) (begun : List ℕ) (sitting : SessionStateFields) (written : List (List ℕ))
     (events more : List Event) (result : Result (Unit {0}) Status) (now between new : Seen)
-    → Going o m m1 before (input_by now) left activity_after_line sitting written → IsInput [] now between → events ≡ Input [] ∷ more
-    → Replied (IsLastReply o (standing sitting Waiting) m1 activity_after_line) over more result between new
+    → Going o m m1 before (input_by now) left begun sitting written → IsInput [] now between → events ≡ Input [] ∷ more
+    → Replied (IsLastReply o (standing sitting Waiting) m1 begun) over more result between new
     → EndedSo o m before (input_by new) written events result
-at_last o m m1 before left activity_after_line sitting written events more result now between new g did is (inl on) =
+at_last o m m1 before left begun sitting written events more result now between new g did is (inl on) =
     let last = done_after on.more result on.goes in
     let same : input_by new ≡ input_by between = nothing_more on.more on.decide_after_turn.between new last.0 on.decide_after_turn.follow ∙ on.decide_after_turn.input in
     record {
@@ -180,33 +180,33 @@ at_last o m m1 before left activity_after_line sitting written events more resul
       later = on.machine;
       lines = written ++ on.written;
       session = subst (λ (i : LinesSeen). IsSession o (Ok tt) m on.machine before i (written ++ on.written)) (sym same)
-          (going_end o m m1 on.machine before (input_by now) (input_by between) left activity_after_line sitting on.sitting written on.written g (got_end now between did) on.is);
+          (going_end o m m1 on.machine before (input_by now) (input_by between) left begun sitting on.sitting written on.written g (got_end now between did) on.is);
       puts = puts_whole written on.written events
           (gives_after_input [] more events on.written Done is
           (gives_outputs on.written more (on.events_are ∙ ap (λ e. outputs on.written ++ e) last.0)));
     }
-at_last o m m1 before left activity_after_line sitting written events more result now between new g did is (inr (inl quit)) = record {
+at_last o m m1 before left begun sitting written events more result now between new g did is (inr (inl quit)) = record {
   ended = Ok tt;
   result_is = quit.result_is;
   later = quit.is.machine;
   lines = written ++ quit.written;
   session = subst (λ (i : LinesSeen). IsSession o (Ok tt) m quit.is.machine before i (written ++ quit.written)) (sym quit.input)
-      (going_last_quit o m m1 before (input_by now) (input_by between) left activity_after_line sitting written quit.written g (got_end now between did) quit.is);
+      (going_last_quit o m m1 before (input_by now) (input_by between) left begun sitting written quit.written g (got_end now between did) quit.is);
   puts = puts_whole written quit.written events
       (gives_after_input [] more events quit.written Done is (gives_outputs quit.written more quit.events_are));
 }
-at_last o m m1 before left activity_after_line sitting written events more result now between new g did is (inr (inr (inl starved))) = record {
+at_last o m m1 before left begun sitting written events more result now between new g did is (inr (inr (inl starved))) = record {
   ended = Err fault.NoMemory;
   result_is = starved.result_is;
   later = starved.is.machine;
   lines = written ++ starved.written;
   session = subst (λ (i : LinesSeen). IsSession o (Err fault.NoMemory) m starved.is.machine before i (written ++ starved.written)) (sym starved.input)
-      (going_last_breaks Starving o m m1 before (input_by now) (input_by between) left activity_after_line sitting written starved.written g (got_end now between did) starved.is);
+      (going_last_breaks Starving o m m1 before (input_by now) (input_by between) left begun sitting written starved.written g (got_end now between did) starved.is);
   puts = puts_whole written starved.written events
       (gives_after_input [] more events starved.written Done is (gives_outputs starved.written more starved.events_are));
 }
-at_last o m m1 before left activity_after_line sitting written events more result now between new g did is (inr (inr (inr failed))) =
-    let some = last_some o sitting m1 activity_after_line failed.reply failed.is in
+at_last o m m1 before left begun sitting written events more result now between new g did is (inr (inr (inr failed))) =
+    let some = last_some o sitting m1 begun failed.reply failed.is in
     let part = failed.unwrote in
     record {
       ended = Err fault.WriteFault;
@@ -214,7 +214,7 @@ at_last o m m1 before left activity_after_line sitting written events more resul
       later = some.machine;
       lines = written ++ written_in failed.reply;
       session = subst (λ (i : LinesSeen). IsSession o (Err fault.WriteFault) m some.machine before i (written ++ written_in failed.reply)) (sym failed.input)
-          (going_last_breaks Unwritten o m m1 before (input_by now) (input_by between) left activity_after_line sitting written (written_in failed.reply) g (got_end now between did) some);
+          (going_last_breaks Unwritten o m m1 before (input_by now) (input_by between) left begun sitting written (written_in failed.reply) g (got_end now between did) some);
       puts = puts_part written (written_in failed.reply) (part.handed ++ part.failed) part.left events
           (gives_after_input [] more events (part.handed ++ part.failed) Failed is (gives_failed part.handed part.failed more part.events_are)) part.is;
     }
@@ -224,21 +224,21 @@ at_last o m m1 before left activity_after_line sitting written events more resul
 -- what is claimed of a session that has taken bytes already
 abbrev Tells : {M : Type 0} → MachineRelations M → M → LinesSeen → ℕ → Type 0
 Tells {M} o m before left =
-    (taken rest : ℕ) (m1 : M) (activity_after_line : List ℕ) (sitting : SessionStateFields) (written : List (List ℕ)) (events : List Event) (result : Result (Unit {0}) Status) (now new : Seen)
-    → taken + rest ≡ left → Going o m m1 before (input_by now) rest activity_after_line sitting written
-    → Goes (session_from o left taken activity_after_line sitting m1) events result → Follow events now new
+    (taken rest : ℕ) (m1 : M) (begun : List ℕ) (sitting : SessionStateFields) (written : List (List ℕ)) (events : List Event) (result : Result (Unit {0}) Status) (now new : Seen)
+    → taken + rest ≡ left → Going o m m1 before (input_by now) rest begun sitting written
+    → Goes (session_from o left taken begun sitting m1) events result → Follow events now new
     → EndedSo o m before (input_by new) written events result
 
 at_piece :
-    {M : Type 0} (o : MachineRelations M) (m m1 : M) (before : LinesSeen) (left taken rest : ℕ) (activity_after_line piece : List ℕ) (sitting : SessionStateFields) (written : List (List ℕ))
+    {M : Type 0} (o : MachineRelations M) (m m1 : M) (before : LinesSeen) (left taken rest : ℕ) (begun piece : List ℕ) (sitting : SessionStateFields) (written : List (List ℕ))
     (events more : List Event) (result : Result (Unit {0}) Status) (now between new : Seen)
     → Tells o m before left → taken + rest ≡ left → 1 ≤ length piece
-    → Going o m m1 before (input_by now) (rest + length piece) activity_after_line sitting written → IsInput piece now between → events ≡ Input piece ∷ more
-    → Replied (IsReply o (standing sitting Waiting) m1 (activity_after_line ++ piece)) (session_from o left taken) more result between new
+    → Going o m m1 before (input_by now) (rest + length piece) begun sitting written → IsInput piece now between → events ≡ Input piece ∷ more
+    → Replied (IsReply o (standing sitting Waiting) m1 (begun ++ piece)) (session_from o left taken) more result between new
     → EndedSo o m before (input_by new) written events result
-at_piece o m m1 before left taken rest activity_after_line piece sitting written events more result now between new tells size some g did is (inl on) =
+at_piece o m m1 before left taken rest begun piece sitting written events more result now between new tells size some g did is (inl on) =
     let got = got_piece piece (rest + length piece) now between did some (omega arith) in
-    let next = going_on o m m1 on.machine before (input_by now) (input_by between) rest activity_after_line on.kept piece sitting on.sitting written on.written g got on.is in
+    let next = going_on o m m1 on.machine before (input_by now) (input_by between) rest begun on.kept piece sitting on.sitting written on.written g got on.is in
     let later = tells taken rest on.machine on.kept on.sitting (written ++ on.written) on.more result on.decide_after_turn.between new size
     (subst (λ (i : LinesSeen). Going o m on.machine before i rest on.kept on.sitting (written ++ on.written)) (sym on.decide_after_turn.input) next)
     on.goes on.decide_after_turn.follow in
@@ -253,30 +253,30 @@ at_piece o m m1 before left taken rest activity_after_line piece sitting written
           (ap put_answer_of (is ∙ ap (λ e. Input piece ∷ e) on.events_are) ∙ put_after on.written on.more)
           later.puts;
     }
-at_piece o m m1 before left taken rest activity_after_line piece sitting written events more result now between new tells size some g did is (inr (inl quit)) = record {
+at_piece o m m1 before left taken rest begun piece sitting written events more result now between new tells size some g did is (inr (inl quit)) = record {
   ended = Ok tt;
   result_is = quit.result_is;
   later = quit.is.machine;
   lines = written ++ quit.written;
   session = subst (λ (i : LinesSeen). IsSession o (Ok tt) m quit.is.machine before i (written ++ quit.written)) (sym quit.input)
-      (going_quit o m m1 before (input_by now) (input_by between) rest activity_after_line piece sitting written quit.written g
+      (going_quit o m m1 before (input_by now) (input_by between) rest begun piece sitting written quit.written g
       (got_piece piece (rest + length piece) now between did some (omega arith)) quit.is);
   puts = puts_whole written quit.written events
       (gives_after_input piece more events quit.written Done is (gives_outputs quit.written more quit.events_are));
 }
-at_piece o m m1 before left taken rest activity_after_line piece sitting written events more result now between new tells size some g did is (inr (inr (inl starved))) = record {
+at_piece o m m1 before left taken rest begun piece sitting written events more result now between new tells size some g did is (inr (inr (inl starved))) = record {
   ended = Err fault.NoMemory;
   result_is = starved.result_is;
   later = starved.is.machine;
   lines = written ++ starved.written;
   session = subst (λ (i : LinesSeen). IsSession o (Err fault.NoMemory) m starved.is.machine before i (written ++ starved.written)) (sym starved.input)
-      (going_breaks Starving o m m1 before (input_by now) (input_by between) rest activity_after_line piece sitting written starved.written g
+      (going_breaks Starving o m m1 before (input_by now) (input_by between) rest begun piece sitting written starved.written g
       (got_piece piece (rest + length piece) now between did some (omega arith)) starved.is);
   puts = puts_whole written starved.written events
       (gives_after_input piece more events starved.written Done is (gives_outputs starved.written more starved.events_are));
 }
-at_piece o m m1 before left taken rest activity_after_line piece sitting written events more result now between new tells size some g did is (inr (inr (inr failed))) =
-    let reply = reply_some o sitting m1 (activity_after_line ++ piece) failed.reply failed.is in
+at_piece o m m1 before left taken rest begun piece sitting written events more result now between new tells size some g did is (inr (inr (inr failed))) =
+    let reply = reply_some o sitting m1 (begun ++ piece) failed.reply failed.is in
     let part = failed.unwrote in
     record {
       ended = Err fault.WriteFault;
@@ -284,7 +284,7 @@ at_piece o m m1 before left taken rest activity_after_line piece sitting written
       later = reply.machine;
       lines = written ++ written_in failed.reply;
       session = subst (λ (i : LinesSeen). IsSession o (Err fault.WriteFault) m reply.machine before i (written ++ written_in failed.reply)) (sym failed.input)
-          (going_breaks Unwritten o m m1 before (input_by now) (input_by between) rest activity_after_line piece sitting written (written_in failed.reply) g
+          (going_breaks Unwritten o m m1 before (input_by now) (input_by between) rest begun piece sitting written (written_in failed.reply) g
           (got_piece piece (rest + length piece) now between did some (omega arith)) reply);
       puts = puts_part written (written_in failed.reply) (part.handed ++ part.failed) part.left events
           (gives_after_input piece more events (part.handed ++ part.failed) Failed is (gives_failed part.handed part.failed more part.events_are)) part.is;
@@ -292,17 +292,17 @@ at_piece o m m1 before left taken rest activity_after_line piece sitting written
 
 -- the input failed
 at_fault :
-    {M : Type 0} (o : MachineRelations M) (m m1 : M) (before : LinesSeen) (left : ℕ) (activity_after_line : List ℕ) (sitting : SessionStateFields) (written : List (List ℕ))
+    {M : Type 0} (o : MachineRelations M) (m m1 : M) (before : LinesSeen) (left : ℕ) (begun : List ℕ) (sitting : SessionStateFields) (written : List (List ℕ))
     (events : List Event) (result : Result (Unit {0}) Status) (now new : Seen)
-    → Going o m m1 before (input_by now) left activity_after_line sitting written → HasNotTaken events result now new
+    → Going o m m1 before (input_by now) left begun sitting written → HasNotTaken events result now new
     → EndedSo o m before (input_by new) written events result
-at_fault o m m1 before left activity_after_line sitting written events result now new g not = record {
+at_fault o m m1 before left begun sitting written events result now new g not = record {
   ended = Err fault.ReadFault;
   result_is = not.result_is;
   later = m1;
   lines = written ++ [];
   session = subst (λ l. IsSession o (Err fault.ReadFault) m m1 before (input_by new) l) (sym (append-nil written))
-      (going_unread o m m1 before (input_by now) (input_by new) left activity_after_line sitting written g (got_nothing now new not.did));
+      (going_unread o m m1 before (input_by now) (input_by new) left begun sitting written g (got_nothing now new not.did));
   puts = puts_whole written [] events (record { pieces_are = ap pieces_of not.events_are; put = ap put_answer_of not.events_are });
 }
 
@@ -312,12 +312,12 @@ unfolding Goes too_long
 too_long_after more result goes = (goes.none, goes.result_is)
 
 at_limit :
-    {M : Type 0} (o : MachineRelations M) (m m1 : M) (before : LinesSeen) (activity_after_line piece : List ℕ) (sitting : SessionStateFields) (written : List (List ℕ))
+    {M : Type 0} (o : MachineRelations M) (m m1 : M) (before : LinesSeen) (begun piece : List ℕ) (sitting : SessionStateFields) (written : List (List ℕ))
     (events more : List Event) (result : Result (Unit {0}) Status) (now between new : Seen)
-    → Going o m m1 before (input_by now) 0 activity_after_line sitting written → IsInput piece now between → 1 ≤ length piece → length piece ≤ 1
+    → Going o m m1 before (input_by now) 0 begun sitting written → IsInput piece now between → 1 ≤ length piece → length piece ≤ 1
     → events ≡ Input piece ∷ more → Follow more between new → Goes too_long more result
     → EndedSo o m before (input_by new) written events result
-at_limit o m m1 before activity_after_line piece sitting written events more result now between new g did some within is follow goes =
+at_limit o m m1 before begun piece sitting written events more result now between new g did some within is follow goes =
     let last = too_long_after more result goes in
     record {
       ended = Err fault.TooLong;
@@ -326,7 +326,7 @@ at_limit o m m1 before activity_after_line piece sitting written events more res
       lines = written ++ [];
       session = subst (λ l. IsSession o (Err fault.TooLong) m m1 before (input_by new) l) (sym (append-nil written))
           (subst (λ (i : LinesSeen). IsSession o (Err fault.TooLong) m m1 before i written) (sym (nothing_more more between new last.0 follow))
-          (going_too_long o m m1 before (input_by now) (input_by between) activity_after_line piece sitting written g (got_piece piece 1 now between did some within)));
+          (going_too_long o m m1 before (input_by now) (input_by between) begun piece sitting written g (got_piece piece 1 now between did some within)));
       puts = puts_whole written [] events
           (gives_after_input piece more events [] Done is (record { pieces_are = ap pieces_of last.0; put = ap put_answer_of last.0 }));
     }
@@ -334,75 +334,75 @@ at_limit o m m1 before activity_after_line piece sitting written events more res
 -- ---- by the next piece
 
 by_last :
-    {M : Type 0} (o : MachineRelations M) (m m1 : M) (before : LinesSeen) (activity_after_line piece : List ℕ) (sitting : SessionStateFields) (written : List (List ℕ))
+    {M : Type 0} (o : MachineRelations M) (m m1 : M) (before : LinesSeen) (begun piece : List ℕ) (sitting : SessionStateFields) (written : List (List ℕ))
     (events more : List Event) (result : Result (Unit {0}) Status) (now between new : Seen)
-    → Going o m m1 before (input_by now) 0 activity_after_line sitting written → IsInput piece now between → length piece ≤ 1
+    → Going o m m1 before (input_by now) 0 begun sitting written → IsInput piece now between → length piece ≤ 1
     → events ≡ Input piece ∷ more → Follow more between new
-    → Goes (by_piece (answer_at_end o activity_after_line sitting m1) (λ taken p. too_long) piece) more result
+    → Goes (by_piece (answer_at_end o begun sitting m1) (λ taken p. too_long) piece) more result
     → EndedSo o m before (input_by new) written events result
-by_last o m m1 before activity_after_line [] sitting written events more result now between new g did within is follow goes =
-    at_last o m m1 before 0 activity_after_line sitting written events more result now between new g did is
-    (replies_go (IsLastReply o (standing sitting Waiting) m1 activity_after_line) over more result between new (λ kept s later. done_puts_none) goes follow)
-by_last o m m1 before activity_after_line (byte ∷ bytes) sitting written events more result now between new g did within is follow goes =
-    at_limit o m m1 before activity_after_line (byte ∷ bytes) sitting written events more result now between new g did (omega arith) within is follow goes
+by_last o m m1 before begun [] sitting written events more result now between new g did within is follow goes =
+    at_last o m m1 before 0 begun sitting written events more result now between new g did is
+    (replies_go (IsLastReply o (standing sitting Waiting) m1 begun) over more result between new (λ kept s later. done_puts_none) goes follow)
+by_last o m m1 before begun (byte ∷ bytes) sitting written events more result now between new g did within is follow goes =
+    at_limit o m m1 before begun (byte ∷ bytes) sitting written events more result now between new g did (omega arith) within is follow goes
 
 by_next :
-    {M : Type 0} (o : MachineRelations M) (m m1 : M) (before : LinesSeen) (left : ℕ) (activity_after_line piece : List ℕ) (sitting : SessionStateFields) (written : List (List ℕ))
+    {M : Type 0} (o : MachineRelations M) (m m1 : M) (before : LinesSeen) (left : ℕ) (begun piece : List ℕ) (sitting : SessionStateFields) (written : List (List ℕ))
     (events more : List Event) (result : Result (Unit {0}) Status) (now between new : Seen)
     → Tells o m before left
-    → Going o m m1 before (input_by now) (suc left) activity_after_line sitting written → IsInput piece now between → length piece ≤ suc left
+    → Going o m m1 before (input_by now) (suc left) begun sitting written → IsInput piece now between → length piece ≤ suc left
     → events ≡ Input piece ∷ more → Follow more between new
-    → Goes (by_piece (answer_at_end o activity_after_line sitting m1) (λ taken p. replies (IsReply o (standing sitting Waiting) m1 (activity_after_line ++ p)) (session_from o left taken)) piece) more result
+    → Goes (by_piece (answer_at_end o begun sitting m1) (λ taken p. replies (IsReply o (standing sitting Waiting) m1 (begun ++ p)) (session_from o left taken)) piece) more result
     → EndedSo o m before (input_by new) written events result
-by_next o m m1 before left activity_after_line [] sitting written events more result now between new tells g did within is follow goes =
-    at_last o m m1 before (suc left) activity_after_line sitting written events more result now between new g did is
-    (replies_go (IsLastReply o (standing sitting Waiting) m1 activity_after_line) over more result between new (λ kept s later. done_puts_none) goes follow)
-by_next o m m1 before left activity_after_line (byte ∷ bytes) sitting written events more result now between new tells g did within is follow goes =
+by_next o m m1 before left begun [] sitting written events more result now between new tells g did within is follow goes =
+    at_last o m m1 before (suc left) begun sitting written events more result now between new g did is
+    (replies_go (IsLastReply o (standing sitting Waiting) m1 begun) over more result between new (λ kept s later. done_puts_none) goes follow)
+by_next o m m1 before left begun (byte ∷ bytes) sitting written events more result now between new tells g did within is follow goes =
     let size : suc left ≡ (left - length bytes) + length (byte ∷ bytes) = omega (arith, within) in
-    at_piece o m m1 before left (length bytes) (left - length bytes) activity_after_line (byte ∷ bytes) sitting written events more result now between new tells
+    at_piece o m m1 before left (length bytes) (left - length bytes) begun (byte ∷ bytes) sitting written events more result now between new tells
     (omega (arith, within)) (omega arith)
-    (subst (λ n. Going o m m1 before (input_by now) n activity_after_line sitting written) size g) did is
-    (replies_go (IsReply o (standing sitting Waiting) m1 (activity_after_line ++ (byte ∷ bytes))) (session_from o left (length bytes)) more result between new
+    (subst (λ n. Going o m m1 before (input_by now) n begun sitting written) size g) did is
+    (replies_go (IsReply o (standing sitting Waiting) m1 (begun ++ (byte ∷ bytes))) (session_from o left (length bytes)) more result between new
     (λ kept s later. session_puts_none o left (length bytes) kept s later) goes follow)
 
 -- ---- the session
 
 tells_some :
-    {M : Type 0} (o : MachineRelations M) (m m1 : M) (before : LinesSeen) (left rest : ℕ) (activity_after_line : List ℕ) (sitting : SessionStateFields) (written : List (List ℕ))
+    {M : Type 0} (o : MachineRelations M) (m m1 : M) (before : LinesSeen) (left rest : ℕ) (begun : List ℕ) (sitting : SessionStateFields) (written : List (List ℕ))
     (events : List Event) (result : Result (Unit {0}) Status) (now new : Seen)
-    → Tells o m before left → rest ≡ suc left → Going o m m1 before (input_by now) rest activity_after_line sitting written
-    → HasTaken (suc left) (by_piece (answer_at_end o activity_after_line sitting m1) (λ taken p. replies (IsReply o (standing sitting Waiting) m1 (activity_after_line ++ p)) (session_from o left taken))) events result now new
+    → Tells o m before left → rest ≡ suc left → Going o m m1 before (input_by now) rest begun sitting written
+    → HasTaken (suc left) (by_piece (answer_at_end o begun sitting m1) (λ taken p. replies (IsReply o (standing sitting Waiting) m1 (begun ++ p)) (session_from o left taken))) events result now new
     ⊎ HasNotTaken events result now new
     → EndedSo o m before (input_by new) written events result
-tells_some o m m1 before left rest activity_after_line sitting written events result now new tells size g (inl got) =
-    by_next o m m1 before left activity_after_line got.piece sitting written events got.more result now got.between new tells
-    (subst (λ n. Going o m m1 before (input_by now) n activity_after_line sitting written) size g) got.did got.within got.events_are got.follow got.goes
-tells_some o m m1 before left rest activity_after_line sitting written events result now new tells size g (inr not) =
-    at_fault o m m1 before rest activity_after_line sitting written events result now new g not
+tells_some o m m1 before left rest begun sitting written events result now new tells size g (inl got) =
+    by_next o m m1 before left begun got.piece sitting written events got.more result now got.between new tells
+    (subst (λ n. Going o m m1 before (input_by now) n begun sitting written) size g) got.did got.within got.events_are got.follow got.goes
+tells_some o m m1 before left rest begun sitting written events result now new tells size g (inr not) =
+    at_fault o m m1 before rest begun sitting written events result now new g not
 
 tells_none :
-    {M : Type 0} (o : MachineRelations M) (m m1 : M) (before : LinesSeen) (rest : ℕ) (activity_after_line : List ℕ) (sitting : SessionStateFields) (written : List (List ℕ))
+    {M : Type 0} (o : MachineRelations M) (m m1 : M) (before : LinesSeen) (rest : ℕ) (begun : List ℕ) (sitting : SessionStateFields) (written : List (List ℕ))
     (events : List Event) (result : Result (Unit {0}) Status) (now new : Seen)
-    → rest ≡ 0 → Going o m m1 before (input_by now) rest activity_after_line sitting written
-    → HasTaken 1 (by_piece (answer_at_end o activity_after_line sitting m1) (λ taken p. too_long)) events result now new ⊎ HasNotTaken events result now new
+    → rest ≡ 0 → Going o m m1 before (input_by now) rest begun sitting written
+    → HasTaken 1 (by_piece (answer_at_end o begun sitting m1) (λ taken p. too_long)) events result now new ⊎ HasNotTaken events result now new
     → EndedSo o m before (input_by new) written events result
-tells_none o m m1 before rest activity_after_line sitting written events result now new size g (inl got) =
-    by_last o m m1 before activity_after_line got.piece sitting written events got.more result now got.between new
-    (subst (λ n. Going o m m1 before (input_by now) n activity_after_line sitting written) size g) got.did got.within got.events_are got.follow got.goes
-tells_none o m m1 before rest activity_after_line sitting written events result now new size g (inr not) =
-    at_fault o m m1 before rest activity_after_line sitting written events result now new g not
+tells_none o m m1 before rest begun sitting written events result now new size g (inl got) =
+    by_last o m m1 before begun got.piece sitting written events got.more result now got.between new
+    (subst (λ n. Going o m m1 before (input_by now) n begun sitting written) size g) got.did got.within got.events_are got.follow got.goes
+tells_none o m m1 before rest begun sitting written events result now new size g (inr not) =
+    at_fault o m m1 before rest begun sitting written events result now new g not
 
 tells : {M : Type 0} (o : MachineRelations M) (m : M) (before : LinesSeen) (left : ℕ) → Tells o m before left
 unfolding session_from
-tells o m before zero zero rest m1 activity_after_line sitting written events result now new size g goes follow =
-    tells_none o m m1 before rest activity_after_line sitting written events result now new (omega (arith, size)) g
-    (takes_go 1 (by_piece (answer_at_end o activity_after_line sitting m1) (λ taken p. too_long)) events result now new goes follow)
-tells o m before zero (suc taken) rest m1 activity_after_line sitting written events result now new size g goes follow = absurd (omega (arith, size))
-tells o m before (suc left) zero rest m1 activity_after_line sitting written events result now new size g goes follow =
-    tells_some o m m1 before left rest activity_after_line sitting written events result now new (tells o m before left) (omega (arith, size)) g
-    (takes_go (suc left) (by_piece (answer_at_end o activity_after_line sitting m1) (λ taken p. replies (IsReply o (standing sitting Waiting) m1 (activity_after_line ++ p)) (session_from o left taken))) events result now new goes follow)
-tells o m before (suc left) (suc taken) rest m1 activity_after_line sitting written events result now new size g goes follow =
-    tells o m before left taken rest m1 activity_after_line sitting written events result now new (omega (arith, size)) g goes follow
+tells o m before zero zero rest m1 begun sitting written events result now new size g goes follow =
+    tells_none o m m1 before rest begun sitting written events result now new (omega (arith, size)) g
+    (takes_go 1 (by_piece (answer_at_end o begun sitting m1) (λ taken p. too_long)) events result now new goes follow)
+tells o m before zero (suc taken) rest m1 begun sitting written events result now new size g goes follow = absurd (omega (arith, size))
+tells o m before (suc left) zero rest m1 begun sitting written events result now new size g goes follow =
+    tells_some o m m1 before left rest begun sitting written events result now new (tells o m before left) (omega (arith, size)) g
+    (takes_go (suc left) (by_piece (answer_at_end o begun sitting m1) (λ taken p. replies (IsReply o (standing sitting Waiting) m1 (begun ++ p)) (session_from o left taken))) events result now new goes follow)
+tells o m before (suc left) (suc taken) rest m1 begun sitting written events result now new size g goes follow =
+    tells o m before left taken rest m1 begun sitting written events result now new (omega (arith, size)) g goes follow
 
 -- ---- a call
 

@@ -141,9 +141,9 @@ stops_ended ((byte ∷ piece) ∷ pieces) old new all stands = stops_ended piece
 
 -- ---- a session that continues
 
--- All whole lines so far were answered. `activity_after_line` is the part of a line after them, and at most `left` more bytes may be
+-- All whole lines so far were answered. `begun` is the part of a line after them, and at most `left` more bytes may be
 -- taken.
-pub record Going {M : Type 0} (o : MachineRelations M) (m m' : M) (before after : LinesSeen) (left : ℕ) (activity_after_line : List ℕ) (sitting : SessionStateFields) (written : List (List ℕ))
+pub record Going {M : Type 0} (o : MachineRelations M) (m m' : M) (before after : LinesSeen) (left : ℕ) (begun : List ℕ) (sitting : SessionStateFields) (written : List (List ℕ))
     : Type 0 where
   pub pieces : List (List ℕ)
   pub came : Came before after pieces
@@ -151,8 +151,8 @@ pub record Going {M : Type 0} (o : MachineRelations M) (m m' : M) (before after 
   pub faults : after.faults ≡ before.faults
   pub count : length (joined pieces) + left ≡ bytes_limit
   pub lines : List (List ℕ)
-  pub is : IsLines (joined pieces) lines activity_after_line
-  pub unbroken : IsUnbroken activity_after_line
+  pub is : IsLines (joined pieces) lines begun
+  pub unbroken : IsUnbroken begun
   pub happens : EventsLead o (standing initial_session_state Waiting) m lines written (standing sitting Waiting) m'
 
 -- at the start
@@ -216,36 +216,36 @@ ends_in_quit o m m' lines written sitting happens =
 
 -- all whole lines were taken
 took_whole :
-    {M : Type 0} (o : MachineRelations M) (m m' : M) (text activity_after_line : List ℕ) (lines written : List (List ℕ)) (sitting : SessionStateFields)
-    → IsLines text lines activity_after_line → IsUnbroken activity_after_line
+    {M : Type 0} (o : MachineRelations M) (m m' : M) (text begun : List ℕ) (lines written : List (List ℕ)) (sitting : SessionStateFields)
+    → IsLines text lines begun → IsUnbroken begun
     → EventsLead o (standing initial_session_state Waiting) m lines written (standing sitting Waiting) m'
     → TookWhole text lines Waiting
-took_whole o m m' text activity_after_line lines written sitting are unbroken happens = record {
+took_whole o m m' text begun lines written sitting are unbroken happens = record {
   waits = refl;
-  whole = sym (all_whole text activity_after_line lines are unbroken);
+  whole = sym (all_whole text begun lines are unbroken);
   none = not_quit o m m' lines written sitting happens;
 }
 
 -- the input could not be read
 pub going_unread :
-    {M : Type 0} (o : MachineRelations M) (m m' : M) (before now after : LinesSeen) (left : ℕ) (activity_after_line : List ℕ) (sitting : SessionStateFields) (written : List (List ℕ))
-    → Going o m m' before now left activity_after_line sitting written → GotNothing now after
+    {M : Type 0} (o : MachineRelations M) (m m' : M) (before now after : LinesSeen) (left : ℕ) (begun : List ℕ) (sitting : SessionStateFields) (written : List (List ℕ))
+    → Going o m m' before now left begun sitting written → GotNothing now after
     → IsSession o (Err fault.ReadFault) m m' before after written
-going_unread o m m' before now after left activity_after_line sitting written g got =
+going_unread o m m' before now after left begun sitting written g got =
     says o (Err fault.ReadFault) m m' before after g.pieces g.lines written (standing sitting Waiting)
     (came_still before now after g.pieces g.came got.gave got.left)
     (omega (arith, g.count))
     (subst (λ n. Rose n after.faults) g.faults got.cause)
     (stops_going g.pieces before.faults after.faults g.some)
-    (took_whole o m m' (joined g.pieces) activity_after_line g.lines written sitting g.is g.unbroken g.happens)
+    (took_whole o m m' (joined g.pieces) begun g.lines written sitting g.is g.unbroken g.happens)
     g.happens
 
 -- one byte more than the limit was read
 pub going_too_long :
-    {M : Type 0} (o : MachineRelations M) (m m' : M) (before now after : LinesSeen) (activity_after_line piece : List ℕ) (sitting : SessionStateFields) (written : List (List ℕ))
-    → Going o m m' before now 0 activity_after_line sitting written → GotPiece piece 1 now after
+    {M : Type 0} (o : MachineRelations M) (m m' : M) (before now after : LinesSeen) (begun piece : List ℕ) (sitting : SessionStateFields) (written : List (List ℕ))
+    → Going o m m' before now 0 begun sitting written → GotPiece piece 1 now after
     → IsSession o (Err fault.TooLong) m m' before after written
-going_too_long o m m' before now after activity_after_line piece sitting written g got =
+going_too_long o m m' before now after begun piece sitting written g got =
     let bytes : List ℕ = joined g.pieces in
     let all : joined (g.pieces ++ piece ∷ []) ≡ bytes ++ piece = joined_last g.pieces piece in
     let one : length piece ≡ 1 = omega (arith, got.some, got.within) in
@@ -261,7 +261,7 @@ going_too_long o m m' before now after activity_after_line piece sitting written
     (omega (arith, size), omega (arith, size))
     (got.faults ∙ g.faults)
     (stops_going (g.pieces ++ piece ∷ []) before.faults after.faults (some_more g.pieces piece g.some got.some))
-    (subst (λ t. TookWhole t g.lines Waiting) (sym first) (took_whole o m m' bytes activity_after_line g.lines written sitting g.is g.unbroken g.happens))
+    (subst (λ t. TookWhole t g.lines Waiting) (sym first) (took_whole o m m' bytes begun g.lines written sitting g.is g.unbroken g.happens))
     g.happens
 
 -- ---- the end
@@ -273,13 +273,13 @@ has_ended now after pieces got =
 
 -- the lines that were taken are a prefix of all lines
 took_open :
-    (now after : LinesSeen) (pieces lines : List (List ℕ)) (activity_after_line : List ℕ)
-    → GotEnd now after → IsLines (joined pieces) lines activity_after_line → IsUnbroken activity_after_line
-    → TookOpen (pieces ++ [] ∷ []) (lines ++ open_last_line activity_after_line) after
-took_open now after pieces lines activity_after_line got are unbroken = record {
+    (now after : LinesSeen) (pieces lines : List (List ℕ)) (begun : List ℕ)
+    → GotEnd now after → IsLines (joined pieces) lines begun → IsUnbroken begun
+    → TookOpen (pieces ++ [] ∷ []) (lines ++ open_last_line begun) after
+took_open now after pieces lines begun got are unbroken = record {
   some = record {
     rest = [];
-    is = ap open_lines_of (joined_end pieces) ∙ all_open (joined pieces) activity_after_line lines are unbroken ∙ sym (append-nil (lines ++ open_last_line activity_after_line));
+    is = ap open_lines_of (joined_end pieces) ∙ all_open (joined pieces) begun lines are unbroken ∙ sym (append-nil (lines ++ open_last_line begun));
   };
   ended = has_ended now after pieces got;
 }
@@ -307,68 +307,68 @@ breaks Starving o m m' before after pieces lines written stands came count fault
 
 -- the line that has begun was answered, if there is one
 pub going_end :
-    {M : Type 0} (o : MachineRelations M) (m m1 m2 : M) (before now after : LinesSeen) (left : ℕ) (activity_after_line : List ℕ) (sitting sitting' : SessionStateFields) (written more : List (List ℕ))
-    → Going o m m1 before now left activity_after_line sitting written → GotEnd now after
-    → EventsLead o (standing sitting Waiting) m1 (open_last_line activity_after_line) more (standing sitting' Waiting) m2
+    {M : Type 0} (o : MachineRelations M) (m m1 m2 : M) (before now after : LinesSeen) (left : ℕ) (begun : List ℕ) (sitting sitting' : SessionStateFields) (written more : List (List ℕ))
+    → Going o m m1 before now left begun sitting written → GotEnd now after
+    → EventsLead o (standing sitting Waiting) m1 (open_last_line begun) more (standing sitting' Waiting) m2
     → IsSession o (Ok tt) m m2 before after (written ++ more)
-going_end o m m1 m2 before now after left activity_after_line sitting sitting' written more g got last =
-    says o (Ok tt) m m2 before after (g.pieces ++ [] ∷ []) (g.lines ++ open_last_line activity_after_line) (written ++ more) (standing sitting' Waiting)
+going_end o m m1 m2 before now after left begun sitting sitting' written more g got last =
+    says o (Ok tt) m m2 before after (g.pieces ++ [] ∷ []) (g.lines ++ open_last_line begun) (written ++ more) (standing sitting' Waiting)
     (came_end before now after g.pieces g.came got)
     (omega (arith, g.count, ap length (joined_end g.pieces)))
     (got.faults ∙ g.faults)
     (stops_ended g.pieces before.faults after.faults g.some (got.faults ∙ g.faults))
     (inr record {
       waits = refl;
-      all = sym (ap open_lines_of (joined_end g.pieces) ∙ all_open (joined g.pieces) activity_after_line g.lines g.is g.unbroken);
+      all = sym (ap open_lines_of (joined_end g.pieces) ∙ all_open (joined g.pieces) begun g.lines g.is g.unbroken);
       ended = has_ended now after g.pieces got;
     })
-    (happens_on o (standing initial_session_state Waiting) m g.lines (open_last_line activity_after_line) written more (standing sitting Waiting) m1 (standing sitting' Waiting) m2 g.happens last)
+    (happens_on o (standing initial_session_state Waiting) m g.lines (open_last_line begun) written more (standing sitting Waiting) m1 (standing sitting' Waiting) m2 g.happens last)
 
 -- the line that has begun is `quit`
 pub going_last_quit :
-    {M : Type 0} (o : MachineRelations M) (m m1 : M) (before now after : LinesSeen) (left : ℕ) (activity_after_line : List ℕ) (sitting : SessionStateFields) (written more : List (List ℕ))
-    → Going o m m1 before now left activity_after_line sitting written → GotEnd now after
-    → (last : LastQuits o (standing sitting Waiting) m1 activity_after_line more)
+    {M : Type 0} (o : MachineRelations M) (m m1 : M) (before now after : LinesSeen) (left : ℕ) (begun : List ℕ) (sitting : SessionStateFields) (written more : List (List ℕ))
+    → Going o m m1 before now left begun sitting written → GotEnd now after
+    → (last : LastQuits o (standing sitting Waiting) m1 begun more)
     → IsSession o (Ok tt) m last.machine before after (written ++ more)
-going_last_quit o m m1 before now after left activity_after_line sitting written more g got last =
-    let all = happens_on o (standing initial_session_state Waiting) m g.lines (open_last_line activity_after_line) written more (standing sitting Waiting) m1 (standing last.sitting Over) last.machine g.happens last.happens in
-    says o (Ok tt) m last.machine before after (g.pieces ++ [] ∷ []) (g.lines ++ open_last_line activity_after_line) (written ++ more) (standing last.sitting Over)
+going_last_quit o m m1 before now after left begun sitting written more g got last =
+    let all = happens_on o (standing initial_session_state Waiting) m g.lines (open_last_line begun) written more (standing sitting Waiting) m1 (standing last.sitting Over) last.machine g.happens last.happens in
+    says o (Ok tt) m last.machine before after (g.pieces ++ [] ∷ []) (g.lines ++ open_last_line begun) (written ++ more) (standing last.sitting Over)
     (came_end before now after g.pieces g.came got)
     (omega (arith, g.count, ap length (joined_end g.pieces)))
     (got.faults ∙ g.faults)
     (stops_ended g.pieces before.faults after.faults g.some (got.faults ∙ g.faults))
     (inl record {
       over = refl;
-      some = inr (took_open now after g.pieces g.lines activity_after_line got g.is g.unbroken);
-      quit = ends_in_quit o m last.machine (g.lines ++ open_last_line activity_after_line) (written ++ more) last.sitting all;
+      some = inr (took_open now after g.pieces g.lines begun got g.is g.unbroken);
+      quit = ends_in_quit o m last.machine (g.lines ++ open_last_line begun) (written ++ more) last.sitting all;
     })
     all
 
 -- not all of the answer to the line that has begun was written, or memory ran out
 pub going_last_breaks :
-    {M : Type 0} (how : Breaking) (o : MachineRelations M) (m m1 : M) (before now after : LinesSeen) (left : ℕ) (activity_after_line : List ℕ) (sitting : SessionStateFields) (written more : List (List ℕ))
-    → Going o m m1 before now left activity_after_line sitting written → GotEnd now after
-    → (last : LastBreaks o (standing sitting Waiting) m1 activity_after_line more)
+    {M : Type 0} (how : Breaking) (o : MachineRelations M) (m m1 : M) (before now after : LinesSeen) (left : ℕ) (begun : List ℕ) (sitting : SessionStateFields) (written more : List (List ℕ))
+    → Going o m m1 before now left begun sitting written → GotEnd now after
+    → (last : LastBreaks o (standing sitting Waiting) m1 begun more)
     → IsSession o (Err (fault_of how)) m last.machine before after (written ++ more)
-going_last_breaks how o m m1 before now after left activity_after_line sitting written more g got last =
-    breaks how o m last.machine before after (g.pieces ++ [] ∷ []) (g.lines ++ open_last_line activity_after_line) (written ++ more) last.stands
+going_last_breaks how o m m1 before now after left begun sitting written more g got last =
+    breaks how o m last.machine before after (g.pieces ++ [] ∷ []) (g.lines ++ open_last_line begun) (written ++ more) last.stands
     (came_end before now after g.pieces g.came got)
     (omega (arith, g.count, ap length (joined_end g.pieces)))
     (got.faults ∙ g.faults)
     (stops_ended g.pieces before.faults after.faults g.some (got.faults ∙ g.faults))
-    (inr (took_open now after g.pieces g.lines activity_after_line got g.is g.unbroken))
-    (happens_on o (standing initial_session_state Waiting) m g.lines (open_last_line activity_after_line) written more (standing sitting Waiting) m1 last.stands last.machine g.happens last.happens)
+    (inr (took_open now after g.pieces g.lines begun got g.is g.unbroken))
+    (happens_on o (standing initial_session_state Waiting) m g.lines (open_last_line begun) written more (standing sitting Waiting) m1 last.stands last.machine g.happens last.happens)
 
 -- ---- a piece was taken
 
 -- what follows the whole lines, and the piece
 got_lines :
-    (pieces lines others : List (List ℕ)) (activity_after_line piece rest : List ℕ)
-    → IsLines (joined pieces) lines activity_after_line → IsLines (activity_after_line ++ piece) others rest
+    (pieces lines others : List (List ℕ)) (begun piece rest : List ℕ)
+    → IsLines (joined pieces) lines begun → IsLines (begun ++ piece) others rest
     → IsLines (joined (pieces ++ piece ∷ [])) (lines ++ others) rest
-got_lines pieces lines others activity_after_line piece rest one two =
+got_lines pieces lines others begun piece rest one two =
     subst (λ t. IsLines t (lines ++ others) rest) (sym (joined_last pieces piece))
-    (lines_on (joined pieces) activity_after_line piece rest lines others one two)
+    (lines_on (joined pieces) begun piece rest lines others one two)
 
 got_count :
     (pieces : List (List ℕ)) (piece : List ℕ) (rest : ℕ)
@@ -379,29 +379,29 @@ got_count pieces piece rest is =
 
 -- all whole lines of a piece were answered
 pub going_on :
-    {M : Type 0} (o : MachineRelations M) (m m1 m2 : M) (before now after : LinesSeen) (rest : ℕ) (activity_after_line kept piece : List ℕ) (sitting sitting' : SessionStateFields) (written more : List (List ℕ))
-    → Going o m m1 before now (rest + length piece) activity_after_line sitting written → GotPiece piece (rest + length piece) now after
-    → RepliesAll o (standing sitting Waiting) m1 (activity_after_line ++ piece) more kept sitting' m2
+    {M : Type 0} (o : MachineRelations M) (m m1 m2 : M) (before now after : LinesSeen) (rest : ℕ) (begun kept piece : List ℕ) (sitting sitting' : SessionStateFields) (written more : List (List ℕ))
+    → Going o m m1 before now (rest + length piece) begun sitting written → GotPiece piece (rest + length piece) now after
+    → RepliesAll o (standing sitting Waiting) m1 (begun ++ piece) more kept sitting' m2
     → Going o m m2 before after rest kept sitting' (written ++ more)
-going_on o m m1 m2 before now after rest activity_after_line kept piece sitting sitting' written more g got reply = record {
+going_on o m m1 m2 before now after rest begun kept piece sitting sitting' written more g got reply = record {
   pieces = g.pieces ++ piece ∷ [];
   came = came_more before now after g.pieces piece g.came got.gave got.left;
   some = some_more g.pieces piece g.some got.some;
   faults = got.faults ∙ g.faults;
   count = got_count g.pieces piece rest g.count;
   lines = g.lines ++ reply.lines;
-  is = got_lines g.pieces g.lines reply.lines activity_after_line piece kept g.is reply.is;
+  is = got_lines g.pieces g.lines reply.lines begun piece kept g.is reply.is;
   unbroken = reply.unbroken;
   happens = happens_on o (standing initial_session_state Waiting) m g.lines reply.lines written more (standing sitting Waiting) m1 (standing sitting' Waiting) m2 g.happens reply.happens;
 }
 
 -- `quit` was taken
 pub going_quit :
-    {M : Type 0} (o : MachineRelations M) (m m1 : M) (before now after : LinesSeen) (rest : ℕ) (activity_after_line piece : List ℕ) (sitting : SessionStateFields) (written more : List (List ℕ))
-    → Going o m m1 before now (rest + length piece) activity_after_line sitting written → GotPiece piece (rest + length piece) now after
-    → (reply : RepliesQuit o (standing sitting Waiting) m1 (activity_after_line ++ piece) more)
+    {M : Type 0} (o : MachineRelations M) (m m1 : M) (before now after : LinesSeen) (rest : ℕ) (begun piece : List ℕ) (sitting : SessionStateFields) (written more : List (List ℕ))
+    → Going o m m1 before now (rest + length piece) begun sitting written → GotPiece piece (rest + length piece) now after
+    → (reply : RepliesQuit o (standing sitting Waiting) m1 (begun ++ piece) more)
     → IsSession o (Ok tt) m reply.machine before after (written ++ more)
-going_quit o m m1 before now after rest activity_after_line piece sitting written more g got reply =
+going_quit o m m1 before now after rest begun piece sitting written more g got reply =
     let pieces : List (List ℕ) = g.pieces ++ piece ∷ [] in
     let lines : List (List ℕ) = g.lines ++ reply.lines in
     let all = happens_on o (standing initial_session_state Waiting) m g.lines reply.lines written more (standing sitting Waiting) m1 (standing reply.sitting Over) reply.machine g.happens reply.happens in
@@ -412,18 +412,18 @@ going_quit o m m1 before now after rest activity_after_line piece sitting writte
     (stops_going pieces before.faults after.faults (some_more g.pieces piece g.some got.some))
     (inl record {
       over = refl;
-      some = inl (some_whole (joined pieces) reply.rest lines (got_lines g.pieces g.lines reply.lines activity_after_line piece reply.rest g.is reply.is));
+      some = inl (some_whole (joined pieces) reply.rest lines (got_lines g.pieces g.lines reply.lines begun piece reply.rest g.is reply.is));
       quit = ends_in_quit o m reply.machine lines (written ++ more) reply.sitting all;
     })
     all
 
 -- not all answers were written, or memory ran out
 pub going_breaks :
-    {M : Type 0} (how : Breaking) (o : MachineRelations M) (m m1 : M) (before now after : LinesSeen) (rest : ℕ) (activity_after_line piece : List ℕ) (sitting : SessionStateFields) (written more : List (List ℕ))
-    → Going o m m1 before now (rest + length piece) activity_after_line sitting written → GotPiece piece (rest + length piece) now after
-    → (reply : RepliesSome o (standing sitting Waiting) m1 (activity_after_line ++ piece) more)
+    {M : Type 0} (how : Breaking) (o : MachineRelations M) (m m1 : M) (before now after : LinesSeen) (rest : ℕ) (begun piece : List ℕ) (sitting : SessionStateFields) (written more : List (List ℕ))
+    → Going o m m1 before now (rest + length piece) begun sitting written → GotPiece piece (rest + length piece) now after
+    → (reply : RepliesSome o (standing sitting Waiting) m1 (begun ++ piece) more)
     → IsSession o (Err (fault_of how)) m reply.machine before after (written ++ more)
-going_breaks how o m m1 before now after rest activity_after_line piece sitting written more g got reply =
+going_breaks how o m m1 before now after rest begun piece sitting written more g got reply =
     let pieces : List (List ℕ) = g.pieces ++ piece ∷ [] in
     let lines : List (List ℕ) = g.lines ++ reply.lines in
     breaks how o m reply.machine before after pieces lines (written ++ more) reply.stands
@@ -431,5 +431,5 @@ going_breaks how o m m1 before now after rest activity_after_line piece sitting 
     (omega (arith, got_count g.pieces piece rest g.count))
     (got.faults ∙ g.faults)
     (stops_going pieces before.faults after.faults (some_more g.pieces piece g.some got.some))
-    (inl (some_whole (joined pieces) reply.rest lines (got_lines g.pieces g.lines reply.lines activity_after_line piece reply.rest g.is reply.is)))
+    (inl (some_whole (joined pieces) reply.rest lines (got_lines g.pieces g.lines reply.lines begun piece reply.rest g.is reply.is)))
     (happens_on o (standing initial_session_state Waiting) m g.lines reply.lines written more (standing sitting Waiting) m1 reply.stands reply.machine g.happens reply.happens)

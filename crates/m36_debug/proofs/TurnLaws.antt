@@ -62,7 +62,7 @@ turn_came o Done turn run s m m' old new next puts =
 turn_came o Failed turn run s m m' old new next puts = turn_cut o turn run s m m' old new next puts
 
 service_made : {M : Type 0} (o : MachineRelations M) (turn : Turn) (m m' : M) → o.next m turn m' → is_service turn ≡ true → MakesTurn o IsService m m'
-service_made o (turns.Stepped result_of_put) m m' may is = absurd (false≢true is)
+service_made o (turns.Stepped told) m m' may is = absurd (false≢true is)
 service_made o (turns.Linked note) m m' may is = record { turn = turns.Linked note; next = may; kind = tt }
 service_made o (turns.Console text) m m' may is = record { turn = turns.Console text; next = may; kind = tt }
 service_made o (turns.Ended end) m m' may is = absurd (false≢true is)
@@ -97,23 +97,23 @@ settled_interrupted o true command left b turn m m' is =
 settled_interrupted o false command left b turn m m' is = tt
 
 step_interrupted :
-    {M : Type 0} (o : MachineRelations M) (outcome : Outcome) (command : TurnCommand) (left : ℕ) (b : Bool) (result_of_put : StepRecord) (m m' : M)
-    → o.next m (turns.Stepped result_of_put) m' → result_of_put.outcome ≡ outcome
-    → PrecludesStepIfNoneLeft o (put_turn_result (turns.Stepped result_of_put) (after_step command left b outcome)) m m'
-step_interrupted o Next command left b result_of_put m m' may is =
-    settled_interrupted o (takes_another command left b) command left b (turns.Stepped result_of_put) m m' refl
-step_interrupted o (Faulted fault) command left b result_of_put m m' may is =
-    λ none. record { turn = turns.Stepped result_of_put; next = may; kind = subst IsHalted (sym is) tt }
-step_interrupted o (Stopped stop) command left b result_of_put m m' may is =
-    λ none. record { turn = turns.Stepped result_of_put; next = may; kind = subst IsHalted (sym is) tt }
+    {M : Type 0} (o : MachineRelations M) (outcome : Outcome) (command : TurnCommand) (left : ℕ) (b : Bool) (told : StepRecord) (m m' : M)
+    → o.next m (turns.Stepped told) m' → told.outcome ≡ outcome
+    → PrecludesStepIfNoneLeft o (put_turn_result (turns.Stepped told) (after_step command left b outcome)) m m'
+step_interrupted o Next command left b told m m' may is =
+    settled_interrupted o (takes_another command left b) command left b (turns.Stepped told) m m' refl
+step_interrupted o (Faulted fault) command left b told m m' may is =
+    λ none. record { turn = turns.Stepped told; next = may; kind = subst IsHalted (sym is) tt }
+step_interrupted o (Stopped stop) command left b told m m' may is =
+    λ none. record { turn = turns.Stepped told; next = may; kind = subst IsHalted (sym is) tt }
 
 stepped_interrupted :
-    {M : Type 0} (o : MachineRelations M) (none : Bool) (run : RunningCommand) (b : Bool) (result_of_put : StepRecord) (m m' : M)
-    → o.next m (turns.Stepped result_of_put) m'
-    → PrecludesStepIfNoneLeft o (put_turn_result (turns.Stepped result_of_put) (if none then Waits else after_step run.command (run.left - 1) b result_of_put.outcome)) m m'
-stepped_interrupted o true run b result_of_put m m' may = tt
-stepped_interrupted o false run b result_of_put m m' may =
-    step_interrupted o result_of_put.outcome run.command (run.left - 1) b result_of_put m m' may refl
+    {M : Type 0} (o : MachineRelations M) (none : Bool) (run : RunningCommand) (b : Bool) (told : StepRecord) (m m' : M)
+    → o.next m (turns.Stepped told) m'
+    → PrecludesStepIfNoneLeft o (put_turn_result (turns.Stepped told) (if none then Waits else after_step run.command (run.left - 1) b told.outcome)) m m'
+stepped_interrupted o true run b told m m' may = tt
+stepped_interrupted o false run b told m m' may =
+    step_interrupted o told.outcome run.command (run.left - 1) b told m m' may refl
 
 link_interrupted :
     {M : Type 0} (o : MachineRelations M) (answer : Result Pair LinkCode) (run : RunningCommand) (b : Bool) (note : LinkNoteFields) (m m' : M)
@@ -128,7 +128,7 @@ pub came_interrupted :
     {M : Type 0} (o : MachineRelations M) (turn : Turn) (run : RunningCommand) (b : Bool) (m m' : M)
     → o.next m turn m' → PrecludesStepIfNoneLeft o (put_turn_result turn (after_turn run b turn)) m m'
 unfolding after_turn
-came_interrupted o (turns.Stepped result_of_put) run b m m' may = stepped_interrupted o (nat_eq run.left 0) run b result_of_put m m' may
+came_interrupted o (turns.Stepped told) run b m m' may = stepped_interrupted o (nat_eq run.left 0) run b told m m' may
 came_interrupted o (turns.Linked note) run b m m' may = link_interrupted o note.answer run b note m m' may refl
 came_interrupted o (turns.Console text) run b m m' may =
     settled_interrupted o (takes_another run.command run.left b) run.command run.left b (turns.Console text) m m' refl
@@ -146,7 +146,7 @@ pub steps_counted :
     {M : Type 0} (o : MachineRelations M) (turn : Turn) (s : SessionStateFields) (m m' : M)
     → o.next m turn m' → CountsSteps o s.taken (session_state_after s turn).taken m m'
 unfolding session_state_after
-steps_counted o (turns.Stepped result_of_put) s m m' may = inr (record { turn = turns.Stepped result_of_put; next = may; kind = tt })
+steps_counted o (turns.Stepped told) s m m' may = inr (record { turn = turns.Stepped told; next = may; kind = tt })
 steps_counted o (turns.Linked note) s m m' may = inl refl
 steps_counted o (turns.Console text) s m m' may = inl refl
 steps_counted o (turns.Ended end) s m m' may = inl refl
@@ -156,26 +156,26 @@ steps_counted o turns.NoMemory s m m' may = inl refl
 -- ---- counts
 
 settled_step :
-    (more : Bool) (command : TurnCommand) (result_of_put : StepRecord) (n left before : ℕ)
-    → n < left → TurnChangesCounts (put_turn_result (turns.Stepped result_of_put) (if more then Runs (run_of command n) else Waits)) left before (before + 1)
-settled_step true command result_of_put n left before below = (below, omega arith)
-settled_step false command result_of_put n left before below = omega arith
+    (more : Bool) (command : TurnCommand) (told : StepRecord) (n left before : ℕ)
+    → n < left → TurnChangesCounts (put_turn_result (turns.Stepped told) (if more then Runs (run_of command n) else Waits)) left before (before + 1)
+settled_step true command told n left before below = (below, omega arith)
+settled_step false command told n left before below = omega arith
 
 step_counts :
-    (outcome : Outcome) (command : TurnCommand) (b : Bool) (result_of_put : StepRecord) (n left before : ℕ)
-    → n < left → TurnChangesCounts (put_turn_result (turns.Stepped result_of_put) (after_step command n b outcome)) left before (before + 1)
-step_counts Next command b result_of_put n left before below = settled_step (takes_another command n b) command result_of_put n left before below
-step_counts (Faulted fault) command b result_of_put n left before below = (below, omega arith)
-step_counts (Stopped stop) command b result_of_put n left before below = (below, omega arith)
+    (outcome : Outcome) (command : TurnCommand) (b : Bool) (told : StepRecord) (n left before : ℕ)
+    → n < left → TurnChangesCounts (put_turn_result (turns.Stepped told) (after_step command n b outcome)) left before (before + 1)
+step_counts Next command b told n left before below = settled_step (takes_another command n b) command told n left before below
+step_counts (Faulted fault) command b told n left before below = (below, omega arith)
+step_counts (Stopped stop) command b told n left before below = (below, omega arith)
 
 stepped_counts :
-    (none : Bool) (run : RunningCommand) (b : Bool) (result_of_put : StepRecord) (before : ℕ)
+    (none : Bool) (run : RunningCommand) (b : Bool) (told : StepRecord) (before : ℕ)
     → nat_eq run.left 0 ≡ none
-    → TurnChangesCounts (put_turn_result (turns.Stepped result_of_put) (if none then Waits else after_step run.command (run.left - 1) b result_of_put.outcome)) run.left before (before + 1)
-stepped_counts true run b result_of_put before is = omega arith
-stepped_counts false run b result_of_put before is =
+    → TurnChangesCounts (put_turn_result (turns.Stepped told) (if none then Waits else after_step run.command (run.left - 1) b told.outcome)) run.left before (before + 1)
+stepped_counts true run b told before is = omega arith
+stepped_counts false run b told before is =
     let some : run.left ≢ 0 = eqb-false run.left 0 is in
-    step_counts result_of_put.outcome run.command b result_of_put (run.left - 1) run.left before (omega (arith, some))
+    step_counts told.outcome run.command b told (run.left - 1) run.left before (omega (arith, some))
 
 settled_link :
     (more : Bool) (command : TurnCommand) (note : LinkNoteFields) (left before : ℕ)
@@ -199,7 +199,7 @@ pub came_counts :
     (turn : Turn) (run : RunningCommand) (b : Bool) (s : SessionStateFields)
     → TurnChangesCounts (put_turn_result turn (after_turn run b turn)) run.left s.taken (session_state_after s turn).taken
 unfolding after_turn session_state_after
-came_counts (turns.Stepped result_of_put) run b s = stepped_counts (nat_eq run.left 0) run b result_of_put s.taken refl
+came_counts (turns.Stepped told) run b s = stepped_counts (nat_eq run.left 0) run b told s.taken refl
 came_counts (turns.Linked note) run b s = link_counts note.answer run b note s.taken
 came_counts (turns.Console text) run b s = settled_console (takes_another run.command run.left b) run.command text run.left s.taken
 came_counts (turns.Ended end) run b s = omega arith
@@ -208,7 +208,7 @@ came_counts turns.NoMemory run b s = omega arith
 
 pub taken_after : (turn : Turn) (s : SessionStateFields) → (session_state_after s turn).taken ≤ s.taken + 1
 unfolding session_state_after
-taken_after (turns.Stepped result_of_put) s = omega arith
+taken_after (turns.Stepped told) s = omega arith
 taken_after (turns.Linked note) s = omega arith
 taken_after (turns.Console text) s = omega arith
 taken_after (turns.Ended end) s = omega arith
@@ -225,7 +225,7 @@ turn_counts Failed turn run b s = taken_after turn s
 -- a turn keeps the breaks
 pub breaks_stay : (turn : Turn) (s : SessionStateFields) → (session_state_after s turn).breaks ≡ s.breaks
 unfolding session_state_after
-breaks_stay (turns.Stepped result_of_put) s = refl
+breaks_stay (turns.Stepped told) s = refl
 breaks_stay (turns.Linked note) s = refl
 breaks_stay (turns.Console text) s = refl
 breaks_stay (turns.Ended end) s = refl

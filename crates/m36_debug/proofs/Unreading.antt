@@ -128,8 +128,8 @@ replies_unread :
 unfolding ReadsNone replies
 replies_unread Is on none = λ reply is. reply_unread on reply none
 
-end_unread : {M : Type 0} (o : MachineRelations M) (activity_after_line : List ℕ) (s : SessionStateFields) (m : M) → ReadsNone (answer_at_end o activity_after_line s m)
-end_unread o activity_after_line s m = replies_unread (IsLastReply o (standing s Waiting) m activity_after_line) (λ kept sitting later. done tt) (λ kept sitting later. done_unread)
+end_unread : {M : Type 0} (o : MachineRelations M) (begun : List ℕ) (s : SessionStateFields) (m : M) → ReadsNone (answer_at_end o begun s m)
+end_unread o begun s m = replies_unread (IsLastReply o (standing s Waiting) m begun) (λ kept sitting later. done tt) (λ kept sitting later. done_unread)
 
 takes_unread : (most : ℕ) (go : List ℕ → Talk) → ((piece : List ℕ) → ReadsNone (go piece)) → ReadsNone (takes_within most go)
 unfolding ReadsNone takes_within
@@ -146,18 +146,18 @@ unfolding ReadsNone too_long
 too_long_unread = tt
 
 from_unread :
-    {M : Type 0} (o : MachineRelations M) (left taken : ℕ) (activity_after_line : List ℕ) (s : SessionStateFields) (m : M) → ReadsNone (session_from o left taken activity_after_line s m)
+    {M : Type 0} (o : MachineRelations M) (left taken : ℕ) (begun : List ℕ) (s : SessionStateFields) (m : M) → ReadsNone (session_from o left taken begun s m)
 unfolding session_from
-from_unread o zero zero activity_after_line s m =
-    takes_unread 1 (by_piece (answer_at_end o activity_after_line s m) (λ taken piece. too_long)) (λ piece.
-    piece_unread (answer_at_end o activity_after_line s m) (λ taken p. too_long) piece (end_unread o activity_after_line s m) (λ n p. too_long_unread))
-from_unread o zero (suc taken) activity_after_line s m = too_long_unread
-from_unread {M} o (suc left) zero activity_after_line s m =
-    let more : ℕ → List ℕ → Talk = λ taken p. replies (IsReply o (standing s Waiting) m (activity_after_line ++ p)) (session_from o left taken) in
-    takes_unread (suc left) (by_piece (answer_at_end o activity_after_line s m) more) (λ piece.
-    piece_unread (answer_at_end o activity_after_line s m) more piece (end_unread o activity_after_line s m) (λ n p.
-    replies_unread (IsReply o (standing s Waiting) m (activity_after_line ++ p)) (session_from o left n) (λ kept sitting later. from_unread o left n kept sitting later)))
-from_unread o (suc left) (suc taken) activity_after_line s m = from_unread o left taken activity_after_line s m
+from_unread o zero zero begun s m =
+    takes_unread 1 (by_piece (answer_at_end o begun s m) (λ taken piece. too_long)) (λ piece.
+    piece_unread (answer_at_end o begun s m) (λ taken p. too_long) piece (end_unread o begun s m) (λ n p. too_long_unread))
+from_unread o zero (suc taken) begun s m = too_long_unread
+from_unread {M} o (suc left) zero begun s m =
+    let more : ℕ → List ℕ → Talk = λ taken p. replies (IsReply o (standing s Waiting) m (begun ++ p)) (session_from o left taken) in
+    takes_unread (suc left) (by_piece (answer_at_end o begun s m) more) (λ piece.
+    piece_unread (answer_at_end o begun s m) more piece (end_unread o begun s m) (λ n p.
+    replies_unread (IsReply o (standing s Waiting) m (begun ++ p)) (session_from o left n) (λ kept sitting later. from_unread o left n kept sitting later)))
+from_unread o (suc left) (suc taken) begun s m = from_unread o left taken begun s m
 
 pub session_unread :
     {M : Type 0} (o : MachineRelations M) (m : M) (result : Result (Unit {0}) Status) (old new : Seen)

@@ -58,9 +58,9 @@ after_link command left at_break (Err code) = Runs (run_of command left)
 
 -- what a command does after a turn; the flag is whether the turn left the machine at a break
 unfoldable pub after_turn : RunningCommand → Bool → Turn → AfterTurn
-after_turn run at_break (turns.Stepped result_of_put) =
+after_turn run at_break (turns.Stepped told) =
     if nat_eq run.left 0 then Waits
-    else after_step run.command (run.left - 1) at_break result_of_put.outcome
+    else after_step run.command (run.left - 1) at_break told.outcome
 after_turn run at_break (turns.Linked note) =
     after_link run.command run.left at_break note.answer
 after_turn run at_break (turns.Console text) = continue_or_wait run.command run.left at_break

@@ -53,8 +53,8 @@ replies Is on = some Is (on_reply on)
 
 -- answers the line that has begun, at the end of the input; then the session is over
 abbrev pub answer_at_end : {M : Type 0} → MachineRelations M → List ℕ → SessionStateFields → M → Talk
-answer_at_end o activity_after_line s m =
-    replies (IsLastReply o (standing s Waiting) m activity_after_line) (λ kept sitting later. done tt)
+answer_at_end o begun s m =
+    replies (IsLastReply o (standing s Waiting) m begun) (λ kept sitting later. done tt)
 
 -- continues by a piece: an empty one is the end of the input; otherwise by the count of its bytes
 -- less 1, and the piece
@@ -67,14 +67,14 @@ by_piece end more (byte ∷ bytes) = more (length bytes) (byte ∷ bytes)
 -- taken, a session still asks for one: if there is one, the input is too long.
 unfoldable pub session_from :
     {M : Type 0} → MachineRelations M → ℕ → ℕ → List ℕ → SessionStateFields → M → Talk
-session_from o zero zero activity_after_line s m =
-    takes_within 1 (by_piece (answer_at_end o activity_after_line s m) (λ taken piece. too_long))
-session_from o zero (suc taken) activity_after_line s m = too_long
-session_from o (suc left) zero activity_after_line s m =
+session_from o zero zero begun s m =
+    takes_within 1 (by_piece (answer_at_end o begun s m) (λ taken piece. too_long))
+session_from o zero (suc taken) begun s m = too_long
+session_from o (suc left) zero begun s m =
     takes_within (suc left)
-    (by_piece (answer_at_end o activity_after_line s m) (λ taken piece.
-    replies (IsReply o (standing s Waiting) m (activity_after_line ++ piece)) (session_from o left taken)))
-session_from o (suc left) (suc taken) activity_after_line s m = session_from o left taken activity_after_line s m
+    (by_piece (answer_at_end o begun s m) (λ taken piece.
+    replies (IsReply o (standing s Waiting) m (begun ++ piece)) (session_from o left taken)))
+session_from o (suc left) (suc taken) begun s m = session_from o left taken begun s m
 
 -- a session over a machine
 unfoldable pub session : {M : Type 0} → MachineRelations M → M → Talk

@@ -23,8 +23,8 @@ initial_session_state = record { taken = 0; ended = None; breaks = [] }
 -- what a session remembers after a turn: a step adds one to the count, and an end of the run is
 -- kept
 unfoldable pub session_state_after : SessionStateFields → Turn → SessionStateFields
-session_state_after s (Stepped result_of_put) =
-    record { taken = step_count_after s.taken (Stepped result_of_put); ended = s.ended; breaks = s.breaks }
+session_state_after s (Stepped told) =
+    record { taken = step_count_after s.taken (Stepped told); ended = s.ended; breaks = s.breaks }
 session_state_after s (Linked note) = s
 session_state_after s (Console text) = s
 session_state_after s (Ended end) =

@@ -118,12 +118,7 @@ pub(crate) fn after_turn(run: RunningCommand, at_break: bool, turn: &Turn) -> Af
     let RunningCommand { left, command } = run;
     match turn {
         Turn::Stepped(_) if left == 0 => AfterTurn::Waits,
-        Turn::Stepped(result_of_put) => after_step(
-            command,
-            left - 1,
-            at_break,
-            result_of_put.outcome,
-        ),
+        Turn::Stepped(told) => after_step(command, left - 1, at_break, told.outcome),
         Turn::Linked(note) => after_link(command, left, at_break, &note.answer),
         Turn::Console(_) => continue_or_wait(command, left, at_break),
         Turn::Ended(_) | Turn::Full => AfterTurn::Waits,

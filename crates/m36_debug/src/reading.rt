@@ -18,21 +18,21 @@ use m36_step::Stepper;
 use m36_world::World;
 use std::alloc::Global;
 
-/// Answers the whole lines of a piece. `activity_after_line` has the part of a line that came before the piece,
+/// Answers the whole lines of a piece. `begun` has the part of a line that came before the piece,
 /// and afterwards the bytes after the last line feed.
 pub(crate) fn answer_piece<M: Stepper, W: World>(
     alloc: Global,
     piece: &[u8],
-    activity_after_line: &mut Text,
+    begun: &mut Text,
     m: &mut M,
     sitting: &mut SessionState,
     block: &mut Block,
     world: &mut W,
 ) -> LineResult
-    requires unbroken { IsUnbroken activity_after_line.old }
+    requires unbroken { IsUnbroken begun.old }
     requires few { sitting.old.taken + most_steps * length piece.now < 2 ^ 62 }
     ensures says { PieceContract (machine_relations M.regs M.content M.next M.went) result
-        (standing sitting.old Waiting) m.old (activity_after_line.old ++ piece.now) activity_after_line.new sitting.new m.new
+        (standing sitting.old Waiting) m.old (begun.old ++ piece.now) begun.new sitting.new m.new
         (pending block.old (W.seen world.old))
         (pending block.new (W.seen world.new)) }
     ensures taken { sitting.new.taken ≤ sitting.old.taken + most_steps * length piece.now }
@@ -40,20 +40,20 @@ pub(crate) fn answer_piece<M: Stepper, W: World>(
     let mut rest = piece;
     'lines: while let Some(parts) = cut_line(rest) {
         let (end, behind) = parts;
-        match activity_after_line.append(end) {
+        match begun.append(end) {
             Ok(()) => {}
             Err(_) => return LineResult::Starved,
         }
-        match answer(activity_after_line.bytes(), m, sitting, block, world) {
+        match answer(begun.bytes(), m, sitting, block, world) {
             LineResult::Line => {}
             LineResult::Quit => return LineResult::Quit,
             LineResult::Starved => return LineResult::Starved,
             LineResult::Cut => return LineResult::Cut,
         }
-        *activity_after_line = Text::new(alloc);
+        *begun = Text::new(alloc);
         rest = behind;
     }
-    match activity_after_line.append(rest) {
+    match begun.append(rest) {
         Ok(()) => LineResult::Line,
         Err(_) => LineResult::Starved,
     }
@@ -62,7 +62,7 @@ pub(crate) fn answer_piece<M: Stepper, W: World>(
 /// Answers the line that has begun when the input ends, if it is not empty.
 #[tactic(auto, using(crate::proofs::PieceLaws::last))]
 pub(crate) fn answer_last<M: Stepper, W: World>(
-    activity_after_line: &Text,
+    begun: &Text,
     m: &mut M,
     sitting: &mut SessionState,
     block: &mut Block,
@@ -70,12 +70,12 @@ pub(crate) fn answer_last<M: Stepper, W: World>(
 ) -> LineResult
     requires { sitting.old.taken < 2 ^ 62 }
     ensures { LineContract (machine_relations M.regs M.content M.next M.went) result
-        (standing sitting.old Waiting) m.old (open_last_line activity_after_line.now) sitting.new m.new
+        (standing sitting.old Waiting) m.old (open_last_line begun.now) sitting.new m.new
         (pending block.old (W.seen world.old))
         (pending block.new (W.seen world.new)) }
 {
-    if activity_after_line.bytes().is_empty() {
+    if begun.bytes().is_empty() {
         return LineResult::Line;
     }
-    answer(activity_after_line.bytes(), m, sitting, block, world)
+    answer(begun.bytes(), m, sitting, block, world)
 }

@@ -100,28 +100,28 @@ fn put_answers<W: World>(end: LineResult, block: &mut Block, world: &mut W) -> L
 fn reply_piece<M: Stepper, W: World>(
     alloc: Global,
     piece: &[u8],
-    activity_after_line: &mut Text,
+    begun: &mut Text,
     m: &mut M,
     sitting: &mut SessionState,
     block: &mut Block,
     world: &mut W,
 ) -> LineResult
-    requires unbroken { IsUnbroken activity_after_line.old }
+    requires unbroken { IsUnbroken begun.old }
     requires few { sitting.old.taken + most_steps * length piece.now < 2 ^ 62 }
     ensures says { PieceContract (machine_relations M.regs M.content M.next M.went) result
-        (standing sitting.old Waiting) m.old (activity_after_line.old ++ piece.now) activity_after_line.new sitting.new m.new
+        (standing sitting.old Waiting) m.old (begun.old ++ piece.now) begun.new sitting.new m.new
         (pending block.old (W.seen world.old)) (pending block.new (W.seen world.new)) }
     ensures taken { sitting.new.taken ≤ sitting.old.taken + most_steps * length piece.now }
     ensures empty { block.new ≡ [] }
 {
-    let end = answer_piece(alloc, piece, activity_after_line, m, sitting, block, world);
+    let end = answer_piece(alloc, piece, begun, m, sitting, block, world);
     put_answers(end, block, world)
 }
 
 // Answers the line that has begun when the input ends, if it is not empty, and puts its answer.
 #[tactic(auto, using(crate::proofs::HandLaws::handing))]
 fn reply_last<M: Stepper, W: World>(
-    activity_after_line: &Text,
+    begun: &Text,
     m: &mut M,
     sitting: &mut SessionState,
     block: &mut Block,
@@ -129,11 +129,11 @@ fn reply_last<M: Stepper, W: World>(
 ) -> LineResult
     requires { sitting.old.taken < 2 ^ 62 }
     ensures says { LineContract (machine_relations M.regs M.content M.next M.went) result
-        (standing sitting.old Waiting) m.old (open_last_line activity_after_line.now) sitting.new m.new
+        (standing sitting.old Waiting) m.old (open_last_line begun.now) sitting.new m.new
         (pending block.old (W.seen world.old)) (pending block.new (W.seen world.new)) }
     ensures empty { block.new ≡ [] }
 {
-    let end = answer_last(activity_after_line, m, sitting, block, world);
+    let end = answer_last(begun, m, sitting, block, world);
     put_answers(end, block, world)
 }
 
@@ -155,7 +155,7 @@ pub fn debug<M: Stepper, W: World>(
 {
     law_step_limit::<M>();
     let mut sitting = SessionState::new();
-    let mut activity_after_line = Text::new(alloc);
+    let mut begun = Text::new(alloc);
     let mut block = Block::new();
     let mut buffer = [0; PIECE];
     let mut left = BYTES_LIMIT;
@@ -163,19 +163,13 @@ pub fn debug<M: Stepper, W: World>(
         match take_piece(world, left, &mut buffer) {
             Piece::Failed => return Err(SessionFault::ReadFault),
             Piece::End => {
-                return session_result(reply_last(
-                    &activity_after_line,
-                    m,
-                    &mut sitting,
-                    &mut block,
-                    world,
-                ));
+                return session_result(reply_last(&begun, m, &mut sitting, &mut block, world));
             }
             Piece::Got(count) => {
                 match reply_piece(
                     alloc,
                     &buffer[..count],
-                    &mut activity_after_line,
+                    &mut begun,
                     m,
                     &mut sitting,
                     &mut block,
@@ -192,13 +186,7 @@ pub fn debug<M: Stepper, W: World>(
     }
     match take_piece(world, 1, &mut buffer) {
         Piece::Failed => Err(SessionFault::ReadFault),
-        Piece::End => session_result(reply_last(
-            &activity_after_line,
-            m,
-            &mut sitting,
-            &mut block,
-            world,
-        )),
+        Piece::End => session_result(reply_last(&begun, m, &mut sitting, &mut block, world)),
         Piece::Got(_) => Err(SessionFault::TooLong),
     }
 }

@@ -115,12 +115,12 @@ pub(crate) fn put_unknown<W: World>(block: &mut Block, world: &mut W, line: &[u8
 
 // Adds the line of step n, formatted as a whole: used if `push_shown` could not push it.
 #[inline(never)]
-fn put_whole<W: World>(block: &mut Block, world: &mut W, n: u64, result_of_put: &StepRecord) -> Put
-    ensures { PutsPieces result (as_line (line_of n result_of_put.now) ∷ [])
+fn put_whole<W: World>(block: &mut Block, world: &mut W, n: u64, told: &StepRecord) -> Put
+    ensures { PutsPieces result (as_line (line_of n told.now) ∷ [])
         (pending block.old (W.seen world.old))
         (pending block.new (W.seen world.new)) }
 {
-    put_text(block, world, line(n, result_of_put))
+    put_text(block, world, line(n, told))
 }
 
 // Adds the line of step n. `text` keeps an earlier line, and only the parts that differ are
@@ -130,23 +130,23 @@ fn put_step<W: World>(
     block: &mut Block,
     world: &mut W,
     n: u64,
-    result_of_put: &StepRecord,
+    told: &StepRecord,
     text: &mut TraceText,
 ) -> Put
-    ensures { PutsPieces result (as_line (line_of n result_of_put.now) ∷ [])
+    ensures { PutsPieces result (as_line (line_of n told.now) ∷ [])
         (pending block.old (W.seen world.old))
         (pending block.new (W.seen world.new)) }
 {
     let shown = Shown {
-        word: result_of_put.word,
-        at: result_of_put.at,
-        outcome: result_of_put.outcome,
-        ppr: result_of_put.ppr,
+        word: told.word,
+        at: told.at,
+        outcome: told.outcome,
+        ppr: told.ppr,
     };
-    if push_shown(text, n, &shown, &result_of_put.after, block) {
+    if push_shown(text, n, &shown, &told.after, block) {
         return Put::Done;
     }
-    put_whole(block, world, n, result_of_put)
+    put_whole(block, world, n, told)
 }
 
 /// Writes the lines of a turn before which `taken` steps were taken. `text` keeps the line of an
@@ -166,7 +166,7 @@ pub(crate) fn put_turn<W: World>(
         (pending block.new (W.seen world.new)) }
 {
     match turn {
-        Turn::Stepped(result_of_put) => put_step(block, world, taken + 1, result_of_put, text),
+        Turn::Stepped(told) => put_step(block, world, taken + 1, told, text),
         Turn::Linked(note) => put_characters(block, world, link_line(note)),
         Turn::Console(note) => put_characters(block, world, console_line(note)),
         Turn::Ended(end) => put_end(block, world, *end, taken),

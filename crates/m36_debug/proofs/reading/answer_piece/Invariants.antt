@@ -16,7 +16,7 @@ invariant-lines g l =
     let m = g.M.Stepper in
     let o = machine_relations m.regs m.content m.next m.went in
     record {
-      result_of_put : SoFar o (standing l.fn.sitting Waiting) l.fn.m (l.fn.activity_after_line ++ l.piece) (l.activity_after_line ++ l.rest) l.sitting l.m (pending l.fn.block (world.seen l.fn.world)) (pending l.block (world.seen l.world));
-      unbroken : IsUnbroken l.activity_after_line;
+      told : SoFar o (standing l.fn.sitting Waiting) l.fn.m (l.fn.begun ++ l.piece) (l.begun ++ l.rest) l.sitting l.m (pending l.fn.block (world.seen l.fn.world)) (pending l.block (world.seen l.world));
+      unbroken : IsUnbroken l.begun;
       count : l.sitting.taken + most_steps * length l.rest ≤ l.fn.sitting.taken + most_steps * length l.piece;
     }

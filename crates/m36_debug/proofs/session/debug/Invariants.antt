@@ -18,9 +18,9 @@ invariant-pieces g l =
     let o = machine_relations m.regs m.content m.next m.went in
     let seen = g.W.World.seen in
     record {
-      rest : Left o l.left l.activity_after_line l.sitting l.m (session o l.fn.m) (seen l.fn.world) (seen l.world);
-      held : HeldSoFar o l.fn.m l.m (seen l.fn.world) (seen l.world) l.left l.activity_after_line l.sitting;
-      unbroken : IsUnbroken l.activity_after_line;
+      rest : Left o l.left l.begun l.sitting l.m (session o l.fn.m) (seen l.fn.world) (seen l.world);
+      held : HeldSoFar o l.fn.m l.m (seen l.fn.world) (seen l.world) l.left l.begun l.sitting;
+      unbroken : IsUnbroken l.begun;
       empty : l.block ≡ [];
       taken : l.sitting.taken + most_steps * l.left ≤ most_steps * bytes_limit;
     }
