@@ -14,7 +14,6 @@ use Rattle.obj36_parts.specs.Sections.{is_text_section}
 use Rattle.obj36_parts.specs.declared.section.Section.{Section}
 use Rattle.obj36_parts.specs.declared.section.Section.TheVariants.{Text, Linkage, Symbol, Static}
 use Rattle.obj36_parts.specs.declared.definition.Named.{Named}
-use Rattle.obj36_parts.specs.Fields.{LinkFields}
 use Rattle.alm_lines.specs.Arguments.{first_arg, second_arg, symbol_in, terms_in, section_in}
 use Rattle.alm_lines.specs.Spots.{next_line_spot}
 use Rattle.alm_lines.specs.Expressions.{expression_place}
@@ -184,10 +183,6 @@ refusal_of_effect text tables spot line deed.Even = None
 refusal_of_effect text tables spot line deed.Bound = None
 
 -- ---- the lines
-
--- the tables with these links instead of theirs
-abbrev pub with_links : Tables → List LinkFields → Tables
-with_links tables links = record tables { links = links }
 
 -- the first refusal of a line: of its definitions or of its operation
 unfoldable pub line_refusal :

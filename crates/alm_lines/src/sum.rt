@@ -1,6 +1,6 @@
 //! Sums of terms: numbers, and how often each section counts in them.
 
-ghost use Rattle.std.specs.Prelude.{ℕ, ◌≡◌, ◌+◌, ◌-◌, ◌%◌, ◌≤◌, ◌<◌, ◌^◌, ◌&&◌};
+ghost use Rattle.std.specs.Prelude.{◌≡◌, ◌+◌, ◌-◌, ◌%◌, ◌≤◌, ◌<◌, ◌^◌, ◌&&◌};
 ghost use Rattle.alm_lines.specs.Sums.{balance_plus, negated, is_zero, is_one, is_within, half_of};
 ghost use Rattle.alm_lines.specs.Sums.{offset_of, normalized, absolute, unknown_sum, sum_plus};
 ghost use Rattle.alm_lines.specs.Sums.{negated_sum, kind_of, IsAtMost, IsTerm};

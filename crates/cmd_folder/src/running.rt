@@ -2,7 +2,7 @@
 //! is full, at the end, and when a link service runs out of memory. What the console writes is put
 //! before the code makes the next turn.
 
-ghost use Rattle.std.specs.Prelude.{◌≡◌, ◌<◌, ◌+◌, ◌^◌, ◌++◌, Some, [], ◌∷◌};
+ghost use Rattle.std.specs.Prelude.{◌≡◌, ◌<◌, ◌+◌, ◌^◌, ◌++◌, [], ◌∷◌};
 ghost use Rattle.m36_super.specs.declared.next_event.NextEvent.TheVariants.{Step, Link, Print};
 ghost use Rattle.m36_super.specs.SuperFields.{booted_of};
 ghost use Rattle.m36_super.specs.SuperTurn.{IsNoService};

@@ -7,7 +7,7 @@ use Rattle.std.proofs.lemmas.Bool.{ltb-true, ltb-false}
 use Rattle.obj36_parts.specs.PartsFields.{PartsFields}
 use Rattle.m36_relocate.specs.Fields.{ShapeFields, BasesFields}
 use Rattle.obj36_parts.specs.ObjectSegment.{rounded_up_to_even, padded_to_even}
-use Rattle.m36_relocate.specs.Layout.{shape_of, next_bases}
+use Rattle.m36_relocate.specs.Layout.{next_bases}
 use Rattle.m36_relocate.specs.Words.{words_in}
 use Rattle.m36_bind.specs.Components.{PlacedComponentFields, relocation_of}
 use Rattle.m36_bind.specs.Bound.{component_words, with_component_words, statics_end, links_end}

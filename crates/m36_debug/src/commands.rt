@@ -1,9 +1,7 @@
 //! The commands that take turns, and whether they take another one after a turn.
 
-ghost use Rattle.std.specs.Prelude.{ℕ, ◌≡◌, ◌<◌};
-ghost use Rattle.std.specs.List.{list_any};
-ghost use Rattle.m36_debug.specs.Commands.{is_at, is_at_break, takes_another, continue_or_wait};
-ghost use Rattle.m36_debug.specs.Commands.{after_step, after_link, after_turn};
+ghost use Rattle.std.specs.Prelude.{◌≡◌, ◌<◌};
+ghost use Rattle.m36_debug.specs.Commands.{is_at_break, takes_another, continue_or_wait, after_step, after_link, after_turn};
 
 use m36_model::{LinkCode, Outcome, Ppr};
 use m36_step::Turn;

@@ -6,7 +6,3 @@ pub record SinkState : Type 0 where
   pub written : Option (List ℕ)
   pub taken : List (List ℕ)
   pub faults : ℕ
-
--- the state of a sink with these three parts
-abbrev pub sink_state : Option (List ℕ) → List (List ℕ) → ℕ → SinkState
-sink_state written taken faults = record { written = written; taken = taken; faults = faults }
