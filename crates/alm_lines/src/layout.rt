@@ -10,8 +10,10 @@ ghost use Rattle.alm_lines.specs.Refusals.{earlier_refusal, fits_field};
 ghost use Rattle.alm_lines.specs.declared.refusal.ValueField.TheVariants.{Half};
 ghost use Rattle.alm_lines.specs.Layout.{redefinition, with_labels, labels_refusal, defined_symbol};
 ghost use Rattle.alm_lines.specs.Layout.{defined_symbol_refusal, equ_refusal, number_sum, equ_sum};
-ghost use Rattle.alm_lines.specs.Layout.{defined_symbol_sum, with_defined_symbol, own_redefinition, symbols_with_defined, definition_refusal};
-ghost use Rattle.alm_lines.specs.Layout.{over_limit_refusal, symbols_after, refusal_after, symbols_from};
+ghost use Rattle.alm_lines.specs.Layout.{defined_symbol_sum, with_defined_symbol, own_redefinition};
+ghost use Rattle.alm_lines.specs.Layout.{symbols_with_defined, definition_refusal};
+ghost use Rattle.alm_lines.specs.Layout.{over_limit_refusal, symbols_after, refusal_after};
+ghost use Rattle.alm_lines.specs.Layout.{symbols_from};
 ghost use Rattle.alm_lines.specs.Layout.{layout_refusal};
 
 use crate::arguments::{first_symbol, name_at, second_terms};

@@ -59,7 +59,7 @@ module _ (core : List ℕ) (dbr : DbrFields) (words tables : List ℕ) where
   pub record IsWatched (seg : ℕ) : Type 0 where
     pub even : (a : ℕ) → sdw_place core dbr seg ≡ Ok a → is_watched words a ≡ true
     pub odd : (a : ℕ) → sdw_place core dbr seg ≡ Ok a → is_watched words (wrapped_address (a + 1))
-    ≡ true
+        ≡ true
     pub directory : dbr.unpaged ≡ false → is_watched tables (directory_at dbr seg) ≡ true
 
   -- A descriptor may be kept for this segment: it is the one that core has, and the words through
@@ -73,7 +73,7 @@ module _ (core : List ℕ) (dbr : DbrFields) (words tables : List ℕ) where
   pub record IsKeptTableWord (a : ℕ) (p : PtwFields) : Type 0 where
     pub inside : a < length core
     pub finds : (offset : ℕ) → address_in_frame (ptw_at core a) offset
-    ≡ address_in_frame (Some p) offset
+        ≡ address_in_frame (Some p) offset
     pub watches : is_watched tables a ≡ true
 
   -- A page in front: the descriptor of its segment, where its words are in core, that its marks are

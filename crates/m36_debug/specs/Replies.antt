@@ -70,14 +70,16 @@ IsReply o s m text (Breaks written) = RepliesSome o s m text written
 -- ---- the end of the input
 
 -- The line that has begun is answered and is `quit`.
-pub record LastQuits {M : Type 0} (o : MachineRelations M) (s : SessionPoint) (m : M) (begun : List ℕ)
+pub record LastQuits {M : Type 0} (o : MachineRelations M) (s : SessionPoint) (m : M)
+    (begun : List ℕ)
     (written : List (List ℕ)) : Type 0 where
   pub sitting : SessionStateFields
   pub machine : M
   pub happens : EventsLead o s m (open_last_line begun) written (standing sitting Over) machine
 
 -- The line that has begun is answered in part.
-pub record LastBreaks {M : Type 0} (o : MachineRelations M) (s : SessionPoint) (m : M) (begun : List ℕ)
+pub record LastBreaks {M : Type 0} (o : MachineRelations M) (s : SessionPoint) (m : M)
+    (begun : List ℕ)
     (written : List (List ℕ)) : Type 0 where
   pub stands : SessionPoint
   pub machine : M
@@ -85,7 +87,8 @@ pub record LastBreaks {M : Type 0} (o : MachineRelations M) (s : SessionPoint) (
 
 -- this is a reply to the line that has begun when the input ends; there is nothing to answer if it
 -- is empty
-abbrev pub IsLastReply : {M : Type 0} → MachineRelations M → SessionPoint → M → List ℕ → Reply M → Type 0
+abbrev pub IsLastReply :
+    {M : Type 0} → MachineRelations M → SessionPoint → M → List ℕ → Reply M → Type 0
 IsLastReply o s m begun (All written kept sitting m') =
     EventsLead o s m (open_last_line begun) written (standing sitting Waiting) m'
 IsLastReply o s m begun (Quits written) = LastQuits o s m begun written

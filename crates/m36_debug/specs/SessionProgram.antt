@@ -52,7 +52,8 @@ unfoldable pub replies :
 replies Is on = some Is (on_reply on)
 
 -- answers the line that has begun, at the end of the input; then the session is over
-abbrev pub answer_at_end : {M : Type 0} → MachineRelations M → List ℕ → SessionStateFields → M → Talk
+abbrev pub answer_at_end :
+    {M : Type 0} → MachineRelations M → List ℕ → SessionStateFields → M → Talk
 answer_at_end o begun s m =
     replies (IsLastReply o (standing s Waiting) m begun) (λ kept sitting later. done tt)
 

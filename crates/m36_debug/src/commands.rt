@@ -1,7 +1,8 @@
 //! The commands that take turns, and whether they take another one after a turn.
 
 ghost use Rattle.std.specs.Prelude.{◌≡◌, ◌<◌};
-ghost use Rattle.m36_debug.specs.Commands.{is_at_break, takes_another, continue_or_wait, after_step, after_link, after_turn};
+ghost use Rattle.m36_debug.specs.Commands.{is_at_break, takes_another, continue_or_wait};
+ghost use Rattle.m36_debug.specs.Commands.{after_step, after_link, after_turn};
 
 use m36_model::{LinkCode, Outcome, Ppr};
 use m36_step::Turn;

@@ -1,7 +1,9 @@
 //! Catalogs.
 
-ghost use Rattle.std.specs.Prelude.{◌≡◌, ◌<◌, ◌≤◌, ◌^◌, ◌&&◌, length, slice_get, Some, IfOk, IfSome, All};
-ghost use Rattle.m36_dir.specs.Catalog.{catalog_in, catalog_of, CatalogResult, has_name, has_entry_named, find_segment, SetsRights};
+ghost use Rattle.std.specs.Prelude.{◌≡◌, ◌<◌, ◌≤◌, ◌^◌, ◌&&◌, length, slice_get, Some, IfOk};
+ghost use Rattle.std.specs.Prelude.{IfSome, All};
+ghost use Rattle.m36_dir.specs.Catalog.{catalog_in, catalog_of, CatalogResult, has_name};
+ghost use Rattle.m36_dir.specs.Catalog.{has_entry_named, find_segment, SetsRights};
 ghost use Rattle.m36_dir.specs.IsCatalog.{IsCatalog, IsSegment};
 ghost use Rattle.m36_dir.specs.BootLine.{most_frames};
 ghost use Rattle.m36_dir.specs.BootOrder.{most_segments, most_libraries};

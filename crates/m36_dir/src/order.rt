@@ -4,7 +4,15 @@
 ghost use Rattle.std.specs.Prelude.{◌≡◌, ◌+◌, ◌<◌, ◌≤◌, ◌^◌, [], Some, count_by};
 ghost use Rattle.std.specs.List.{list_any};
 ghost use Rattle.m36_dir.specs.BootLine.{parsed_line};
-ghost use Rattle.m36_dir.specs.BootOrder.{is_frames, is_library, is_segment, is_work_or_library, is_segment_or_name, may_follow, is_in_order_after, is_same_entry, entry, directory_after, directory_at_end, entries_of_line, has_entry, is_repeated, is_in_directory, is_parsed_line_in_directory, has_directory, names_no_directory, is_no_gate, brackets_in_order, has_wrong_brackets, name_count_after, name_count_at_end, is_too_many, code_of, has_start_at_end, well_formed_lines};
+ghost use Rattle.m36_dir.specs.BootOrder.{is_frames, is_library, is_segment, is_work_or_library};
+ghost use Rattle.m36_dir.specs.BootOrder.{is_segment_or_name, may_follow, is_in_order_after};
+ghost use Rattle.m36_dir.specs.BootOrder.{is_same_entry, entry, directory_after, directory_at_end};
+ghost use Rattle.m36_dir.specs.BootOrder.{entries_of_line, has_entry, is_repeated, is_in_directory};
+ghost use Rattle.m36_dir.specs.BootOrder.{is_parsed_line_in_directory, has_directory};
+ghost use Rattle.m36_dir.specs.BootOrder.{names_no_directory, is_no_gate, brackets_in_order};
+ghost use Rattle.m36_dir.specs.BootOrder.{has_wrong_brackets, name_count_after, name_count_at_end};
+ghost use Rattle.m36_dir.specs.BootOrder.{is_too_many, code_of, has_start_at_end};
+ghost use Rattle.m36_dir.specs.BootOrder.{well_formed_lines};
 ghost use Rattle.m36_text.specs.Lines.{last_of};
 
 use crate::boot_code::BootCode;

@@ -1,7 +1,11 @@
 //! The places of the words of components in the bound object.
 
 ghost use Rattle.std.specs.Prelude.{◌≡◌, ◌+◌, ◌*◌, ◌^◌, ◌<◌, ◌≤◌};
-ghost use Rattle.m36_relocate.specs.Layout.{denoted, denoted_in_version_1, denoted_in_version_2, denoted_past_head, denoted_in_linkage, IsBelow, first_link, first_static, section_place, static_word_place, bound_place_of, relocated_place, static_number, bound_number_of, relocated_number};
+ghost use Rattle.m36_relocate.specs.Layout.{denoted, denoted_in_version_1, denoted_in_version_2};
+ghost use Rattle.m36_relocate.specs.Layout.{denoted_past_head, denoted_in_linkage, IsBelow};
+ghost use Rattle.m36_relocate.specs.Layout.{first_link, first_static, section_place};
+ghost use Rattle.m36_relocate.specs.Layout.{static_word_place, bound_place_of, relocated_place};
+ghost use Rattle.m36_relocate.specs.Layout.{static_number, bound_number_of, relocated_number};
 ghost use Rattle.obj36_parts.specs.ObjectSegment.{rounded_up_to_even, head_words};
 
 use obj36_parts::Section;

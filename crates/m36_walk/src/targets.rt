@@ -6,7 +6,8 @@ ghost use Rattle.m36_desc.specs.Access.{unless_violation, first_violation, has_o
 ghost use Rattle.m36_desc.specs.Access.{ordered_rows, transfer_rows, call_rows, ring_after_call};
 ghost use Rattle.m36_model.specs.Core.{core_store};
 ghost use Rattle.m36_model.specs.Place.{core_sdw};
-ghost use Rattle.m36_model.specs.Store.{is_within_bound, when_ordered, bound_only, spots_of, place, segment_r1};
+ghost use Rattle.m36_model.specs.Store.{is_within_bound, when_ordered, bound_only, spots_of, place};
+ghost use Rattle.m36_model.specs.Store.{segment_r1};
 ghost use Rattle.m36_walk.specs.ReferenceResult.{violation_as_fault, reference_result};
 ghost use Rattle.m36_walk.specs.Runs.{IsInCore, places_as_fault};
 ghost use Rattle.m36_walk.specs.Served.{sdw_in, result_at_place, result_at_target, ok_map};
