@@ -28,7 +28,7 @@ same_text (x ∷ a) (y ∷ b) e =
     let first : y ≡ x = eqb-true y x both.0 in
     λ i. sym first i ∷ same_text a b both.1 i
 
-itself : (a : List ℕ) → is_text a a ≡ true
+pub itself : (a : List ℕ) → is_text a a ≡ true
 itself [] = refl
 itself (x ∷ a) = and_from (nat_eq x x) (is_text a a) (eq-eqb x x refl) (itself a)
 
@@ -184,7 +184,7 @@ some_segment dir (line.Start start ∷ lines) e =
     let one = count_cons is_segment (line.Start start) lines in
     omega (arith, one, some_segment dir lines e)
 
-segments_length : (dirs : List (List ℕ)) (lines : List BootLine) → length (segments_in dirs lines) ≡ count_by is_segment lines
+pub segments_length : (dirs : List (List ℕ)) (lines : List BootLine) → length (segments_in dirs lines) ≡ count_by is_segment lines
 unfolding segments_in
 segments_length dirs [] = refl
 segments_length dirs (line.Segment given ∷ lines) =
@@ -206,7 +206,7 @@ segments_length dirs (line.Start start ∷ lines) =
     let one = count_cons is_segment (line.Start start) lines in
     omega (arith, one, segments_length dirs lines)
 
-libraries_length : (dirs : List (List ℕ)) (lines : List BootLine) → length (libraries_in dirs lines) ≡ count_by is_library lines
+pub libraries_length : (dirs : List (List ℕ)) (lines : List BootLine) → length (libraries_in dirs lines) ≡ count_by is_library lines
 unfolding libraries_in
 libraries_length dirs [] = refl
 libraries_length dirs (line.Library dir ∷ lines) =

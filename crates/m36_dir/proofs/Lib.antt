@@ -7,3 +7,6 @@ pub mod TextLoops
 pub mod CleanLines
 pub mod LineBounds
 pub mod Kept
+pub mod Finding
+pub mod DirectoriesOnce
+pub mod WordsOfModes

@@ -10,7 +10,8 @@
 -- Single spaces separate the words of a line. MODE is one or more of the letters r, e, w and p in
 -- this order, or `null`. DIR is 1 to 64 characters of `A-Z a-z 0-9 _ . >`. NAME, FILE and ENTRY are
 -- names of files.
-use Rattle.std.specs.Prelude.{ℕ, ◌+◌, Bool, true, false, ◌||◌, ◌==◌, if◌then◌else◌, List, [], ◌∷◌}
+use Rattle.std.specs.Prelude.{ℕ, ◌≡◌, ◌+◌, Bool, true, false, ◌||◌, ◌==◌, if◌then◌else◌, List, []}
+use Rattle.std.specs.Prelude.{◌∷◌}
 use Rattle.std.specs.Prelude.{take, drop, codes, Option, Some, None, option_map}
 use Rattle.std.specs.List.{position}
 use Rattle.m36_text.specs.Texts.{is_text, is_name_character, is_run_of, is_file_name}
@@ -94,6 +95,37 @@ unfoldable pub mode_of : List ℕ → Option Mode
 mode_of [] = None
 mode_of (c ∷ word) =
     if is_text (codes "null") (c ∷ word) then Some no_mode else mode_of_letters (c ∷ word)
+
+-- the word of a kind
+abbrev pub kind_word : SegKind → List ℕ
+kind_word Object = codes "object"
+kind_word Gate = codes "gate"
+kind_word Plain = codes "data"
+
+-- letters with one more before them, or without it
+abbrev pub with_letter : Bool → ℕ → List ℕ → List ℕ
+with_letter true letter letters = letter ∷ letters
+with_letter false letter letters = letters
+
+-- the letters of a mode, in the order r, e, w, p
+abbrev pub mode_letters : Mode → List ℕ
+mode_letters mode =
+    with_letter mode.readable 114
+    (with_letter mode.executable 101
+    (with_letter mode.writable 119 (with_letter mode.privileged 112 [])))
+
+-- these letters, or `null` if there is none
+abbrev pub letters_or_null : List ℕ → List ℕ
+letters_or_null [] = codes "null"
+letters_or_null (c ∷ letters) = c ∷ letters
+
+-- the word of a mode: its letters, or `null` for no right at all
+abbrev pub mode_word : Mode → List ℕ
+mode_word mode = letters_or_null (mode_letters mode)
+
+-- Each mode is parsed from its word.
+abbrev pub ModesHaveWords : Type 0
+ModesHaveWords = (mode : Mode) → mode_of (mode_word mode) ≡ Some mode
 
 -- ---- the words after the first word of a line
 

@@ -1,7 +1,8 @@
 -- The catalog that a boot text describes, or the fault of the text.
-use Rattle.std.specs.Prelude.{ℕ, ◌≡◌, Bool, ◌&&◌, nat_eq, List, [], ◌∷◌, ◌++◌}
-use Rattle.std.specs.Prelude.{position, slice_get, slice_set, Option, Some, unwrap_or, option_map}
-use Rattle.std.specs.Prelude.{Result}
+use Rattle.std.specs.Prelude.{ℕ, ◌≡◌, Bool, false, ◌&&◌, nat_eq, List, [], ◌∷◌, ◌++◌, take, All}
+use Rattle.std.specs.Prelude.{Contains}
+use Rattle.std.specs.Prelude.{position, slice_get, slice_set, Option, Some, None, unwrap_or}
+use Rattle.std.specs.Prelude.{option_map, Result}
 use Rattle.std.specs.Prelude.{Ok, Err, IfSome}
 use Rattle.std.specs.List.{list_any}
 use Rattle.m36_text.specs.Texts.{is_text}
@@ -172,6 +173,21 @@ has_entry_named dir name segment = nat_eq segment.dir dir && has_name name segme
 -- the number of the segment of a directory that has a name, if there is one
 unfoldable pub find_segment : CatalogFields → ℕ → List ℕ → Option ℕ
 find_segment catalog dir name = position (λ s. has_entry_named dir name s) catalog.segments
+
+-- segment i is in the directory and has the name, and no segment before it has both
+pub record IsFirstNamed (segments : List SegmentFields) (dir : ℕ) (name : List ℕ)
+    (i : ℕ) : Type 0 where
+  pub segment : SegmentFields
+  pub at : slice_get segments i ≡ Some segment
+  pub inside : segment.dir ≡ dir
+  pub named : Contains segment.names name
+  pub first : All (λ s. has_entry_named dir name s ≡ false) (take i segments)
+
+-- The answer is the first segment of the directory that has the name. If there is no answer, no
+-- segment of the directory has it.
+abbrev pub FindsFirst : List SegmentFields → ℕ → List ℕ → Option ℕ → Type 0
+FindsFirst segments dir name (Some i) = IsFirstNamed segments dir name i
+FindsFirst segments dir name None = All (λ s. has_entry_named dir name s ≡ false) segments
 
 -- a segment with other rights to read, execute and write; nothing else changes
 abbrev pub with_rights : SegmentFields → Bool → Bool → Bool → SegmentFields

@@ -1,12 +1,14 @@
 -- The invariant of catalogs, whatever rights are set.
-use Rattle.std.specs.Prelude.{ℕ, ◌≡◌, ◌<◌, ◌≤◌, true, List, [], Ok, length, map, All}
+use Rattle.std.specs.Prelude.{ℕ, ◌≡◌, ◌<◌, ◌≤◌, true, List, [], Some, Ok, length, map, slice_get}
+use Rattle.std.specs.Prelude.{All, Contains}
 use Rattle.std.specs.List.{flat_map}
+use Rattle.m36_text.specs.Texts.{is_text}
 use Rattle.m36_text.specs.Once.{are_distinct_by}
 use Rattle.m36_dir.specs.Fields.{SegmentFields}
 use Rattle.m36_dir.specs.BootLine.{most_frames}
 use Rattle.m36_dir.specs.BootOrder.{Entry, entry, is_same_entry, entries_from, well_formed_lines}
 use Rattle.m36_dir.specs.BootOrder.{most_segments, most_names, most_libraries}
-use Rattle.m36_dir.specs.Catalog.{CatalogFields, directory_in, catalog_of}
+use Rattle.m36_dir.specs.Catalog.{CatalogFields, directory_in, catalog_of, find_segment}
 
 -- a segment of a catalog with this many directories
 pub record IsSegment (directories : ℕ) (s : SegmentFields) : Type 0 where
@@ -49,3 +51,16 @@ abbrev pub NamesOnce : Type 0
 NamesOnce =
     (text : List ℕ) (c : CatalogFields) → catalog_of text ≡ Ok c
     → are_distinct_by is_same_entry (entries_in c.directories c.segments) ≡ true
+
+-- No directory of a catalog that was read occurs twice, so a directory has one number.
+abbrev pub DirectoriesOnce : Type 0
+DirectoriesOnce =
+    (text : List ℕ) (c : CatalogFields) → catalog_of text ≡ Ok c
+    → are_distinct_by is_text c.directories ≡ true
+
+-- In a catalog that was read, each segment is found by each of its names.
+abbrev pub FoundByEachName : Type 0
+FoundByEachName =
+    (text : List ℕ) (c : CatalogFields) → catalog_of text ≡ Ok c → (i : ℕ) (s : SegmentFields)
+    → slice_get c.segments i ≡ Some s → (name : List ℕ) → Contains s.names name
+    → find_segment c s.dir name ≡ Some i

@@ -1,15 +1,16 @@
 //! Makes a catalog of the lines of a boot text, if no line has a code.
 
-ghost use Rattle.std.specs.Prelude.{◌≡◌, ◌+◌, ◌≤◌, ◌<◌, [], ◌∷◌, ◌++◌, IfOk, IfSome, OnOk, length};
-ghost use Rattle.std.specs.Prelude.{drop, slice_get, option_map};
+ghost use Rattle.std.specs.Prelude.{◌≡◌, ◌+◌, ◌≤◌, ◌<◌, true, [], ◌∷◌, ◌++◌, Some, IfOk, IfSome};
+ghost use Rattle.std.specs.Prelude.{OnOk, Contains, length, drop, slice_get, count_by, option_map};
 ghost use Rattle.std.specs.List.{list_any, position};
 ghost use Rattle.m36_text.specs.Texts.{is_text};
 ghost use Rattle.m36_text.specs.Lines.{last_of};
+ghost use Rattle.m36_text.specs.Once.{are_distinct_by};
 ghost use Rattle.m36_dir.specs.Catalog.{with_directory_of, directories_from, directory_number_in};
 ghost use Rattle.m36_dir.specs.Catalog.{names_after, segment_with, segment_of, segments_in};
 ghost use Rattle.m36_dir.specs.Catalog.{library_of, libraries_in, frames_of, working_directory_of};
 ghost use Rattle.m36_dir.specs.Catalog.{no_start, start_of};
-ghost use Rattle.m36_dir.specs.BootOrder.{most_segments};
+ghost use Rattle.m36_dir.specs.BootOrder.{most_segments, is_segment, is_library};
 
 use crate::boot_line::{BootLine, SegmentLine};
 use crate::directory::Directory;
@@ -45,7 +46,8 @@ fn add_directory(dirs: &mut Vec<Directory>, line: &BootLine) -> Result<(), NoMem
 
 /// The directories of the segment lines, each once, in the order in which they first occur.
 pub(crate) fn directories_in(alloc: Global, lines: &[BootLine]) -> Result<Vec<Directory>, NoMemory>
-    ensures { IfOk result (λ dirs. dirs.items ≡ directories_from [] lines.now) }
+    ensures value { IfOk result (λ dirs. dirs.items ≡ directories_from [] lines.now) }
+    ensures once { IfOk result (λ dirs. are_distinct_by is_text dirs.items ≡ true) }
 {
     let mut dirs = Vec::new(alloc);
     for line in lines {
@@ -66,7 +68,8 @@ fn place_of(dirs: &[Directory], dir: &[u8]) -> Option<usize>
 #[tactic(auto, unfolding(crate::specs::Catalog::directory_number_in))]
 pub(crate) fn directory_number_in(dirs: &[Directory], dir: &[u8]) -> u16
     requires { length dirs.now ≤ most_segments }
-    ensures { result ≡ directory_number_in dirs.now dir.now }
+    ensures value { result ≡ directory_number_in dirs.now dir.now }
+    ensures inverse { Contains dirs.now dir.now → slice_get dirs.now result ≡ Some dir.now }
 {
     match place_of(dirs, dir) {
         Some(place) => place as u16,
@@ -144,14 +147,16 @@ fn lines_after(lines: &[BootLine], i: usize) -> &[BootLine]
     &lines[i + 1..]
 }
 
-/// The segments, in the order of their lines.
+/// The segments, one for each segment line, in the order of the lines.
 pub(crate) fn segments_in(
     alloc: Global,
     dirs: &[Directory],
     lines: &[BootLine],
 ) -> Result<Vec<Segment>, NoMemory>
     requires { length dirs.now ≤ most_segments }
-    ensures { IfOk result (λ segments. segments.items ≡ segments_in dirs.now lines.now) }
+    ensures value { IfOk result (λ segments. segments.items ≡ segments_in dirs.now lines.now) }
+    ensures count { IfOk result (λ segments.
+        length segments.items ≡ count_by is_segment lines.now) }
 {
     let mut segments = Vec::new(alloc);
     for (i, line) in lines.iter().enumerate() {
@@ -181,14 +186,16 @@ fn add_library(
     }
 }
 
-/// The libraries, in the order of their lines.
+/// The libraries, one for each library line, in the order of the lines.
 pub(crate) fn libraries_in(
     alloc: Global,
     dirs: &[Directory],
     lines: &[BootLine],
 ) -> Result<Vec<u16>, NoMemory>
     requires { length dirs.now ≤ most_segments }
-    ensures { IfOk result (λ libraries. libraries.items ≡ libraries_in dirs.now lines.now) }
+    ensures value { IfOk result (λ libraries. libraries.items ≡ libraries_in dirs.now lines.now) }
+    ensures count { IfOk result (λ libraries.
+        length libraries.items ≡ count_by is_library lines.now) }
 {
     let mut libraries = Vec::new(alloc);
     for line in lines {

@@ -1,11 +1,13 @@
 //! Catalogs.
 
-ghost use Rattle.std.specs.Prelude.{◌≡◌, ◌<◌, ◌≤◌, ◌^◌, ◌&&◌, length, slice_get, Some, IfOk};
-ghost use Rattle.std.specs.Prelude.{IfSome, All};
+ghost use Rattle.std.specs.Prelude.{ℕ, ◌≡◌, ◌<◌, ◌≤◌, ◌^◌, Bool, ◌&&◌, nat_eq, length, slice_get};
+ghost use Rattle.std.specs.Prelude.{Some, IfOk, IfSome, All};
+ghost use Rattle.std.specs.List.{list_any, position};
+ghost use Rattle.m36_text.specs.Texts.{is_text};
 ghost use Rattle.m36_dir.specs.Catalog.{catalog_in, catalog_of, CatalogResult, has_name};
-ghost use Rattle.m36_dir.specs.Catalog.{has_entry_named, find_segment, SetsRights};
+ghost use Rattle.m36_dir.specs.Catalog.{has_entry_named, find_segment, FindsFirst, SetsRights};
 ghost use Rattle.m36_dir.specs.IsCatalog.{IsCatalog, IsSegment};
-ghost use Rattle.m36_dir.specs.BootLine.{most_frames};
+ghost use Rattle.m36_dir.specs.BootLine.{most_frames, directory_limit};
 ghost use Rattle.m36_dir.specs.BootOrder.{most_segments, most_libraries};
 
 use crate::boot_line::BootLine;
@@ -89,6 +91,16 @@ fn is_segment_named_in(segment: &Segment, dir: u16, name: &[u8]) -> bool
     segment.dir == dir && has_name(name, segment)
 }
 
+// The index of the first segment that is in a directory and has a name.
+fn place_of_name(segments: &[Segment], dir: u16, name: &[u8]) -> Option<usize>
+    ensures place { result ≡ position (has_entry_named dir name.now) segments.now }
+    ensures inside { IfSome result (λ i. i < length segments.now) }
+{
+    segments
+        .iter()
+        .position(|segment| is_segment_named_in(segment, dir, name))
+}
+
 impl Catalog {
     /// Parses a boot text. The error is the first line that has a code, counted from 1, with the
     /// least code of that line, or `NoMemory`. The text has fewer than 2^32 bytes.
@@ -124,22 +136,22 @@ impl Catalog {
         &self.segments[i]
     }
 
-    /// The number of the segment, counted from 0, that has a name in a directory. None exactly if
-    /// no segment has it.
+    /// The number of the first segment, counted from 0, that is in a directory and has a name. None
+    /// exactly if no segment of the directory has it.
     #[tactic(auto, unfolding(crate::specs::Catalog::find_segment))]
     pub fn find(&self, dir: u16, name: &[u8]) -> Option<usize>
         ensures value { result ≡ find_segment self.now dir name.now }
+        ensures first { FindsFirst self.now.segments dir name.now result }
         ensures inside { IfSome result (λ i. i < length self.now.segments) }
     {
-        self.segments
-            .iter()
-            .position(|segment| is_segment_named_in(segment, dir, name))
+        place_of_name(&self.segments, dir, name)
     }
 
-    /// The name of a directory, by its number.
+    /// The name of a directory, by its number: at most 64 bytes.
     pub fn directory(&self, d: u16) -> &[u8]
         requires { d < length self.now.directories }
-        ensures { slice_get self.now.directories d ≡ Some result.now }
+        ensures value { slice_get self.now.directories d ≡ Some result.now }
+        ensures fits { length result.now ≤ directory_limit }
     {
         self.directories[d as usize].bytes()
     }

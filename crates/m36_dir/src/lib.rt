@@ -4,9 +4,9 @@
 //! `Catalog::read` returns the one catalog that a text describes, or the first line of the text
 //! that has a code, with the least code of that line. It fails with `NoMemory` if memory runs out.
 //! Each catalog has the invariant that `Catalog` states. In a catalog that was read, no name occurs
-//! twice in a directory. `find` returns the segment of a directory that has a name, and None
-//! exactly if there is none. `is_directory`, `name_of` and `mode_of` parse words that other texts
-//! have as well.
+//! twice in a directory, and each segment is found by each of its names. `find` returns the first
+//! segment of a directory that has a name, and None exactly if there is none. `is_directory`,
+//! `name_of` and `mode_of` parse words that other texts have as well.
 //!
 //! Source: the boot text is this project's own. Directories, names and search are those of the
 //! Multics Programmers' Manual AG91 (storage system), ring brackets those of AL39.

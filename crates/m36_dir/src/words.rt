@@ -1,10 +1,10 @@
 //! The words of a line of a boot text. None is a word that does not have the expected form.
 
-ghost use Rattle.std.specs.Prelude.{◌≡◌, ◌≤◌, true, length};
+ghost use Rattle.std.specs.Prelude.{◌≡◌, ◌≤◌, true, length, All, IfSome};
 ghost use Rattle.std.specs.List.{list_all};
 ghost use Rattle.m36_dir.specs.BootLine.{is_directory_character, is_directory, directory_of};
-ghost use Rattle.m36_dir.specs.BootLine.{name_of, kind_of, strip_letter, mode_of_letters, mode_of};
-ghost use Rattle.m36_dir.specs.BootLine.{directory_limit};
+ghost use Rattle.m36_dir.specs.BootLine.{name_of, kind_of, kind_word, strip_letter};
+ghost use Rattle.m36_dir.specs.BootLine.{mode_of_letters, mode_of, mode_word, directory_limit};
 
 use crate::directory::Directory;
 use crate::segment::{Mode, SegKind};
@@ -30,7 +30,9 @@ fn has_directory_characters(word: &[u8]) -> bool
 /// Whether a word is the name of a directory: 1 to 64 letters, digits, `_`, `.` and `>`.
 pub fn is_directory(word: &[u8]) -> bool
     ensures value { result ≡ is_directory word.now }
+    ensures some { result ≡ true → 1 ≤ length word.now }
     ensures fits { result ≡ true → length word.now ≤ directory_limit }
+    ensures characters { result ≡ true → All (λ c. is_directory_character c ≡ true) word.now }
 {
     if word.is_empty() || word.len() > LONGEST_DIRECTORY {
         return false;
@@ -38,9 +40,11 @@ pub fn is_directory(word: &[u8]) -> bool
     has_directory_characters(word)
 }
 
-// Parses the name of a directory.
+// Parses the name of a directory, which is the word itself, and not empty.
 pub(crate) fn directory_of(word: &[u8]) -> Option<Directory>
-    ensures { result ≡ directory_of word.now }
+    ensures value { result ≡ directory_of word.now }
+    ensures same { IfSome result (λ dir. dir ≡ word.now) }
+    ensures some { IfSome result (λ dir. 1 ≤ length dir) }
 {
     if is_directory(word) {
         Directory::new(word)
@@ -49,9 +53,12 @@ pub(crate) fn directory_of(word: &[u8]) -> Option<Directory>
     }
 }
 
-/// Parses the name of a segment, an entry or a file. None if the word is not one.
+/// Parses the name of a segment, an entry or a file, which is the word itself, and not empty. None
+/// if the word is not one.
 pub fn name_of(word: &[u8]) -> Option<Name>
-    ensures { result ≡ name_of word.now }
+    ensures value { result ≡ name_of word.now }
+    ensures same { IfSome result (λ name. name ≡ word.now) }
+    ensures some { IfSome result (λ name. 1 ≤ length name) }
 {
     if is_file_name(word) {
         Name::new(word)
@@ -60,9 +67,10 @@ pub fn name_of(word: &[u8]) -> Option<Name>
     }
 }
 
-// Parses the kind of a segment.
+// Parses the kind of a segment. Each kind has one word.
 pub(crate) fn kind_of(word: &[u8]) -> Option<SegKind>
-    ensures { result ≡ kind_of word.now }
+    ensures value { result ≡ kind_of word.now }
+    ensures inverse { IfSome result (λ kind. word.now ≡ kind_word kind) }
 {
     if word == b"object".as_slice() {
         return Some(SegKind::Object);
@@ -107,10 +115,11 @@ fn mode_of_letters(letters: &[u8]) -> Option<Mode>
 }
 
 /// Parses the mode of a segment: one or more of the letters r, e, w and p in this order, or `null`.
-/// None if the word is neither.
+/// None if the word is neither. Each mode has one word.
 #[tactic(auto, unfolding(crate::specs::BootLine::mode_of))]
 pub fn mode_of(word: &[u8]) -> Option<Mode>
-    ensures { result ≡ mode_of word.now }
+    ensures value { result ≡ mode_of word.now }
+    ensures inverse { IfSome result (λ mode. word.now ≡ mode_word mode) }
 {
     if word.is_empty() {
         return None;
