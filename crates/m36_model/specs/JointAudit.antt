@@ -61,7 +61,7 @@ pub record IsJointTable (core : List ℕ) (dbrs : List DbrFields) (a : ℕ) : Ty
 -- two words of segments are the same word of the same segment
 pub record AreSameWord (core : List ℕ) (dbr other : DbrFields)
     (seg w other_seg other_w : ℕ) : Type 0 where
-  pub descriptor_entry : AreSame core dbr other seg other_seg
+  pub segment : AreSame core dbr other seg other_seg
   pub word : w ≡ other_w
 
 -- No segment word of one process is at the core address of one of another, unless they are the same
