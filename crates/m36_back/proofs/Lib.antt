@@ -1,1 +1,2 @@
+pub mod Hurried
 pub mod KeptLaws
