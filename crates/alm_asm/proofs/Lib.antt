@@ -30,3 +30,4 @@ pub mod DefinitionsCounted
 pub mod CountsFit
 pub mod SeenLaws
 pub mod LinkPlaces
+pub mod SameSections

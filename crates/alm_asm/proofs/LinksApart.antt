@@ -1,5 +1,5 @@
 -- No two links are the same.
-use Rattle.std.proofs.Common.{◌≡◌, ℕ, Bool, true, false, cond, not, ◌&&◌, List, [], ◌∷◌, ◌++◌, Option, Some, None, refl, ap, ◌∙◌}
+use Rattle.std.proofs.Common.{◌≡◌, ℕ, Bool, true, false, cond, not, ◌&&◌, List, [], ◌∷◌, ◌++◌, Option, Some, None, refl, sym, ap, ◌∙◌}
 use Rattle.std.specs.List.{list_any}
 use Rattle.std.proofs.lemmas.Bool.{and_parts, and_from, not-true, or_parts, or_from}
 use Rattle.std.proofs.lemmas.Cmp.{nat_eq_equiv, nat_list_eq_equiv}
@@ -58,3 +58,13 @@ no_links = refl
 
 pub links_apart : (text : List ℕ) (symbols : List (List ℕ × Sum)) (spot : LocationCounter) (lines : List Line36) → are_distinct_links (links_from text symbols [] spot lines) ≡ true
 links_apart text symbols spot lines = from_apart text symbols [] spot lines no_links
+
+-- links that lack none of the lines
+pub apart_at_end : (text : List ℕ) (symbols : List (List ℕ × Sum)) (old links : List LinkFields) (first spot : LocationCounter) (lines rest : List Line36)
+    → rest ≡ [] → links_from text symbols links spot rest ≡ links_from text symbols old first lines
+    → are_distinct_links old ≡ true → are_distinct_links links ≡ true
+unfolding links_from
+apart_at_end text symbols old links first spot lines rest none whole apart =
+    let all : links ≡ links_from text symbols old first lines =
+    sym (ap (λ (ls : List Line36). links_from text symbols links spot ls) none) ∙ whole in
+    ap are_distinct_links all ∙ from_apart text symbols old first lines apart

@@ -1,5 +1,6 @@
 -- The refusal of a line depends only on the links up to it: those of later lines change no index.
-use Rattle.std.proofs.Common.{◌≡◌, ℕ, ◌+◌, ◌*◌, ◌<◌, Bool, true, false, cond, not, ◌||◌, List, [], ◌∷◌, ◌++◌, length, Option, Some, None, refl, sym, ap, ◌∙◌, arith, length-append}
+use Rattle.std.proofs.Common.{◌≡◌, ℕ, ◌+◌, ◌*◌, ◌<◌, ◌≤◌, Bool, true, false, cond, not, ◌||◌, List, [], ◌∷◌, ◌++◌, length, Option, Some, None, refl, sym, ap, ◌∙◌, arith, length-append}
+use Rattle.std.specs.Prelude.{unwrap_or}
 use Rattle.std.specs.List.{list_any, position, position_or_len}
 use Rattle.std.proofs.lemmas.Bool.{lt-ltb}
 use Rattle.alm_parse.specs.declared.deed.LineEffect.TheVariants as deed
@@ -10,7 +11,7 @@ use Rattle.alm_lines.specs.Arguments.{first_arg}
 use Rattle.alm_lines.specs.Spots.{next_line_spot}
 use Rattle.alm_lines.specs.SpotFields.{LocationCounter}
 use Rattle.alm_lines.specs.declared.sum.Sum.{Sum}
-use Rattle.alm_asm.specs.Links.{operand_args, link_in, with_link, links_after, links_from}
+use Rattle.alm_asm.specs.Links.{operand_args, link_in, with_link, links_after, links_from, KeepsIndexes, offset_of_link_in}
 use Rattle.alm_asm.proofs.LinksStanding.{stays_with}
 
 -- ---- the first that passes
@@ -68,3 +69,25 @@ same_below text symbols l links spot (line ∷ lines) e =
     let given = link_in text symbols spot (first_arg (operand_args line.deed line.args)) in
     same_below text symbols l (links_after text symbols links spot line) (next_line_spot text spot line) lines (stays_with l links given e)
     ∙ same_with l links given e
+
+-- Links that lack none of the lines keep the indexes of those before them.
+pub kept_at_end : (text : List ℕ) (symbols : List (List ℕ × Sum)) (old links : List LinkFields) (first spot : LocationCounter) (lines rest : List Line36)
+    → rest ≡ [] → links_from text symbols links spot rest ≡ links_from text symbols old first lines
+    → KeepsIndexes old links
+unfolding links_from
+kept_at_end text symbols old links first spot lines rest none whole = λ link has.
+    let all : links ≡ links_from text symbols old first lines =
+    sym (ap (λ (ls : List Line36). links_from text symbols links spot ls) none) ∙ whole in
+    ap (position (same_link link)) all ∙ same_below text symbols link old first lines has
+
+-- The offset of a link of the list is within the words of the links.
+pub offset_within : (links : List LinkFields) (first : ℕ) (link : LinkFields) (o : ℕ) → o ≡ offset_of_link_in links first link
+    → list_any (same_link link) links ≡ true → o + 2 ≤ first + 2 * length links
+unfolding offset_of_link_in
+offset_within links first link o e has =
+    let p : LinkFields → Bool = same_link link in
+    let at = inside p links has in
+    let place : position p links ≡ Some (position_or_len p links) =
+    ap (λ b. cond b (Some (position_or_len p links)) None) (lt-ltb (position_or_len p links) (length links) at) in
+    let is : o ≡ first + 2 * position_or_len p links = e ∙ ap (λ (x : Option ℕ). first + 2 * unwrap_or x 0) place in
+    omega (arith, at, is)

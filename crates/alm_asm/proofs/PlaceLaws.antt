@@ -104,6 +104,16 @@ pub places_count : (text : List ℕ) (tables : Tables) (section : Section) (abov
     → count_in section (end_of text start above) ≡ length (words_from text tables section [] start above)
 places_count text tables section above p = all_counted section text tables [] start above p (starts_empty section)
 
+-- words that lack none of the lines are as many as are counted at their end
+pub words_counted : (text : List ℕ) (tables : Tables) (section : Section) (lines : List Line36) (words : List ℕ) (spot : LocationCounter) (rest : List Line36)
+    → rest ≡ [] → words_from text tables section words spot rest ≡ words_from text tables section [] start lines
+    → can_have_words section ≡ true → length words ≡ count_in section (end_of text start lines)
+unfolding words_from
+words_counted text tables section lines words spot rest none whole can =
+    let all : words ≡ words_from text tables section [] start lines =
+    sym (ap (λ (ls : List Line36). words_from text tables section words spot ls) none) ∙ whole in
+    ap length all ∙ sym (places_count text tables section lines can)
+
 -- the size of a line is the number of words that it places
 sized_by : (text : List ℕ) (tables : Tables) (spot : LocationCounter) (arguments : List Arg) (d : LineEffect) → size_of d arguments (place spot) ≡ length (words_of_effect text tables spot arguments d)
 sized_by text tables spot arguments deed.Nothing = refl

@@ -1,5 +1,5 @@
 -- Links: the external operands of instructions, each once, in the order of their first use.
-use Rattle.std.specs.Prelude.{ℕ, ◌%◌, ◌^◌, List, [], ◌∷◌, Option, Some, None, unwrap_or}
+use Rattle.std.specs.Prelude.{ℕ, ◌≡◌, ◌%◌, ◌^◌, true, List, [], ◌∷◌, Option, Some, None, unwrap_or}
 use Rattle.std.specs.Prelude.{if◌then◌else◌}
 use Rattle.std.specs.List.{position}
 use Rattle.m36_text.specs.Once.{appended_unless}
@@ -122,6 +122,12 @@ links_from text symbols links spot [] = links
 links_from text symbols links spot (line ∷ lines) =
     links_from text symbols (links_after text symbols links spot line)
     (next_line_spot text spot line) lines
+
+-- Each link of the first list has the same index in the second.
+abbrev pub KeepsIndexes : List LinkFields → List LinkFields → Type 0
+KeepsIndexes old new =
+    (link : LinkFields) → has_link link old ≡ true
+    → position (same_link link) new ≡ position (same_link link) old
 
 -- ---- the place of a link
 

@@ -1,9 +1,9 @@
 //! Links: the external operands of instructions, each once, in the order of their first use.
 
-ghost use Rattle.std.specs.Prelude.{[], ◌≡◌, ◌^◌, ◌<◌, ◌≤◌, Option};
+ghost use Rattle.std.specs.Prelude.{[], ◌≡◌, ◌+◌, ◌*◌, ◌^◌, ◌<◌, ◌≤◌, ◌↔◌, true, length, Option};
 ghost use Rattle.std.specs.Prelude.{OnOk, IfOk, position, unwrap_or};
 ghost use Rattle.obj36_parts.specs.ObjectSegment.{link_offset};
-ghost use Rattle.obj36_parts.specs.Indexes.{same_link};
+ghost use Rattle.obj36_parts.specs.Indexes.{same_link, has_link};
 ghost use Rattle.alm_asm.specs.LineValues.{index_in_links};
 ghost use Rattle.alm_lines.specs.Arguments.{name_at, first_arg, terms_in};
 ghost use Rattle.alm_lines.specs.Values.{value_of_expression};
@@ -147,7 +147,8 @@ fn link_in(
 
 /// Whether two sections are the same.
 pub fn same_section(a: Section, b: Section) -> bool
-    ensures { result ≡ same_section a b }
+    ensures value { result ≡ same_section a b }
+    ensures decides { (result ≡ true) ↔ (a ≡ b) }
 {
     section_number(a) == section_number(b)
 }
@@ -227,10 +228,14 @@ pub fn offset_of_link(first: Count, place: Option<u64>) -> u128
 }
 
 /// The offset of a link in the linkage section. `first` is the offset of the first link. A link
-/// that the list does not have counts as the first.
+/// that the list does not have counts as the first. Each link of the list is within the words of
+/// the links.
 #[tactic(auto, unfolding(crate::specs::Links::offset_of_link_in))]
 pub fn offset_of_link_in(links: &Links, first: Count, link: &Link) -> u128
-    ensures { result ≡ offset_of_link_in links.now first link.now }
+    ensures value { result ≡ offset_of_link_in links.now first link.now }
+    ensures least { first ≤ result }
+    ensures within { has_link link.now links.now ≡ true
+        → result + 2 ≤ first + 2 * length links.now }
 {
     let index = links.index_of(link).unwrap_or(0) as u128;
     first.value() + 2 * index

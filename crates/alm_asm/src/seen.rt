@@ -1,10 +1,11 @@
 //! Values of lines that are computed once and kept, since several passes need them.
 
-ghost use Rattle.std.specs.Prelude.{List, [], ◌∷◌, ◌++◌, ◌≡◌, ◌^◌, ◌<◌, length, OnOk, OnErr, IfOk};
+ghost use Rattle.std.specs.Prelude.{List, true, [], ◌∷◌, ◌++◌, ◌≡◌, ◌^◌, ◌<◌, length, OnOk, OnErr, IfOk};
 ghost use Rattle.alm_lines.specs.Arguments.{first_arg, terms_in};
 ghost use Rattle.alm_lines.specs.Spots.{start, next_line_spot};
 ghost use Rattle.alm_lines.specs.Values.{value_of_expression};
-ghost use Rattle.alm_asm.specs.Links.{operand_args, link_in, links_after, links_from};
+ghost use Rattle.alm_asm.specs.Links.{operand_args, link_in, links_after, links_from, KeepsIndexes};
+ghost use Rattle.alm_asm.specs.Assembles.{are_distinct_links};
 ghost use Rattle.alm_asm.specs.LineValues.{index_in_links, with_values, values_from};
 
 use crate::links::add_link_of_line;
@@ -113,7 +114,8 @@ fn push_line_values(all: &mut AllLineValues, args: &[Arg], seen: LineValues) -> 
     }
 }
 
-/// Computes the values of lines, and adds their links. Fails only with `NoMemory`.
+/// Computes the values of lines, and adds their links. Each link that is there keeps its index, and
+/// no two links are the same if none were before. Fails only with `NoMemory`.
 #[tactic(auto, using(alm_lines::proofs::Rooms::rooms), unfolding(crate::specs::Links::links_from))]
 pub fn compute_values(
     alloc: Global,
@@ -125,6 +127,9 @@ pub fn compute_values(
     requires { length lines.now < 2 ^ 32 }
     ensures links { OnOk result
         (links.new ≡ links_from text.now symbols.now links.old start lines.now) }
+    ensures kept { OnOk result (KeepsIndexes links.old links.new) }
+    ensures apart { are_distinct_links links.old ≡ true
+        → OnOk result (are_distinct_links links.new ≡ true) }
     ensures seen { IfOk result (λ seen.
         seen
         ≡ values_from text.now symbols.now

@@ -1,11 +1,11 @@
 //! The words that lines place.
 
 ghost use Rattle.std.specs.Prelude.{[], ◌++◌, ◌≡◌, ◌+◌, ◌*◌, ◌%◌, ◌^◌, ◌<◌};
-ghost use Rattle.std.specs.Prelude.{◌≤◌, length, Option, Some, None, OnOk, IfOk};
+ghost use Rattle.std.specs.Prelude.{◌≤◌, true, length, Option, Some, None, OnOk, IfOk};
 ghost use Rattle.alm_lines.specs.Arguments.{first_arg, terms_in};
 ghost use Rattle.alm_lines.specs.Values.{value_of_expression};
 ghost use Rattle.alm_asm.specs.LineValues.{index_in_links, values_from};
-ghost use Rattle.alm_lines.specs.Spots.{start};
+ghost use Rattle.alm_lines.specs.Spots.{start, count_in, end_of};
 ghost use Rattle.alm_asm.specs.Links.{link_of, link_of_parts, link_in, offset_of_link_in};
 ghost use Rattle.alm_asm.specs.Links.{operand_args};
 ghost use Rattle.alm_asm.specs.Words.{address_instruction, pointer_register_instruction};
@@ -13,6 +13,7 @@ ghost use Rattle.alm_asm.specs.Words.{internal_instruction, instruction_of_arg};
 ghost use Rattle.alm_asm.specs.Words.{instruction_word, halves_word, words_of_effect};
 ghost use Rattle.alm_asm.specs.Words.{words_of_line};
 ghost use Rattle.alm_asm.specs.Words.{words_from, instruction_of_parts};
+ghost use Rattle.alm_asm.specs.Laws.{can_have_words};
 
 use crate::links::{link_of, offset_of_link, offset_of_link_in, same_section};
 use crate::seen::{LineValues, next_values};
@@ -317,7 +318,8 @@ fn push_line_words(
     )
 }
 
-/// The words that lines place in a section. Fails only with `NoMemory`.
+/// The words that lines place in a section. In a section that can have words, they are as many as
+/// are counted there at the end of the lines. Fails only with `NoMemory`.
 #[tactic(auto, using(alm_lines::proofs::Rooms::rooms), unfolding(crate::specs::Words::words_from))]
 pub fn words_in(
     alloc: Global,
@@ -330,8 +332,10 @@ pub fn words_in(
     requires count { length lines.now < 2 ^ 32 }
     requires seen { seen.now
         ≡ values_from text.now tables.now.symbols tables.now.links start lines.now }
-    ensures { IfOk result (λ words.
+    ensures value { IfOk result (λ words.
         words ≡ words_from text.now tables.now section [] start lines.now) }
+    ensures count { can_have_words section ≡ true
+        → IfOk result (λ words. length words ≡ count_in section (end_of text.now start lines.now)) }
 {
     let mut words = Words::new(alloc);
     let mut spot = LocationCounter::start();

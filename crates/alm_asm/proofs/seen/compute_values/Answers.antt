@@ -7,6 +7,8 @@ use Rattle.alm_lines.specs.Spots.{start, next_line_spot}
 use Rattle.alm_lines.proofs.Rooms.{room_below}
 use Rattle.alm_asm.specs.Links.{links_after, links_from}
 use Rattle.alm_asm.specs.LineValues.{values_from, with_values}
+use Rattle.alm_asm.proofs.LinksApart.{apart_at_end}
+use Rattle.alm_asm.proofs.LinksSoFar.{kept_at_end}
 use Rattle.alm_asm.proofs.SeenLaws.{seen_more, links_more}
 use Rattle.alm_asm.proofs.seen.compute_values.Goals as goal
 
@@ -49,3 +51,15 @@ returns-clause-seen c =
     sym (append-nil c.loop-rest.all)
     ∙ ap (λ (lines : List Line36). c.loop-rest.all ++ values_from text symbols whole c.loop-rest.spot lines) (sym none)
     ∙ c.loop-rest.invariant.seen
+
+pub returns-clause-kept : goal.returns-clause-kept
+returns-clause-kept c =
+    let none : c.loop-rest.rest.now ≡ [] = first_of (search rules, grind (arith, common_steps)) in
+    kept_at_end c.args.text.now c.args.symbols.now c.args.links.now c.loop-rest.links start c.loop-rest.spot c.args.lines.now c.loop-rest.rest.now none
+    c.loop-rest.invariant.links
+
+pub returns-clause-apart : goal.returns-clause-apart
+returns-clause-apart c = λ apart.
+    let none : c.loop-rest.rest.now ≡ [] = first_of (search rules, grind (arith, common_steps)) in
+    apart_at_end c.args.text.now c.args.symbols.now c.args.links.now c.loop-rest.links start c.loop-rest.spot c.args.lines.now c.loop-rest.rest.now none
+    c.loop-rest.invariant.links apart
