@@ -1,6 +1,7 @@
 //! Values of lines that are computed once and kept, since several passes need them.
 
-ghost use Rattle.std.specs.Prelude.{List, true, [], ◌∷◌, ◌++◌, ◌≡◌, ◌^◌, ◌<◌, length, OnOk, OnErr, IfOk};
+ghost use Rattle.std.specs.Prelude.{List, true, [], ◌∷◌, ◌++◌, ◌≡◌, ◌^◌, ◌<◌, length, OnOk, OnErr};
+ghost use Rattle.std.specs.Prelude.{IfOk};
 ghost use Rattle.alm_lines.specs.Arguments.{first_arg, terms_in};
 ghost use Rattle.alm_lines.specs.Spots.{start, next_line_spot};
 ghost use Rattle.alm_lines.specs.Values.{value_of_expression};
