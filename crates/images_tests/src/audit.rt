@@ -161,7 +161,7 @@ fn are_found(verdict: &Verdict, expected: &[(u8, u32)]) -> bool {
             return false;
         }
     }
-    verdict.findings.len() == expected.len() && verdict.yes() == expected.is_empty()
+    verdict.findings.len() == expected.len() && verdict.has_no_findings() == expected.is_empty()
 }
 
 /// Images without page tables.

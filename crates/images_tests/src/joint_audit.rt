@@ -51,7 +51,7 @@ fn are_found(joint: &JointVerdict, expected: &[(Option<u8>, u8, u32)]) -> bool {
             return false;
         }
     }
-    joint.findings.len() == expected.len() && joint.yes() == expected.is_empty()
+    joint.findings.len() == expected.len() && joint.has_no_findings() == expected.is_empty()
 }
 
 /// Whether the joint audit of an image has the expected findings.
