@@ -13,4 +13,5 @@ pub mod LinkTurns
 pub mod LinkPuts
 pub mod LaidSections
 pub mod SystemTurns
+pub mod HurriedTurns
 pub mod BootTurns

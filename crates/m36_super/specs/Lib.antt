@@ -14,3 +14,4 @@ pub mod Stepping
 pub mod Writing
 pub mod Examining
 pub mod SuperTurn
+pub mod HurriedSteps

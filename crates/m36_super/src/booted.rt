@@ -1,10 +1,11 @@
 //! The booted system.
 
-ghost use Rattle.std.specs.Prelude.{◌≡◌, ◌<◌, length, false};
+ghost use Rattle.std.specs.Prelude.{◌≡◌, ◌<◌, ◌≤◌, length, false};
 ghost use Rattle.m36_link.specs.Laws.{IsConsistent};
 ghost use Rattle.m36_step.specs.Ended.{empty_record_of};
 ghost use Rattle.m36_super.specs.BootedRun.{link_turn};
-ghost use Rattle.m36_super.specs.SuperFields.{IsRunning, NoServiceAfterLdbr};
+ghost use Rattle.m36_super.specs.HurriedSteps.{AreStepsWithNext, after_steps};
+ghost use Rattle.m36_super.specs.SuperFields.{booted_of, IsRunning, NoServiceAfterLdbr};
 ghost use Rattle.m36_super.specs.SuperTurn.{SuperTurns};
 
 use crate::console::print;
@@ -146,6 +147,19 @@ impl Super {
             ..
         } = self;
         step_told(machine, pager, next_event, loaded, told);
+    }
+
+    /// Takes at most `most` steps, as long as the next one is quick (see `Machine::hurry`): it lacks
+    /// no page, and a step follows it. Returns the number of steps taken. They are not recorded.
+    pub fn hurry(&mut self, most: u32) -> u32
+        requires { self.old.next_event ≡ NextEvent.Step }
+        ensures few { result ≤ most }
+        ensures state { self.new ≡ after_steps result self.old }
+        ensures turns { AreStepsWithNext self.old.lib (booted_of self.old) result
+            (booted_of self.new) }
+    {
+        let Super { machine, .. } = self;
+        machine.hurry(most)
     }
 
     // Takes a step. Until an LDBR has been executed, the pages that it lacks are brought in.
