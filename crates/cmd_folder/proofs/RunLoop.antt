@@ -1,5 +1,5 @@
 -- A run with a limit of steps, step by step: what is left of its program.
-use Rattle.std.proofs.Common.{◌≡◌, ℕ, suc, ◌+◌, ◌-◌, ◌<◌, List, [], ◌++◌, Some, Result, Err, refl, sym, ap, subst, ◌∙◌, arith}
+use Rattle.std.proofs.Common.{◌≡◌, ℕ, suc, ◌+◌, ◌-◌, ◌<◌, ◌≤◌, List, [], ◌++◌, Some, Result, Err, refl, sym, ap, subst, ◌∙◌, arith}
 use Rattle.m36_world.specs.Seen.{Seen}
 use Rattle.m36_world.specs.Follow.{Follow, outputs}
 use Rattle.m36_model.specs.declared.endings.End.{End}
@@ -20,8 +20,8 @@ use Rattle.cmd_folder.specs.declared.finish.Finish.{Finish}
 use Rattle.cmd_folder.specs.declared.finish.Finish.TheVariants.{Over, Limit}
 use Rattle.cmd_folder.specs.RunText.{end_pieces, finish_status}
 use Rattle.cmd_folder.specs.RunProgram.{RunContext, finish_may_end, put_run_end, run_from}
-use Rattle.cmd_folder.specs.RunSays.{run_of, rest_from_step, StepFollows, RunIsOver, RunFails}
-use Rattle.cmd_folder.proofs.BlockLaws.{leads_on}
+use Rattle.cmd_folder.specs.RunSays.{IsRestOf, run_of, rest_from_step, StepFollows, RunIsOver, RunFails}
+use Rattle.cmd_folder.proofs.BlockLaws.{leads_under, leads_on}
 
 -- ---- the end
 
@@ -70,6 +70,22 @@ pub run_starts :
 run_starts run steps s block seen none =
     leads_empty block (run_from run 0 steps (booted_of s)) (run_from run 0 steps (booted_of s)) seen seen none
     (leads_start (run_from run 0 steps (booted_of s)) seen)
+
+-- after n steps of which nothing is written
+pub run_hurried :
+    (lib other : Library) (output : RunOutput) (denied : List (List ℕ)) (n taken left : ℕ) (now later : SuperFields) (block : List (List ℕ))
+    (first : Program quiet (Unit {0})) (old new : Seen)
+    → Left (run_of lib output denied) taken left now block first old new → n ≤ left → other ≡ lib
+    → ((denied : List (List ℕ)) (taken left : ℕ)
+    → IsRestOf (run_from (run_of other output denied) (taken + n) left (booted_of later)) (run_from (run_of other output denied) taken (n + left) (booted_of now)))
+    → Left (run_of lib output denied) (taken + n) (left - n) later block first old new
+run_hurried lib other output denied n taken left now later block first old new so_far few same goes =
+    let e : left ≡ n + (left - n) = omega arith in
+    leads_under block (run_from (run_of lib output denied) (taken + n) (left - n) (booted_of later))
+    (run_from (run_of lib output denied) taken (n + (left - n)) (booted_of now)) first old new
+    (subst (λ l. IsRestOf (run_from (run_of l output denied) (taken + n) (left - n) (booted_of later)) (run_from (run_of l output denied) taken (n + (left - n)) (booted_of now))) same
+    (goes denied taken (left - n)))
+    (subst (λ m. Left (run_of lib output denied) taken m now block first old new) e so_far)
 
 -- if at least one step is left
 one_left :

@@ -1,5 +1,5 @@
 -- A step with its service, and a service alone: what is left of the run's program.
-use Rattle.std.proofs.Common.{◌≡◌, ℕ, suc, ◌+◌, Bool, true, false, List, [], ◌++◌, Result, Ok, Err, refl, sym, ap, subst, ◌∙◌}
+use Rattle.std.proofs.Common.{◌≡◌, ℕ, suc, ◌+◌, Bool, true, false, List, [], ◌∷◌, ◌++◌, length, Result, Ok, Err, refl, sym, ap, subst, ◌∙◌, arith}
 use Rattle.m36_world.specs.Seen.{Seen}
 use Rattle.m36_world.specs.Happened.{IsOutputFailed}
 use Rattle.m36_world.specs.Follow.{Follow, outputs}
@@ -7,13 +7,16 @@ use Rattle.m36_model.specs.Fields.{AtFields}
 use Rattle.m36_model.specs.declared.endings.End.{End}
 use Rattle.m36_model.specs.declared.outcome.Fault.{Fault}
 use Rattle.m36_model.specs.declared.record.StepRecord.{StepRecord}
+use Rattle.m36_model.specs.StoreLaw.{Each}
+use Rattle.m36_step.specs.Answers.{IsStepWithNext}
 use Rattle.m36_step.specs.LinkNoteFields.{LinkNoteFields}
 use Rattle.m36_step.specs.declared.turns.Turn.{Turn}
 use Rattle.m36_step.specs.declared.turns.Turn.TheVariants as turn
 use Rattle.m36_super.specs.Library.{Library}
 use Rattle.m36_super.specs.declared.next_event.NextEvent.{NextEvent}
 use Rattle.m36_super.specs.declared.next_event.NextEvent.TheVariants.{Step, Link, Print, Over}
-use Rattle.m36_super.specs.BootedRun.{Booted, IsConsoleTurn, IsTurnBy, IsTurn}
+use Rattle.m36_super.specs.BootedRun.{Booted, IsConsoleTurn, IsTurnBy, IsTurn, AreTurns}
+use Rattle.m36_super.specs.HurriedSteps.{AreStepsWithNext}
 use Rattle.m36_super.specs.SuperFields.{SuperFields, booted_of}
 use Rattle.m36_super.specs.SuperTurn.{SuperTurns}
 use Rattle.m36_status.specs.declared.status.Status.TheVariants.{WriteFault, NoMemory}
@@ -27,8 +30,8 @@ use Rattle.m36_program.proofs.PutLaws.{puts_none}
 use Rattle.cmd_folder.specs.declared.command.RunOutput.{RunOutput}
 use Rattle.cmd_folder.specs.declared.command.RunOutput.TheVariants as output
 use Rattle.cmd_folder.specs.declared.finish.Finish.TheVariants as finish
-use Rattle.cmd_folder.specs.RunText.{pieces_of_turn}
-use Rattle.cmd_folder.proofs.TurnLaws.{turn_prints, link_behind, print_behind}
+use Rattle.cmd_folder.specs.RunText.{console_pieces_of_turn, pieces_of_turn}
+use Rattle.cmd_folder.proofs.TurnLaws.{turn_prints, step_behind, link_behind, print_behind}
 use Rattle.cmd_folder.specs.declared.running.AfterTurn.{AfterTurn}
 use Rattle.cmd_folder.specs.declared.running.AfterTurn.TheVariants as after
 use Rattle.cmd_folder.specs.RunProgram.{RunContext, TurnAndState, IsPossibleTurn, FindsMemory, put_run_end, puts_turn, after_service, continue_after_service, serve_event, serve, run_from}
@@ -352,3 +355,64 @@ step_goes p output taken before mid later told block now block' old between new 
     (subst (λ l. TurnResult p l output (rest_from_service now (taken + 1) (booted_of mid)) (taken + 1) later block' between new) turns.1 says)
 
 pub ruleset stepping = (step_lost, step_goes)
+
+-- ---- steps of which nothing is written, one after another
+
+nothing_written : (turn : Turn) → IsStepWithNext turn → console_pieces_of_turn turn ≡ []
+nothing_written (turn.Stepped told) on = refl
+nothing_written (turn.Linked note) on = absurd on
+nothing_written (turn.Console text) on = absurd on
+nothing_written (turn.Ended e) on = absurd on
+nothing_written turn.Full on = absurd on
+nothing_written turn.NoMemory on = absurd on
+
+module _ (lib : Library) (denied : List (List ℕ)) where
+  abbrev shows_none : RunContext
+  shows_none = run_of lib output.Console denied
+
+  hurried_step :
+      (taken left : ℕ) (b after : Booted) (turn : Turn)
+      → IsTurn lib b turn after → IsStepWithNext turn → after.next_event ≡ Step
+      → GoesAs (run_from shows_none (taken + 1) left after) (run_from shows_none taken (suc left) b)
+  hurried_step taken left b after turn turns on next =
+      subst (λ p. GoesAs p (run_from shows_none taken (suc left) b))
+      (ap (λ l. puts_all l (served shows_none (taken + 1) left after)) (nothing_written turn on)
+      ∙ puts_none (served shows_none (taken + 1) left after) ∙ serve_is Step shows_none (taken + 1) left after next)
+      (step_as shows_none taken left b after turn turns)
+
+  hurried_turns :
+      (turns : List Turn) (taken left : ℕ) (b last : Booted)
+      → b.next_event ≡ Step → AreTurns lib b turns last → Each IsStepWithNext turns
+      → GoesAs (run_from shows_none (taken + length turns) left last) (run_from shows_none taken (length turns + left) b)
+  unfolding AreTurns
+  hurried_turns [] taken left b last next are each events result goes =
+      let e : taken + 0 ≡ taken = omega arith in
+      let f : left ≡ 0 + left = omega arith in
+      subst (λ p. Goes p events result) (λ i. run_from shows_none (e i) (f i) (are i)) goes
+  hurried_turns (turn ∷ turns) taken left b last next are each events result goes =
+      let mid = are.0 in
+      let then_step : mid.next_event ≡ Step = step_behind lib b turn mid next are.1 each.0 in
+      let e : taken + suc (length turns) ≡ (taken + 1) + length turns = omega arith in
+      let f : suc (length turns + left) ≡ suc (length turns) + left = omega arith in
+      let rest = hurried_turns turns (taken + 1) left mid last then_step are.2 each.1 events result
+      (subst (λ n. Goes (run_from shows_none n left last) events result) e goes) in
+      subst (λ n. Goes (run_from shows_none taken n b) events result) f
+      (hurried_step taken (length turns + left) b mid turn are.1 each.0 then_step events result rest)
+
+pub hurried_goes :
+    (shown : RunOutput) (lib : Library) (n : ℕ) (before last : Booted)
+    → shown ≡ output.Console → before.next_event ≡ Step → AreStepsWithNext lib before n last
+    → (denied : List (List ℕ)) (taken left : ℕ)
+    → GoesAs (run_from (run_of lib shown denied) (taken + n) left last) (run_from (run_of lib shown denied) taken (n + left) before)
+hurried_goes shown lib n before last is next steps denied taken left =
+    subst (λ o. GoesAs (run_from (run_of lib o denied) (taken + n) left last) (run_from (run_of lib o denied) taken (n + left) before)) (sym is)
+    (subst (λ n. GoesAs (run_from (run_of lib output.Console denied) (taken + n) left last) (run_from (run_of lib output.Console denied) taken (n + left) before)) steps.count
+    (hurried_turns lib denied steps.turns taken left before last next steps.are steps.each))
+
+pub none_goes :
+    (run : RunContext) (taken left : ℕ) (b : Booted)
+    → GoesAs (run_from run (taken + 0) left b) (run_from run taken (0 + left) b)
+none_goes run taken left b events result goes =
+    let e : taken + 0 ≡ taken = omega arith in
+    let f : left ≡ 0 + left = omega arith in
+    subst (λ p. Goes p events result) (λ i. run_from run (e i) (f i) b) goes

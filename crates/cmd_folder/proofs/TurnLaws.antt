@@ -1,17 +1,20 @@
 -- A step with its service, and a service alone.
-use Rattle.std.proofs.Common.{◌≡◌, ℕ, List, Bool, true, false, Result, Ok, Err, sym, ap, subst}
+use Rattle.std.proofs.Common.{◌≡◌, ℕ, List, Bool, true, false, Result, Ok, Err, sym, ap, subst, ◌∙◌}
 use Rattle.m36_model.specs.Fields.{AtFields}
 use Rattle.m36_model.specs.declared.endings.End.{End}
 use Rattle.m36_model.specs.declared.outcome.Fault.{Fault}
 use Rattle.m36_link.specs.Fields.{SnapFields}
 use Rattle.m36_link.specs.Snap.{RefusedFields, snap_of}
+use Rattle.m36_isol.specs.PageServices.{PagedState}
+use Rattle.m36_step.specs.Answers.{IsStepWithNext}
 use Rattle.m36_step.specs.LinkNoteFields.{LinkNoteFields}
 use Rattle.m36_step.specs.declared.turns.Turn.{Turn}
 use Rattle.m36_step.specs.declared.turns.Turn.TheVariants.{Stepped, Linked, Console, Ended, Full, NoMemory}
 use Rattle.m36_super.specs.Library.{Library}
 use Rattle.m36_super.specs.declared.next_event.NextEvent.{NextEvent}
 use Rattle.m36_super.specs.declared.next_event.NextEvent.TheVariants.{Step, Link, Print, Over}
-use Rattle.m36_super.specs.BootedRun.{Booted, IsStepTurn, IsLinkTurn, IsConsoleTurn, IsTurnBy, IsTurn}
+use Rattle.m36_super.specs.NextEvent.{event_after_outcome, loaded_after}
+use Rattle.m36_super.specs.BootedRun.{Booted, record_of_state, IsStepTo, IsStepTurn, IsLinkTurn, IsConsoleTurn, IsTurnBy, IsTurn}
 use Rattle.m36_super.specs.SuperFields.{SuperFields, booted_of}
 use Rattle.m36_super.specs.SuperTurn.{SuperTurns, IsNoService, link_quiet}
 
@@ -115,6 +118,24 @@ pub print_behind :
 print_behind before after told is turns =
     behind_print _ _ (booted_of before) told (booted_of after)
     (by_next_event before.lib before after (Console told) Print is turns.0)
+
+step_to : (s : PagedState) (before : Booted) (turn : Turn) (after : Booted) → IsStepTo s before turn after → IsStepWithNext turn → after.next_event ≡ Step
+step_to s before turn after is on =
+    ap (λ (r : Booted). r.next_event) is.after_is
+    ∙ ap (event_after_outcome (loaded_after before.loaded (record_of_state s)) (record_of_state s).ppr.prr) (subst IsStepWithNext is.told on)
+
+behind_step :
+    (loaded : Bool) (frames : ℕ) (before : Booted) (turn : Turn) (after : Booted)
+    → IsStepTurn loaded frames before turn after → IsStepWithNext turn → after.next_event ≡ Step
+behind_step false frames before turn after is on = step_to is.last before turn after is.takes on
+behind_step true frames before turn after is on = step_to before.state before turn after is on
+
+pub step_behind :
+    (lib : Library) (before : Booted) (turn : Turn) (after : Booted)
+    → before.next_event ≡ Step → IsTurn lib before turn after → IsStepWithNext turn → after.next_event ≡ Step
+unfolding IsTurn
+step_behind lib before turn after is turns on =
+    behind_step before.loaded lib.catalog.frames before turn after (subst (λ c. IsTurnBy c lib before turn after) is turns) on
 
 -- ---- the registers after a turn that ends the run
 

@@ -1,5 +1,6 @@
 -- What the functions of a run say in their contracts: what is left of its program after each.
-use Rattle.std.specs.Prelude.{ℕ, suc, ◌≡◌, ⊤, List, [], Err}
+use Rattle.std.specs.Prelude.{ℕ, suc, ◌≡◌, ⊤, List, [], Result, Err}
+use Rattle.m36_world.specs.declared.event.Event.{Event}
 use Rattle.m36_world.specs.Seen.{Seen}
 use Rattle.m36_model.specs.declared.endings.End.{End}
 use Rattle.m36_status.specs.declared.status.Status.{Status}
@@ -10,6 +11,7 @@ use Rattle.m36_super.specs.declared.next_event.NextEvent.TheVariants.{Step}
 use Rattle.m36_super.specs.declared.next_event.NextEvent.TheVariants as next_event
 use Rattle.m36_super.specs.BootedRun.{Booted}
 use Rattle.m36_super.specs.SuperFields.{SuperFields, booted_of}
+use Rattle.m36_program.specs.Goes.{Goes}
 use Rattle.m36_program.specs.Performs.{Performs, Leads}
 use Rattle.m36_program.specs.Program.{quiet, Program, puts_all}
 use Rattle.cmd_folder.specs.declared.command.RunOutput.{RunOutput}
@@ -27,6 +29,12 @@ IsConsoleTextPut output.Trace block = ⊤
 -- a run of a system that was booted from this library
 abbrev pub run_of : Library → RunOutput → List (List ℕ) → RunContext
 run_of lib output denied = record { lib = lib; denied = denied; output = output }
+
+-- `now` is a rest of `first`: each list of events and each result that `now` allows, `first` allows.
+abbrev pub IsRestOf : Program quiet (Unit {0}) → Program quiet (Unit {0}) → Type 0
+IsRestOf now first =
+    (events : List Event) (result : Result (Unit {0}) Status)
+    → Goes now events result → Goes first events result
 
 -- the rest of a run: a program that depends on the run and on the count of steps that are left
 abbrev pub RestOfRun : Type 1

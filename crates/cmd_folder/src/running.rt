@@ -2,14 +2,14 @@
 //! is full, at the end, and when a link service runs out of memory. What the console writes is put
 //! before the code makes the next turn.
 
-ghost use Rattle.std.specs.Prelude.{◌≡◌, ◌<◌, ◌+◌, ◌^◌, ◌++◌, [], ◌∷◌};
+ghost use Rattle.std.specs.Prelude.{ℕ, ◌≡◌, ◌<◌, ◌≤◌, ◌+◌, ◌^◌, ◌++◌, List, [], ◌∷◌};
 ghost use Rattle.m36_super.specs.declared.next_event.NextEvent.TheVariants.{Step, Link, Print};
 ghost use Rattle.m36_super.specs.SuperFields.{booted_of};
 ghost use Rattle.m36_super.specs.SuperTurn.{IsNoService};
 ghost use Rattle.m36_program.specs.Performs.{Performs};
 ghost use Rattle.m36_program.specs.Program.{puts_all};
 ghost use Rattle.cmd_folder.specs.RunProgram.{RunContext, put_run_end, run_from};
-ghost use Rattle.cmd_folder.specs.RunSays.{IsConsoleTextPut, run_of, rest_from_step};
+ghost use Rattle.cmd_folder.specs.RunSays.{IsConsoleTextPut, IsRestOf, run_of, rest_from_step};
 ghost use Rattle.cmd_folder.specs.RunSays.{rest_from_service, TurnResult, MatchesNextEvent};
 
 use crate::command::RunOutput;
@@ -154,6 +154,25 @@ fn take_step<W: World>(
     }
 }
 
+// Takes at most `most` steps at once, as long as the next one is quick, if nothing is written of
+// steps. Returns the number of steps taken.
+fn hurry(system: &mut Super, output: RunOutput, most: u32) -> u32
+    requires { system.old.next_event ≡ Step }
+    ensures few { result ≤ most }
+    ensures next { system.new.next_event ≡ Step }
+    ensures same { system.new.lib ≡ system.old.lib }
+    ensures goes { (denied : List (List ℕ)) (taken left : ℕ)
+        → IsRestOf (run_from (run_of system.old.lib output denied) (taken + result) left
+        (booted_of system.new))
+        (run_from (run_of system.old.lib output denied) taken (result + left)
+        (booted_of system.old)) }
+{
+    match output {
+        RunOutput::Console => system.hurry(most),
+        RunOutput::Trace => 0,
+    }
+}
+
 // Puts the content of the block, and the end of a run of `taken` steps.
 #[tactic(auto, using(crate::proofs::RunLoop::ending))]
 fn end_run<W: World>(
@@ -193,6 +212,9 @@ pub fn run<W: World>(
     let mut taken: u32 = 0;
     let mut left = steps;
     'steps: while left > 0 {
+        let hurried = hurry(system, output, left - 1);
+        taken += hurried;
+        left -= hurried;
         match take_step(
             system, taken, output, &mut told, &mut text, &mut block, world,
         ) {
