@@ -1,9 +1,11 @@
 -- A run with a limit of steps, step by step: what is left of its program.
-use Rattle.std.proofs.Common.{◌≡◌, ℕ, suc, ◌+◌, ◌-◌, ◌<◌, [], Result, Ok, Err, refl, sym, ap, subst, ◌∙◌, arith}
+use Rattle.std.proofs.Common.{◌≡◌, ℕ, suc, ◌+◌, ◌-◌, ◌<◌, ◌≤◌, [], Result, Ok, Err, refl, sym, ap, subst, ◌∙◌, arith}
 use Rattle.m36_model.specs.declared.endings.End.{End}
 use Rattle.m36_super.specs.Library.{Library}
 use Rattle.m36_super.specs.BootedRun.{Booted}
+use Rattle.m36_super.specs.HurriedSteps.{AreStepsWithNext}
 use Rattle.m36_super.specs.SuperFields.{SuperFields, booted_of}
+use Rattle.m36_super.specs.declared.next_event.NextEvent.TheVariants.{Step}
 use Rattle.m36_status.specs.declared.status.Status.{Status}
 use Rattle.m36_status.specs.declared.status.Status.TheVariants.{NoMemory}
 use Rattle.m36_program.specs.Goes.{Goes}
@@ -12,6 +14,7 @@ use Rattle.m36_program.proofs.Performing.{goes_done}
 use Rattle.cmd_folder.specs.declared.finish.Finish.TheVariants.{Over, Limit}
 use Rattle.cmd_make.specs.QuietRun.{RunSummary, summary_of_run, run_from}
 use Rattle.cmd_make.specs.RunSays.{IsRestOf, rest_from_step, StepFollows, RunIsOver, RunsOutOfMemory}
+use Rattle.cmd_make.proofs.Serving.{hurried_goes}
 
 -- what is left of a run
 abbrev pub Left : Library → ℕ → ℕ → SuperFields → Program quiet RunSummary → Type 0
@@ -29,6 +32,19 @@ one_left :
 one_left lib taken left b more =
     let e : left ≡ suc (left - 1) = omega arith in
     ap (λ n. run_from lib taken n b) e ∙ run_step lib taken (left - 1) b
+
+-- after n steps
+pub run_hurried :
+    (lib : Library) (n taken left : ℕ) (now later : SuperFields) (first : Program quiet RunSummary)
+    → Left lib taken left now first → n ≤ left → now.lib ≡ lib → now.next_event ≡ Step
+    → AreStepsWithNext now.lib (booted_of now) n (booted_of later)
+    → Left lib (taken + n) (left - n) later first
+run_hurried lib n taken left now later first so_far few same next steps result goes =
+    let e : n + (left - n) ≡ left = omega arith in
+    let are = subst (λ l. AreStepsWithNext l (booted_of now) n (booted_of later)) same steps in
+    so_far result
+    (subst (λ m. Goes (run_from lib taken m (booted_of now)) [] result) e
+    (hurried_goes lib n taken (left - n) (booted_of now) (booted_of later) next are result goes))
 
 -- a step was taken, and the rest of the program reached this result
 step_gone :

@@ -1,15 +1,18 @@
 -- A step with its service, and a service alone: what is left of the run's program.
-use Rattle.std.proofs.Common.{◌≡◌, ℕ, List, [], Result, Ok, Err, refl, sym, ap, subst}
+use Rattle.std.proofs.Common.{◌≡◌, ℕ, suc, ◌+◌, List, [], ◌∷◌, length, Result, Ok, Err, refl, sym, ap, subst, arith}
 use Rattle.m36_model.specs.Fields.{AtFields}
 use Rattle.m36_model.specs.declared.endings.End.{End}
 use Rattle.m36_model.specs.declared.record.StepRecord.{StepRecord}
+use Rattle.m36_model.specs.StoreLaw.{Each}
+use Rattle.m36_step.specs.Answers.{IsStepWithNext}
 use Rattle.m36_step.specs.LinkNoteFields.{LinkNoteFields}
 use Rattle.m36_step.specs.declared.turns.Turn.{Turn}
 use Rattle.m36_step.specs.declared.turns.Turn.TheVariants as turn
 use Rattle.m36_super.specs.Library.{Library}
 use Rattle.m36_super.specs.declared.next_event.NextEvent.{NextEvent}
 use Rattle.m36_super.specs.declared.next_event.NextEvent.TheVariants.{Step, Link, Print, Over}
-use Rattle.m36_super.specs.BootedRun.{Booted, IsTurn}
+use Rattle.m36_super.specs.BootedRun.{Booted, IsTurn, AreTurns}
+use Rattle.m36_super.specs.HurriedSteps.{AreStepsWithNext}
 use Rattle.m36_super.specs.SuperFields.{SuperFields, booted_of}
 use Rattle.m36_super.specs.SuperTurn.{SuperTurns}
 use Rattle.m36_status.specs.declared.status.Status.{Status}
@@ -18,7 +21,7 @@ use Rattle.m36_program.specs.Goes.{Goes}
 use Rattle.m36_program.specs.Program.{quiet, Program, some}
 use Rattle.m36_program.proofs.Performing.{goes_done, goes_some, goes_wants, goes_no_memory}
 use Rattle.cmd_folder.specs.declared.finish.Finish.TheVariants as finish
-use Rattle.cmd_folder.proofs.TurnLaws.{turn_prints, link_behind, print_behind}
+use Rattle.cmd_folder.proofs.TurnLaws.{turn_prints, step_behind, link_behind, print_behind}
 use Rattle.cmd_folder.specs.RunProgram.{TurnAndState, IsPossibleTurn, FindsMemory}
 use Rattle.cmd_folder.proofs.Serving.{print_over}
 use Rattle.cmd_make.specs.declared.running.AfterTurn.{AfterTurn}
@@ -193,3 +196,41 @@ pub step_goes :
 step_goes p before mid later told turns says =
     step_on p before.lib (booted_of before) mid later told turns.0
     (subst (λ l. TurnResult p l (rest_from_service l (booted_of mid)) later) turns.1 says)
+
+-- ---- steps one after another
+
+hurried_step :
+    (lib : Library) (taken left : ℕ) (b later : Booted) (told : Turn)
+    → IsTurn lib b told later → later.next_event ≡ Step
+    → IsRestOf (run_from lib (taken + 1) left later) (run_from lib taken (suc left) b)
+unfolding run_from
+hurried_step lib taken left b later told turns next result goes =
+    step_as lib (taken + 1) left b later told turns result
+    (subst (λ p. Goes p [] result) (sym (serve_is Step lib (taken + 1) left later next)) goes)
+
+hurried_turns :
+    (lib : Library) (turns : List Turn) (taken left : ℕ) (b last : Booted)
+    → b.next_event ≡ Step → AreTurns lib b turns last → Each IsStepWithNext turns
+    → IsRestOf (run_from lib (taken + length turns) left last) (run_from lib taken (length turns + left) b)
+unfolding AreTurns
+hurried_turns lib [] taken left b last next are each result goes =
+    let e : taken + 0 ≡ taken = omega arith in
+    let f : left ≡ 0 + left = omega arith in
+    subst (λ p. Goes p [] result) (λ i. run_from lib (e i) (f i) (are i)) goes
+hurried_turns lib (turn ∷ turns) taken left b last next are each result goes =
+    let mid = are.0 in
+    let then_step : mid.next_event ≡ Step = step_behind lib b turn mid next are.1 each.0 in
+    let e : taken + suc (length turns) ≡ (taken + 1) + length turns = omega arith in
+    let f : suc (length turns + left) ≡ suc (length turns) + left = omega arith in
+    let rest = hurried_turns lib turns (taken + 1) left mid last then_step are.2 each.1 result
+    (subst (λ n. Goes (run_from lib n left last) [] result) e goes) in
+    subst (λ n. Goes (run_from lib taken n b) [] result) f
+    (hurried_step lib taken (length turns + left) b mid turn are.1 then_step result rest)
+
+pub hurried_goes :
+    (lib : Library) (n taken left : ℕ) (before last : Booted)
+    → before.next_event ≡ Step → AreStepsWithNext lib before n last
+    → IsRestOf (run_from lib (taken + n) left last) (run_from lib taken (n + left) before)
+hurried_goes lib n taken left before last next steps =
+    subst (λ n. IsRestOf (run_from lib (taken + n) left last) (run_from lib taken (n + left) before)) steps.count
+    (hurried_turns lib steps.turns taken left before last next steps.are steps.each)

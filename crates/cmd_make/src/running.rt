@@ -112,6 +112,9 @@ pub fn run_quietly(system: &mut Super, steps: u32) -> Result<RunEnd, Status>
     let mut taken: u32 = 0;
     let mut left = steps;
     'steps: while left > 0 {
+        let hurried = system.hurry(left - 1);
+        taken += hurried;
+        left -= hurried;
         match take_step(system, &mut told) {
             AfterTurn::Next => {}
             AfterTurn::Ended(end) => {
