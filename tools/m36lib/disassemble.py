@@ -2,7 +2,7 @@
 
 from functools import lru_cache
 
-from .fields import effect_of_instruction, is_on
+from .fields import instruction_of, is_on
 from .table import TABLE
 
 REGISTERS = ["", "au", "qu", "du", "ic", "al", "ql", "dl"] + [f"x{n}" for n in range(8)]
@@ -23,7 +23,7 @@ def tag_text(tag):
 @lru_cache(maxsize=65536)
 def row_of(word):
     """The row of the instruction table, or None."""
-    instruction = effect_of_instruction(word)
+    instruction = instruction_of(word)
     return TABLE.get((instruction.code, instruction.bit_27))
 
 
@@ -37,7 +37,7 @@ def address_text(instruction):
 def disassemble(word):
     """The instruction that a word is, or `oct` and its digits."""
     row = row_of(word)
-    instruction = effect_of_instruction(word)
+    instruction = instruction_of(word)
     tag = tag_text(instruction.tag)
     if row is None or tag is None or is_on(word, 28):
         return f"oct {word:012o}"

@@ -6,7 +6,7 @@ from .effects_data import (
     address_in_upper, and_register, and_storage, compare, compare_masked, divide, load,
     load_and_clear, load_complement, load_indicators, lower_half, multiply, negate, nothing,
     or_register, or_storage, own, rotate_left, shift_left, shift_right, shift_right_logical,
-    sign_extended, store, store_indicators, store_if_equal, store_if_zero, store_zero,
+    sign_extended, store, store_indicators, store_where_equal, store_where_zero, store_zero,
     subtract, subtract_logical, subtract_stored, subtract_with_carry, test_and, test_and_clear,
     test_and_not, test_word, word, xor_register, xor_storage,
 )
@@ -114,7 +114,7 @@ DATA = {
     "Alr": (rotate_left, "A", nothing),
     "Qlr": (rotate_left, "Q", nothing),
     "Llr": (rotate_left, "AQ", nothing),
-    "Stac": (store_if_zero, "A", word),
-    "Stacq": (store_if_equal, "A", word),
+    "Stac": (store_where_zero, "A", word),
+    "Stacq": (store_where_equal, "A", word),
     "Nop": (do_nothing, "A", nothing),
 }

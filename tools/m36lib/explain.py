@@ -12,11 +12,11 @@ from .disassemble import disassemble, row_of
 from .effect import EffectRefused, Given
 from .effects_control import CALLS, CONTROL, is_taken
 from .effects_table import DATA
-from .fields import HALF_WORD, effect_of_instruction
+from .fields import HALF_WORD, instruction_of
 from .memory import NoAccess, NotKnown
 from .names import PLAIN
 from .references import References, Refused, fault_name
-from .rights import ring_after_call
+from .rights import ring_called
 
 STEP, EFFECTS, FAULTS = "8", "9", "11"
 MASTER_MODE_ENTRY, DERAIL, ILLEGAL_PROCEDURE, OVERFLOW = 2, 6, 10, 13
@@ -116,7 +116,7 @@ class Explanation:
         if self.row.operand == "N":
             self.without_address()
         end = Chain(self.registers, self.references, self.result, self.names).form(
-            effect_of_instruction(word)
+            instruction_of(word)
         )
         self.result.final, self.result.bit, self.result.direct = end.place, end.bit, end.direct
         self.operate(end)
@@ -154,7 +154,7 @@ class Explanation:
             self.transferring(registers, end)
         elif kind == "Call6":
             sdw, _ = self.references.ask("call", end.place)
-            self.perform(registers, end, ring=ring_after_call(sdw, end.place.ring))
+            self.perform(registers, end, ring=ring_called(sdw, end.place.ring))
         else:
             self.addressing(registers, end)
 

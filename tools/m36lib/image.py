@@ -1,7 +1,7 @@
 """Bare images (docs/IMAGES.md)."""
 
 from .fields import dbr_of
-from .memory import SEGMENTS, CoreMemory, NoAccess, has_descriptor_in_bounds
+from .memory import SEGMENTS, CoreMemory, NoAccess, in_bounds
 
 FRAME = 1024
 
@@ -38,7 +38,7 @@ class Image:
         """The live segments at the start: pairs of a number and a descriptor."""
         memory = self.memory()
         for segment in range(SEGMENTS):
-            if not has_descriptor_in_bounds(self.dbr, segment):
+            if not in_bounds(self.dbr, segment):
                 return
             try:
                 yield segment, memory.descriptor(self.dbr, segment)

@@ -117,7 +117,9 @@ class Reader:
         owner = texts[-4] if before == "::" else None
         found = [each for each in self.functions if each.name == name
                  and (owner is None or each.owner == owner)]
-        if before in (".", "::"):
+        if before == ".":
+            return [each for each in found if each.owner]
+        if before == "::":
             return found
         free = [each for each in found if not each.owner]
         return [each for each in free if each.file == self.file] or free

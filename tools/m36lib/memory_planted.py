@@ -63,7 +63,7 @@ TURNED = (
     turned("m36_back/src/past.rt", "Err(_) => Err(m),", "_ => Err(m),"),
     turned("m36/src/words.rt", "Err(FillError::TooLong) => double(&mut buffer)?,",
            "Err(FillError::TooLong) => return Err(NoMemory),"),
-    turned("m36/src/main.rt", "answer(&rt).unwrap_or", "answer(&rt).ok().unwrap_or"),
+    turned("m36/src/main.rt", "perform_command(&rt).unwrap_or", "perform_command(&rt).ok().unwrap_or"),
     turned("m36_word/src/memory.rt", "Debug, PartialEq", "Debug, Default, PartialEq"),
     turned("m36_word/src/memory.rt", "impl From<AllocError> for", "impl From<Utf8Error> for"),
     turned("obj36/src/fault.rt", "impl From<NoMemory> for", "impl From<TryFromIntError> for"),

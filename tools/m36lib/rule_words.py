@@ -91,8 +91,8 @@ OPERATIONS = {
     data.shift_right: ("{r} is shifted right " + COUNT + ". Bit 0 is copied in.", TESTED),
     data.shift_right_logical: ("{r} is shifted right " + COUNT + ". Zeros come in.", TESTED),
     data.rotate_left: ("{r} is rotated left " + COUNT + ".", TESTED),
-    data.store_if_zero: ("Where {o} is 0 it becomes A. Zero is on where it was.", "zero"),
-    data.store_if_equal: (
+    data.store_where_zero: ("Where {o} is 0 it becomes A. Zero is on where it was.", "zero"),
+    data.store_where_equal: (
         "Where {o} is equal to Q it becomes A. Zero is on where it was.", "zero",
     ),
     do_nothing: ("Nothing happens.", ""),

@@ -86,7 +86,7 @@ def cell(sdw, ring):
         write=rights.write(sdw, ring)[0] is None,
         execute=executes,
         call=calls,
-        falls_to=rights.ring_after_call(sdw, ring),
+        falls_to=rights.ring_called(sdw, ring),
     )
 
 

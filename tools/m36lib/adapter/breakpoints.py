@@ -110,7 +110,7 @@ class Breakpoints:
     def at_line(self, key, path, wanted):
         """A breakpoint at a line of a source, or at the next line that has a word."""
         line = count(wanted, "line") + 1 - self.adapter.first_line
-        segments = self.adapter.sources.number_of_segments(path)
+        segments = self.adapter.sources.segments_of(path)
         if not segments:
             raise Refused(f"no segment of the boot text is assembled of {path.name}")
         places, first = [], None
