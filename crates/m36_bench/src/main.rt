@@ -171,7 +171,7 @@ fn print_run(rt: &(impl Print + AllocGlobal), run: Run, went: RunResult) -> io::
 }
 
 /// Takes the steps of a run, and prints its line.
-fn run_and_print<R: Print + Clock + AllocGlobal>(rt: &R, run: Run) -> io::Result<()> {
+fn report<R: Print + Clock + AllocGlobal>(rt: &R, run: Run) -> io::Result<()> {
     match machine(rt.alloc(), run.paged, run.chosen) {
         Ok(mut machine) => {
             let went = measure_steps(rt, &mut machine, run);
@@ -202,7 +202,7 @@ fn run_with_records<R: Print + Clock + AllocGlobal>(
             paged,
             made,
         };
-        run_and_print(rt, run)?;
+        report(rt, run)?;
     }
     Ok(())
 }
@@ -220,7 +220,7 @@ fn run_quietly_and_print<R: Print + Clock + AllocGlobal>(
             paged,
             made: Output::Nothing,
         };
-        run_and_print(rt, run)?;
+        report(rt, run)?;
     }
     Ok(())
 }
